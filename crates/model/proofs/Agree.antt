@@ -1,0 +1,101 @@
+-- A parent lives as long as its children, so the live rows have the lines that the notes have:
+-- an event does to the rows what its note does to the history.
+-- Assumes nothing.
+use mathlib.Core.Path.{_≡_, refl, sym, ap, ap₂, _∙_}
+use mathlib.Core.Logic.{_⊎_, inl, inr}
+use mathlib.Core.Bool.{true, false, not, _||_, and-true, or-true}
+use mathlib.Core.List.{List, _∷_, _++_, map, map-map}
+use Prim.Native.Nat.{ℕ, _<_}
+use native.Mathlib.Omega.{arith}
+use lib.Dec.{eqb}
+use borrow.Author.Tests.{ne-eqb, not-true}
+use Rattle.model.specs.Lists.{filter, any}
+use Rattle.model.specs.Derivation.{Derivation, ancestry, inSubtree, onAncestry}
+use Rattle.model.specs.Strike.{isEnd, strike, reached}
+use Rattle.model.specs.Table.{named, derivation}
+use Rattle.model.specs.Table
+use Rattle.model.specs.Refusals
+use Rattle.model.specs.Effects
+use Rattle.model.specs.Counts
+use Rattle.model.specs.Step
+use Rattle.model.specs.History.{Note, New, Accessed, Dropped, derivedBy, derivations, user, Takes, ends, hits, lives, rowOf, alive, rows}
+use Rattle.model.proofs.Lists.{All, All-map, All-zip, All-of, All-append, All-last, test, clash, and-both, or-neither, any-false, map-id}
+use Rattle.model.proofs.Ancestries.{Closed, Step, ancestry-step, ancestry-kept}
+use Rattle.model.proofs.Notes.{Sound, floor, falling, named-before, ancestry-older, lives-older, rows-all, revokedBy, revokedBy-cong, rows-noted}
+
+-- ---- a parent lives as long as its children
+
+-- what ends an ancestor ends its descendants
+ends-up : (w : Note) (through above : List Derivation) (b : Derivation) → ends w through (b ∷ above) ≡ false → ends w through above ≡ false
+unfolding ends reached onAncestry
+ends-up (New c r) through above b h = refl
+ends-up (Accessed a u s) through above b h = or-neither (isEnd (strike a s through (b ∷ above))) (reached isEnd a s through above) h .1
+ends-up (Dropped u) through above b h = or-neither (eqb u (b .name)) (inSubtree u above) h .1
+
+-- a note goes through a living name, or through none
+abbrev pub Through : List Note → Note → Type 0
+Through notes w = eqb (user w) 0 || lives notes (user w) ≡ true
+
+pub closed-noted : (n : ℕ) (w : Note) (notes : List Note) → Sound n (w ∷ notes) → Through notes w → Closed (lives notes) (derivations notes) → Closed (lives (w ∷ notes)) (derivations (w ∷ notes))
+unfolding derivations derivedBy hits ends
+closed-noted n w notes s p c =
+    All-append _ (derivedBy w) (derivations notes) (made w s p)
+    (All-map _ _ stays (derivations notes)
+    (All-zip _ _ (derivations notes) c
+    (All-zip _ _ (derivations notes) (named-before n w notes s) (All-last (Step n (derivations (w ∷ notes))) (derivedBy w) (derivations notes) (ancestry-step n (derivations (w ∷ notes)) (falling n (w ∷ notes) s))))))
+  where
+    Under : List Note → Derivation → Type 0
+    Under notes b = eqb (b .parent) 0 || lives notes (b .parent) ≡ true
+
+    parent-lives : (w : Note) → Sound n (w ∷ notes) → (b : Derivation) → b .parent < floor n w → Under notes b → hits ends (derivations (w ∷ notes)) (b .parent) w ≡ false → Under (w ∷ notes) b
+    parent-lives w s b l u e = rw (lives-older n w notes s (b .parent) l, e, and-true (lives notes (b .parent))) u
+
+    made : (w : Note) → Sound n (w ∷ notes) → Through notes w → All (λ b. lives (w ∷ notes) (b .name) ≡ true → Under (w ∷ notes) b) (derivedBy w)
+    made (New b r) s p = (λ e. parent-lives (New b r) s b (s .1) p refl, tt)
+    made (Accessed a u t) s p = tt
+    made (Dropped u) s p = tt
+
+    stays : (b : Derivation) → (lives notes (b .name) ≡ true → Under notes b) × ((b .name < floor n w) × Step n (derivations (w ∷ notes)) b) → lives (w ∷ notes) (b .name) ≡ true → Under (w ∷ notes) b
+    stays b (rowFitsParent, (l, step)) e =
+        let p = and-both (lives notes (b .name)) (not (hits ends (derivations (w ∷ notes)) (b .name) w)) (rw (lives-older n w notes s (b .name) l) at e) in
+        parent-lives w s b (omega (arith, l, step .1)) (rowFitsParent (p .0)) (ends-up w (ancestry (derivations (w ∷ notes)) (user w)) (ancestry (derivations (w ∷ notes)) (b .parent)) b (rw (step .2) at (not-true (hits ends (derivations (w ∷ notes)) (b .name) w) (p .1))))
+
+-- ---- the lines of the rows
+
+module _ (n : ℕ) (notes : List Note) (s : Sound n notes) (c : Closed (lives notes) (derivations notes)) where
+  derivations-rows : Table.derivations (rows notes) ≡ filter (alive notes) (derivations notes)
+  unfolding rows rowOf
+  derivations-rows = map-map derivation (rowOf notes) (filter (alive notes) (derivations notes)) ∙ map-id (filter (alive notes) (derivations notes))
+
+  ancestry-rows : (x : ℕ) → eqb x 0 || lives notes x ≡ true → ancestry (derivations notes) x ≡ ancestry (Table.derivations (rows notes)) x
+  ancestry-rows x h = sym (rw derivations-rows (ancestry-kept (lives notes) n (derivations notes) (falling n notes s) c x h))
+
+  rows-live : All (λ r. lives notes (r .name .0) ≡ true) (rows notes)
+  unfolding rowOf
+  rows-live = rows-all notes (λ r. lives notes (r .name .0) ≡ true) (All-of (λ b. lives notes (b .name) ≡ true → lives notes (b .name) ≡ true) (λ b e. e) (derivations notes))
+
+  pub present-lives : (x : ℕ) → any (named x) (rows notes) ≡ true → lives notes x ≡ true
+  present-lives x h = go (test (lives notes x))
+    where
+      go : (lives notes x ≡ true) ⊎ (lives notes x ≡ false) → lives notes x ≡ true
+      go (inl e) = e
+      go (inr e) = clash h (any-false (named x) (rows notes) (All-map _ _ (λ r l. ne-eqb x (r .name .0) (λ (q : x ≡ r .name .0). clash l (ap (lives notes) (sym q) ∙ e))) (rows notes) rows-live))
+
+  -- ---- a note takes from the rows what it takes by their own lines
+
+  hits-rows : (m : ℕ) (w : Note) → Sound m (w ∷ notes) → Through notes w → (x : ℕ) → lives notes x ≡ true → x < floor m w
+      → (takes : Takes) → hits takes (derivations (w ∷ notes)) x w ≡ hits takes (Table.derivations (rows notes)) x w
+  unfolding hits
+  hits-rows m w q t x h l takes =
+      ap₂ (takes w) (ancestry-older m w notes q (user w) (q .1) ∙ ancestry-rows (user w) t) (ancestry-older m w notes q x l ∙ ancestry-rows x (rw h (or-true (eqb x 0))))
+
+  -- the rows after a note, by their own lines
+  pub rows-after : (m : ℕ) (w : Note) → Sound m (w ∷ notes) → Through notes w
+      → rows (w ∷ notes) ≡ map (rowOf (w ∷ notes)) (derivedBy w) ++ revokedBy (Table.derivations (rows notes)) w (rows notes)
+  unfolding rowOf
+  rows-after m w q t =
+      rows-noted m w notes q
+      ∙ ap (λ l. map (rowOf (w ∷ notes)) (derivedBy w) ++ l)
+      (revokedBy-cong (derivations (w ∷ notes)) (Table.derivations (rows notes)) w (rows notes)
+      (rows-all notes (λ r. (takes : Takes) → hits takes (derivations (w ∷ notes)) (r .name .0) w ≡ hits takes (Table.derivations (rows notes)) (r .name .0) w)
+      (All-map _ _ (λ b l h. hits-rows m w q t (b .name) h l) (derivations notes) (named-before m w notes q))))

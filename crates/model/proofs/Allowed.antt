@@ -1,0 +1,190 @@
+-- Demand 3: a read is allowed exactly when it is legal, inside its own span, and its name lives; a write exactly when, besides, its name is `rw`.
+-- Assumes nothing.
+use mathlib.Core.Path.{_≡_, refl, sym, ap, _∙_}
+use mathlib.Core.Logic.{_⊎_, inl, inr}
+use mathlib.Core.Bool.{Bool, true, false, not, cond, _&&_, _||_, or-false, and-true, and-false, and-assoc, Bool·not-not}
+use mathlib.Core.List.{List, [], _∷_}
+use Prim.Native.Nat.{ℕ, suc, _<_, _≤_}
+use native.Mathlib.Omega.{arith}
+use native.Mathlib.Nat.{sub-zero}
+use lib.ListN.{length-replicate}
+use lib.Dec.{eqb, ltb, leb}
+use borrow.Author.Tests.{eqb-true, ne-eqb, le-ltb, leb-true}
+use Rattle.model.specs.declared.Name.{Name}
+use Rattle.model.specs.declared.Span.{Span}
+use Rattle.model.specs.declared.Tally.{Tally}
+use Rattle.model.specs.declared.Event.{Event}
+use Rattle.model.specs.declared.Event.the-variants.{Create, Borrow, Read, Write, Drop}
+use Rattle.model.specs.Lists.{filter, any}
+use Rattle.model.specs.Derivation.{Derivation}
+use Rattle.model.specs.Values.{legal, inside}
+use Rattle.model.specs.Table.{emptyRow, span, named, liveRows, lentTable, lookup, inOrder}
+use Rattle.model.specs.Refusals.{disordered, refusals, judge}
+use Rattle.model.specs.Step.{initial, stateAfter, isAllowed}
+use Rattle.model.specs.Table
+use Rattle.model.specs.Refusals
+use Rattle.model.specs.Effects
+use Rattle.model.specs.Counts
+use Rattle.model.specs.Step
+use Rattle.model.specs.History.{Note, New, Accessed, Dropped, derivedBy, derivations, makes, later, ends, hits, lives, writable, covers, mayRead, mayWrite, rowOf, alive, rows, table, emptyHistory, historyAfter}
+use Rattle.model.specs.History
+use Rattle.model.proofs.Lists.{All, All-of, All-map, test, clash, unless, and-both, any-map, any-kept, first-zero}
+use Rattle.model.proofs.Ancestries.{Falling, same, not-zero, below-differs}
+use Rattle.model.proofs.Notes.{falling, rows-all}
+use Rattle.model.proofs.Agree.{present-lives}
+use Rattle.model.proofs.Lent.{lookup-found, lookup-named}
+use Rattle.model.proofs.Judged.{numbered}
+use Rattle.model.proofs.Match.{Kept, Match, live-rows, run, at-first, same-judge}
+use Rattle.model.proofs.Order.{order-fresh, order-final}
+
+-- ---- births are found by their names
+
+makes-derivations : (x : ℕ) (notes : List Note) → any (makes x) notes ≡ any (λ b. eqb x (b .name)) (derivations notes)
+unfolding makes derivations derivedBy
+makes-derivations x [] = refl
+makes-derivations x (New b r ∷ notes) = ap (λ t. eqb x (b .name) || t) (makes-derivations x notes)
+makes-derivations x (Accessed a u s ∷ notes) = makes-derivations x notes
+makes-derivations x (Dropped u ∷ notes) = makes-derivations x notes
+
+derivedBy-between : (n : ℕ) (B : List Derivation) (x : ℕ) → Falling n B → any (λ b. eqb x (b .name)) B ≡ true → (0 < x) × (x < n)
+derivedBy-between n [] x f h = clash h refl
+derivedBy-between n (b ∷ B) x f h = go (test (eqb x (b .name))) (derivedBy-between (b .name) B x (f .2))
+  where
+    go : (eqb x (b .name) ≡ true) ⊎ (eqb x (b .name) ≡ false) → (any (λ b. eqb x (b .name)) B ≡ true → (0 < x) × (x < b .name)) → (0 < x) × (x < n)
+    go (inl t) ih = let e = eqb-true x (b .name) t in omega arith
+    go (inr t) ih = let r = ih (rw t at h) in omega arith
+
+-- the one birth of a name
+module _ (s : Span) where
+  abbrev Covering : List Derivation → ℕ → Bool
+  Covering B x = any (λ d. eqb x (d .name) && inside s (d .span)) B
+
+  covering-none : (n : ℕ) (B : List Derivation) (x : ℕ) → Falling n B → n ≤ x → Covering B x ≡ false
+  covering-none n [] x f l = refl
+  covering-none n (b ∷ B) x f l = rw (ne-eqb x (b .name) (λ (e : x ≡ b .name). omega arith)) (covering-none (b .name) B x (f .2) (omega arith))
+
+  covering : (n : ℕ) (B : List Derivation) → Falling n B → All (λ b. (b .name < n) × (inside s (b .span) ≡ Covering B (b .name))) B
+  covering n [] f = tt
+  covering n (c ∷ B) f = (
+    (f .0, sym (rw (same (c .name), covering-none (c .name) B (c .name) (f .2) (omega arith)) (or-false (inside s (c .span))))),
+    All-map _ _ up B (covering (c .name) B (f .2)),
+  )
+    where
+      up : (b : Derivation) → (b .name < c .name) × (inside s (b .span) ≡ Covering B (b .name)) → (b .name < n) × (inside s (b .span) ≡ Covering (c ∷ B) (b .name))
+      up b (l, e) = (omega arith, rw (below-differs l) e)
+
+module _ (n i : ℕ) (notes : List Note) (k : Kept n i notes) where
+  B-falls : Falling (suc i) (derivations notes)
+  B-falls = falling (suc i) notes (k .sound)
+
+  noted : (x : ℕ) → lives notes x ≡ true → any (λ b. eqb x (b .name)) (derivations notes) ≡ true
+  unfolding lives
+  noted x h = sym (makes-derivations x notes) ∙ and-both (any (makes x) notes) (not (later x (hits ends (derivations notes) x) notes)) h .0
+
+  pub lives-given : (x : ℕ) → lives notes x ≡ true → (0 < x) × (x < suc i)
+  lives-given x h = derivedBy-between (suc i) (derivations notes) x B-falls (noted x h)
+
+  lives-present : (x : ℕ) → lives notes x ≡ true → any (named x) (rows notes) ≡ true
+  unfolding rows rowOf
+  lives-present x h =
+      any-map (rowOf notes) (named x) (filter (alive notes) (derivations notes)) ∙ any-kept (λ b. b .name) (lives notes) x h (derivations notes) ∙ noted x h
+
+  present : (x : ℕ) → any (named x) (liveRows (table n notes)) ≡ lives notes x
+  present x = rw (live-rows n i notes k) (go (test (lives notes x)))
+    where
+      go : (lives notes x ≡ true) ⊎ (lives notes x ≡ false) → any (named x) (rows notes) ≡ lives notes x
+      go (inl t) = lives-present x t ∙ sym t
+      go (inr f) = unless (any (named x) (rows notes)) (λ e. clash (present-lives (suc i) notes (k .sound) (k .closed) x e) f) ∙ sym f
+
+  -- the row of a living name has its noted span, and its right
+  covers-found : (x : ℕ) (s : Span) → lives notes x ≡ true → inside s (span (lookup x (liveRows (table n notes)))) ≡ covers notes x s
+  unfolding rowOf covers
+  covers-found x s h =
+      rw (live-rows n i notes k)
+      (lookup-found (λ c. inside s (span c) ≡ Covering s (derivations notes) (c .name .0)) x (rows notes) (lives-present x h)
+      (rows-all notes (λ c. inside s (span c) ≡ Covering s (derivations notes) (c .name .0)) (All-map _ _ (λ b q e. q .1) (derivations notes) (covering s (suc i) (derivations notes) B-falls)))
+      ∙ ap (Covering s (derivations notes)) (lookup-named x (rows notes) (lives-present x h)))
+
+  right-found : (x : ℕ) → lives notes x ≡ true → lookup x (liveRows (table n notes)) .right ≡ cond (writable notes x) 2 1
+  unfolding rowOf
+  right-found x h =
+      rw (live-rows n i notes k)
+      (lookup-found (λ c. c .right ≡ cond (writable notes (c .name .0)) 2 1) x (rows notes) (lives-present x h) (rows-all notes (λ c. c .right ≡ cond (writable notes (c .name .0)) 2 1) (All-of _ (λ b e. refl) (derivations notes)))
+      ∙ ap {B = ℕ} (λ y. cond (writable notes y) 2 1) (lookup-named x (rows notes) (lives-present x h)))
+
+  -- a living name passes refusal 4
+  given-passes : (x : ℕ) → lives notes x ≡ true → eqb x 0 || ltb i x ≡ false
+  given-passes x h = let p = lives-given x h in rw (not-zero (p .0)) (le-ltb i x (omega arith))
+
+  reads : inOrder (table n notes) i ≡ true → (u : Name) (s : Span) → eqb (judge (table n notes) i (Read u s)) 0 ≡ mayRead notes (u .0) s
+  unfolding judge refusals mayRead
+  reads o u s = first-zero (refusals (table n notes) i (Read u s)) (numbered (table n notes) i (Read u s)) ∙ rw (o, present (u .0)) (go (test (lives notes (u .0))))
+    where
+      go : (lives notes (u .0) ≡ true) ⊎ (lives notes (u .0) ≡ false)
+          → not (not (legal s)) && (not (eqb (u .0) 0 || ltb i (u .0)) && (not (not (lives notes (u .0))) && (not (not (inside s (span (lookup (u .0) (liveRows (table n notes)))))) && true))) ≡ legal s && covers notes (u .0) s && lives notes (u .0)
+      go (inl t) = rw (given-passes (u .0) t, covers-found (u .0) s t, t) (simp (Bool·not-not, and-true))
+      go (inr f) = rw f (simp and-false)
+
+  writes : inOrder (table n notes) i ≡ true → (u : Name) (s : Span) → eqb (judge (table n notes) i (Write u s)) 0 ≡ mayWrite notes (u .0) s
+  unfolding judge refusals mayRead mayWrite
+  writes o u s = first-zero (refusals (table n notes) i (Write u s)) (numbered (table n notes) i (Write u s)) ∙ rw (o, present (u .0)) (go (test (lives notes (u .0))))
+    where
+      rw-right : (w : Bool) → not (ltb (cond w 2 1) 2) ≡ w
+      rw-right true = refl
+      rw-right false = refl
+
+      go : (lives notes (u .0) ≡ true) ⊎ (lives notes (u .0) ≡ false)
+          → not (not (legal s)) && (not (eqb (u .0) 0 || ltb i (u .0)) && (not (not (lives notes (u .0))) && (not (not (inside s (span (lookup (u .0) (liveRows (table n notes)))))) && (not (ltb (lookup (u .0) (liveRows (table n notes)) .right) 2) && true))))
+          ≡ legal s && covers notes (u .0) s && lives notes (u .0) && writable notes (u .0)
+      go (inl t) = rw (given-passes (u .0) t, covers-found (u .0) s t, right-found (u .0) t, rw-right (writable notes (u .0)), t) (simp (Bool·not-not, and-true, and-assoc))
+      go (inr f) = rw f (simp and-false)
+
+-- ---- above 1,024 rows every event is refused, and nothing is noted
+
+module _ (n : ℕ) (l : leb n 1024 ≡ false) where
+  refused-all : (e : Event) → judge (table n []) 0 e ≡ 1
+  unfolding judge refusals inOrder lentTable rows derivations
+  refused-all e = go (rw (sub-zero n, length-replicate n emptyRow, l)) e
+    where
+      go : disordered (table n []) 0 ≡ true → (e : Event) → judge (table n []) 0 e ≡ 1
+      go d (Create s r) = rw d
+      go d (Borrow u s r) = rw d
+      go d (Read u s) = rw d
+      go d (Write u s) = rw d
+      go d (Drop u) = rw d
+
+  untold : (es : List Event) → historyAfter n es ≡ emptyHistory
+  unfolding History.after
+  untold [] = refl
+  untold (e ∷ es) = rw (refused-all e) (untold es)
+
+-- no access goes through a name that is not noted
+unnoted : (u : ℕ) (s : Span) → (mayRead [] u s ≡ false) × (mayWrite [] u s ≡ false)
+unfolding mayRead mayWrite covers derivations
+unnoted u s = (rw (and-false (legal s)), rw (and-false (legal s)))
+
+-- ---- over every list of events
+
+module _ (n : ℕ) (t : Tally) (z : t .issued ≡ 0) (es : List Event) where
+  matched : Match n (stateAfter n t es) (historyAfter n es)
+  matched = run n es (initial n t) emptyHistory (at-first n t z) .1
+
+  history-in-order : n ≤ 1024 → inOrder (table n (historyAfter n es .notes)) (historyAfter n es .count) ≡ true
+  history-in-order l = rw (matched .same-table, matched .same-issued) at (order-final es (initial n t) (order-fresh n t l z))
+
+  -- what is so of a history in order, and so where nothing is ever noted, is so
+  either-way : (e : Event) (may : List Note → Bool) → may [] ≡ false
+      → ((i : ℕ) (notes : List Note) → Kept n i notes → inOrder (table n notes) i ≡ true → eqb (judge (table n notes) i e) 0 ≡ may notes)
+      → isAllowed (Step.answer (stateAfter n t es) e) ≡ may (historyAfter n es .notes)
+  unfolding Step.answer
+  either-way e may none law = rw (same-judge n (stateAfter n t es) (historyAfter n es) matched e) (go (test (leb n 1024)))
+    where
+      go : (leb n 1024 ≡ true) ⊎ (leb n 1024 ≡ false) → eqb (judge (table n (historyAfter n es .notes)) (historyAfter n es .count) e) 0 ≡ may (historyAfter n es .notes)
+      go (inl y) = law (historyAfter n es .count) (historyAfter n es .notes) (matched .kept) (history-in-order (leb-true n 1024 y))
+      go (inr f) = rw (untold n f es, refused-all n f e) (sym none)
+
+  pub read-allowed : (u : Name) (s : Span) → isAllowed (Step.answer (stateAfter n t es) (Read u s)) ≡ mayRead (historyAfter n es .notes) (u .0) s
+  read-allowed u s = either-way (Read u s) (λ notes. mayRead notes (u .0) s) (unnoted (u .0) s .0) (λ i notes k o. reads n i notes k o u s)
+
+  pub write-allowed : (u : Name) (s : Span) → isAllowed (Step.answer (stateAfter n t es) (Write u s)) ≡ mayWrite (historyAfter n es .notes) (u .0) s
+  write-allowed u s = either-way (Write u s) (λ notes. mayWrite notes (u .0) s) (unnoted (u .0) s .1) (λ i notes k o. writes n i notes k o u s)

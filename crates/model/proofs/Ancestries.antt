@@ -1,0 +1,77 @@
+-- Laws of lines: past a birth of another name, and among the births that are left when closed ones are taken away.
+-- Assumes nothing.
+use mathlib.Core.Path.{_≡_, refl, sym, ap, _∙_}
+use mathlib.Core.Logic.{_⊎_, inl, inr}
+use mathlib.Core.Bool.{Bool, true, false, _||_}
+use mathlib.Core.List.{List, [], _∷_}
+use Prim.Native.Nat.{ℕ, _<_}
+use native.Mathlib.Omega.{arith}
+use lib.Dec.{eqb}
+use borrow.Author.Tests.{eqb-true, eq-eqb, ne-eqb}
+use Rattle.model.specs.Lists.{consIf, filter}
+use Rattle.model.specs.Derivation.{Derivation, ancestry}
+use Rattle.model.proofs.Lists.{All, All-map, test, clash}
+
+pub ancestry-here : (b : Derivation) (B : List Derivation) (x : ℕ) → eqb x (b .name) ≡ true → ancestry (b ∷ B) x ≡ b ∷ ancestry B (b .parent)
+unfolding ancestry
+ancestry-here b B x e = rw (e, ancestry)
+
+pub ancestry-past : (b : Derivation) (B : List Derivation) (x : ℕ) → eqb x (b .name) ≡ false → ancestry (b ∷ B) x ≡ ancestry B x
+unfolding ancestry
+ancestry-past b B x e = rw (e, ancestry)
+
+pub same : (x : ℕ) → eqb x x ≡ true
+same x = eq-eqb x x refl
+
+pub below-differs : {x y : ℕ} → x < y → eqb x y ≡ false
+below-differs {x} {y} h = ne-eqb x y (λ (e : x ≡ y). omega arith)
+
+pub not-zero : {x y : ℕ} → x < y → eqb y 0 ≡ false
+not-zero {x} {y} h = ne-eqb y 0 (λ (e : y ≡ 0). omega arith)
+
+-- births with falling names below a bound, each parent's name below its child's
+abbrev pub Falling : ℕ → List Derivation → Type 0
+Falling n [] = Unit {0}
+Falling n (b ∷ B) = (b .name < n) × (b .parent < b .name) × Falling (b .name) B
+
+-- a line goes on with the parent's line
+abbrev pub Step : ℕ → List Derivation → Derivation → Type 0
+Step n B b = (b .name < n) × (b .parent < b .name) × (ancestry B (b .name) ≡ b ∷ ancestry B (b .parent))
+
+pub ancestry-step : (n : ℕ) (B : List Derivation) → Falling n B → All (Step n B) B
+ancestry-step n [] f = tt
+ancestry-step n (c ∷ B) f = (
+  (f .0, f .1, ancestry-here c B (c .name) (same (c .name)) ∙ ap {B = List Derivation} (λ r. c ∷ r) (sym (past (c .parent) (f .1)))),
+  All-map (Step (c .name) B) (Step n (c ∷ B)) up B (ancestry-step (c .name) B (f .2)),
+)
+  where
+    past : (x : ℕ) → x < c .name → ancestry (c ∷ B) x ≡ ancestry B x
+    past x h = ancestry-past c B x (below-differs h)
+
+    up : (b : Derivation) → Step (c .name) B b → Step n (c ∷ B) b
+    up b h = (omega arith, h .1, past (b .name) (h .0) ∙ h .2 ∙ ap {B = List Derivation} (λ r. b ∷ r) (sym (past (b .parent) (omega arith))))
+
+-- a test that passes at the parent, unless 0, of each birth that it passes at
+abbrev pub Closed : (ℕ → Bool) → List Derivation → Type 0
+Closed k B = All (λ b. k (b .name) ≡ true → eqb (b .parent) 0 || k (b .parent) ≡ true) B
+
+-- where ancestors are kept with their descendants, lines stay
+pub ancestry-kept : (k : ℕ → Bool) (n : ℕ) (B : List Derivation) → Falling n B → Closed k B → (x : ℕ) → eqb x 0 || k x ≡ true → ancestry (filter (λ b. k (b .name)) B) x ≡ ancestry B x
+ancestry-kept k n [] f c x h = refl
+ancestry-kept k n (b ∷ B) f c x h = go (ancestry-kept k (b .name) B (f .2) (c .1)) (test (eqb x (b .name))) (test (k (b .name)))
+  where
+    F : List Derivation
+    F = filter (λ b. k (b .name)) B
+
+    go : ((y : ℕ) → eqb y 0 || k y ≡ true → ancestry F y ≡ ancestry B y) → (eqb x (b .name) ≡ true) ⊎ (eqb x (b .name) ≡ false)
+        → (k (b .name) ≡ true) ⊎ (k (b .name) ≡ false) → ancestry (consIf (k (b .name)) b F) x ≡ ancestry (b ∷ B) x
+    go ih (inl e) (inl t) = rw (t, ancestry-here b F x e, ancestry-here b B x e) (ap {B = List Derivation} (λ r. b ∷ r) (ih (b .parent) (c .0 t)))
+    go ih (inl e) (inr t) = let q : x ≡ b .name = eqb-true x (b .name) e in clash h (cc (not-zero (f .1)))
+    go ih (inr e) (inl t) = rw (t, ancestry-past b F x e, ancestry-past b B x e) (ih x h)
+    go ih (inr e) (inr t) = rw (t, ancestry-past b B x e) (ih x h)
+
+-- 0 has no line
+pub ancestry-zero : (n : ℕ) (B : List Derivation) → Falling n B → ancestry B 0 ≡ []
+unfolding ancestry
+ancestry-zero n [] f = refl
+ancestry-zero n (b ∷ B) f = ancestry-past b B 0 (ne-eqb 0 (b .name) (λ (e : 0 ≡ b .name). omega arith)) ∙ ancestry-zero (b .name) B (f .2)

@@ -1,0 +1,15 @@
+pub mod Lists
+pub mod Addresses
+pub mod Ancestries
+pub mod Strikes
+pub mod Notes
+pub mod Agree
+pub mod Lent
+pub mod Judged
+pub mod Match
+pub mod Order
+pub mod Allowed
+pub mod Lost
+pub mod Demand3
+pub mod Traces
+pub mod Rows

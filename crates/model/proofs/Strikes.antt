@@ -1,0 +1,39 @@
+-- The one law of the strike: a user in the holder's subtree gives keep. So an access takes nothing from its own user, nor from an ancestor of it.
+-- Assumes nothing.
+use mathlib.Core.Path.{_≡_, refl}
+use mathlib.Core.Bool.{Bool, true, false, and-false, or-true}
+use mathlib.Core.List.{List, [], _∷_}
+use lib.Dec.{eqb}
+use Rattle.model.specs.declared.Span.{Span}
+use Rattle.model.specs.declared.Access.{Access}
+use Rattle.model.specs.Derivation.{Derivation, inSubtree, onAncestry}
+use Rattle.model.specs.Strike.{Effect, Keep, strike, reached}
+use Rattle.model.specs.Values.{touches}
+use Rattle.model.proofs.Ancestries.{same}
+
+pub spared : (a : Access) (s : Span) (user : List Derivation) (b : Derivation) (above : List Derivation) → inSubtree (b .name) user ≡ true → strike a s user (b ∷ above) ≡ Keep
+unfolding strike
+spared a s user b above h = rw (h, and-false (touches s (b .span)))
+
+-- every birth on the line `above` is on the user's line
+abbrev Within : List Derivation → List Derivation → Type 0
+Within [] user = Unit {0}
+Within (b ∷ above) user = (inSubtree (b .name) user ≡ true) × Within above user
+
+within : (b : Derivation) (ancestry user : List Derivation) → Within ancestry user → Within ancestry (b ∷ user)
+within b [] user h = tt
+within b (c ∷ ancestry) user h = (rw (h .0) (or-true (eqb (c .name) (b .name))), within b ancestry user (h .1))
+
+itself : (user : List Derivation) → Within user user
+itself [] = tt
+itself (b ∷ above) = (rw (same (b .name)), within b above above (itself above))
+
+-- a test that Keep fails takes nothing along a line within the user's
+none : (is : Effect → Bool) → is Keep ≡ false → (a : Access) (s : Span) (user ancestry : List Derivation) → Within ancestry user → reached is a s user ancestry ≡ false
+unfolding reached onAncestry
+none is k a s user [] h = refl
+none is k a s user (b ∷ above) h = rw (spared a s user b above (h .0), k) (none is k a s user above (h .1))
+
+-- an access takes nothing from its own user
+pub user-spared : (is : Effect → Bool) → is Keep ≡ false → (a : Access) (s : Span) (user : List Derivation) → reached is a s user user ≡ false
+user-spared is k a s user = none is k a s user user (itself user)

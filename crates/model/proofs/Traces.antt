@@ -1,0 +1,16 @@
+-- Every starred trace goes as document 01 says, by one computed test over their table.
+-- Assumes nothing.
+use mathlib.Core.Path.{_≡_, refl}
+use mathlib.Core.Bool.{true}
+use Rattle.model.specs.Lists.{all}
+use Rattle.model.specs.Derivation.{ancestry, onAncestry}
+use Rattle.model.specs.Strike.{strike, reached, struck}
+use Rattle.model.specs.Table.{liveRows, lentTable, lookup, isEmptyRow, liveRowsFirst, rowFitsParent, parentInOrder, rowInOrder, rowsInOrder, inOrder}
+use Rattle.model.specs.Refusals.{refusals, judge}
+use Rattle.model.specs.Effects.{revoke, afterAccess, rowsAfter}
+use Rattle.model.specs.Step.{answer, after}
+use Rattle.model.specs.Traces.{traces, holds}
+
+pub traces-hold : all holds traces ≡ true
+unfolding traces holds ancestry strike onAncestry reached struck liveRows lentTable lookup isEmptyRow liveRowsFirst rowFitsParent parentInOrder rowInOrder rowsInOrder inOrder refusals judge revoke afterAccess rowsAfter answer after
+traces-hold = refl

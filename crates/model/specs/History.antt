@@ -1,0 +1,168 @@
+-- Document 01, "The history".
+-- Assumes nothing.
+use Prim.Native.Nat.{ℕ, zero, suc}
+use mathlib.Core.Bool.{Bool, false, not, cond, _&&_, _||_}
+use mathlib.Core.List.{List, [], _∷_, _++_, map}
+use lib.Dec.{eqb}
+use lib.ListN.{length}
+use Rattle.model.specs.declared.Span.{Span}
+use Rattle.model.specs.declared.Cap.{Cap}
+use Rattle.model.specs.declared.Event.{Event}
+use Rattle.model.specs.declared.Event.the-variants.{Create, Borrow, Read, Write, Drop}
+use Rattle.model.specs.declared.Access.{Access}
+use Rattle.model.specs.declared.Access.the-variants.{Reading, Writing}
+use Rattle.model.specs.Lists.{filter, any, final}
+use Rattle.model.specs.Values.{legal, inside}
+use Rattle.model.specs.Derivation.{Derivation, ancestry, inSubtree}
+use Rattle.model.specs.Strike.{isLower, isEnd, reached}
+use Rattle.model.specs.Table.{row, lentTable}
+use Rattle.model.specs.Refusals.{judge}
+use Rattle.model.specs.Effects.{root, child, newName, issuedAfter}
+use Rattle.model.specs.Step.{Verdict, verdict}
+
+-- ---- notes
+
+-- "An allowed create or borrow .. is noted as a new name, with its parent (0 for a create), span and right as given. An allowed read
+-- or write notes its name and span, an allowed drop its name." Notes stand newest first.
+pub data Note : Type 0 where
+  New : Derivation → ℕ → Note
+  Accessed : Access → ℕ → Span → Note
+  Dropped : ℕ → Note
+
+-- "Parents, and so subtrees, ancestors and depth, are those noted, also for names that have ended."
+unfoldable pub derivedBy : Note → List Derivation
+derivedBy (New d r) = d ∷ []
+derivedBy (Accessed a u s) = []
+derivedBy (Dropped u) = []
+
+-- the derivations noted, newest first
+unfoldable pub derivations : List Note → List Derivation
+derivations [] = []
+derivations (w ∷ notes) = derivedBy w ++ derivations notes
+
+-- the note makes the name x
+unfoldable pub makes : ℕ → Note → Bool
+makes x (New d r) = eqb x (d .name)
+makes x (Accessed a u s) = false
+makes x (Dropped u) = false
+
+-- it makes x writable: "noted with `rw`"
+unfoldable pub makesWritable : ℕ → Note → Bool
+makesWritable x (New d r) = eqb x (d .name) && eqb r 2
+makesWritable x (Accessed a u s) = false
+makesWritable x (Dropped u) = false
+
+-- "Later means after the note that made the name": some note later than the one that makes x passes the test
+unfoldable pub later : ℕ → (Note → Bool) → List Note → Bool
+later x p [] = false
+later x p (w ∷ notes) = not (makes x w) && (p w || later x p notes)
+
+-- ---- what a note takes
+
+-- the name that a note goes through; of a new name its parent
+abbrev pub user : Note → ℕ
+user (New d r) = d .parent
+user (Accessed a u s) = u
+user (Dropped u) = u
+
+-- What a note takes from a capability is told by two ancestries: that of the note's user, and that of the capability.
+abbrev pub Takes : Type 0
+Takes = Note → List Derivation → List Derivation → Bool
+
+-- its life: "a drop of it or an ancestor, or a write that strikes it or an ancestor"
+unfoldable pub ends : Takes
+ends (New d r) through x = false
+ends (Accessed a u s) through x = reached isEnd a s through x
+ends (Dropped u) through x = inSubtree u x
+
+-- its `rw`: "a read that strikes it or an ancestor"
+unfoldable pub lowers : Takes
+lowers (New d r) through x = false
+lowers (Accessed a u s) through x = reached isLower a s through x
+lowers (Dropped u) through x = false
+
+-- the note w takes that from the name x
+unfoldable pub hits : Takes → List Derivation → ℕ → Note → Bool
+hits takes derivations x w = takes w (ancestry derivations (user w)) (ancestry derivations x)
+
+-- ---- life and rights
+
+-- "A name lives when it was noted as new and no later note is a drop of it or an ancestor, or a write that strikes it or an ancestor."
+unfoldable pub lives : List Note → ℕ → Bool
+lives notes x = any (makes x) notes && not (later x (hits ends (derivations notes) x) notes)
+
+-- "A living name is `rw` when it was made writable, that is noted with `rw`, and no later note is a read that strikes it or an ancestor"
+unfoldable pub writable : List Note → ℕ → Bool
+writable notes x = any (makesWritable x) notes && not (later x (hits lowers (derivations notes) x) notes)
+
+-- it lives, and is `rw`
+abbrev pub livesRw : List Note → ℕ → Bool
+livesRw notes x = lives notes x && writable notes x
+
+-- ---- demand 3: what a read and a write need, by the notes alone
+
+-- x was created or borrowed, and s lies within its own span
+unfoldable pub covers : List Note → ℕ → Span → Bool
+covers notes x s = any (λ d. eqb x (d .name) && inside s (d .span)) (derivations notes)
+
+-- "a read through a capability is allowed exactly when the capability was created or borrowed, the span is legal and within its own,
+-- and since it was made neither it nor any ancestor was dropped, or touched by an allowed write through a capability outside that one's
+-- own subtree"
+unfoldable pub mayRead : List Note → ℕ → Span → Bool
+mayRead notes u s = legal s && covers notes u s && lives notes u
+
+-- "A write is allowed exactly when, besides, the capability was made writable and since then no allowed read touched it or an ancestor
+-- through a capability outside that one's own subtree."
+unfoldable pub mayWrite : List Note → ℕ → Span → Bool
+mayWrite notes u s = mayRead notes u s && writable notes u
+
+-- ---- the history's table
+
+-- the row of a living name
+unfoldable pub rowOf : List Note → Derivation → Cap
+rowOf notes d = row d (cond (writable notes (d .name)) 2 1) (length (ancestry (derivations notes) (d .name)))
+
+abbrev pub alive : List Note → Derivation → Bool
+alive notes d = lives notes (d .name)
+
+-- "one for each living name": the newest first
+unfoldable pub rows : List Note → List Cap
+rows notes = map (rowOf notes) (filter (alive notes) (derivations notes))
+
+-- "The history's table has as many rows as the lent one: one for each living name, rising, .. then zeros."
+abbrev pub table : ℕ → List Note → List Cap
+table n notes = lentTable n (rows notes)
+
+-- ---- an event
+
+-- "It holds notes in order and a count of names, at first none and 0."
+pub record History : Type 0 where
+  pub notes : List Note
+  pub count : ℕ
+
+abbrev pub emptyHistory : History
+emptyHistory = record { notes = []; count = 0 }
+
+-- the note of an allowed event, when so many names have been counted
+unfoldable pub noteOf : ℕ → Event → Note
+noteOf count (Create s r) = New (root count s) r
+noteOf count (Borrow u s r) = New (child count u s) r
+noteOf count (Read u s) = Accessed Reading (u .0) s
+noteOf count (Write u s) = Accessed Writing (u .0) s
+noteOf count (Drop u) = Dropped (u .0)
+
+-- "It answers each event as this document says, judged on its own table and with its count as the issued number."
+unfoldable pub answer : ℕ → History → Event → Verdict
+answer n h e = verdict (judge (table n (h .notes)) (h .count) e) (newName (h .count) e)
+
+-- "A refused event changes nothing. An allowed create or borrow raises the count by one."
+abbrev pub outcome : ℕ → History → Event → History
+outcome zero h e = record { notes = noteOf (h .count) e ∷ h .notes; count = issuedAfter (h .count) e }
+outcome (suc k) h e = h
+
+unfoldable pub after : ℕ → History → Event → History
+after n h e = outcome (judge (table n (h .notes)) (h .count) e) h e
+
+-- the history of a list of events, over any number of rows
+abbrev pub historyAfter : ℕ → List Event → History
+historyAfter n = final (after n) emptyHistory

@@ -1,0 +1,13 @@
+pub mod Lists
+pub mod Values
+pub mod Derivation
+pub mod Strike
+pub mod Table
+pub mod Refusals
+pub mod Effects
+pub mod Counts
+pub mod Step
+pub mod Answers
+pub mod History
+pub mod Demand3
+pub mod Traces

@@ -1,0 +1,87 @@
+-- Document 01, "Eleven ways to be turned down", of an event: the conditions 1 to 10, and which of them each event meets.
+-- Assumes nothing. (2 is here in its half about events; its other half, and 11, are of the text.)
+use Prim.Native.Nat.{ℕ}
+use mathlib.Core.Bool.{Bool, not, _||_}
+use mathlib.Core.List.{List, [], _∷_, _++_}
+use lib.Dec.{leb, ltb, eqb}
+use lib.ListN.{length}
+use Rattle.model.specs.declared.Name.{Name}
+use Rattle.model.specs.declared.Span.{Span}
+use Rattle.model.specs.declared.Cap.{Cap}
+use Rattle.model.specs.declared.Event.{Event}
+use Rattle.model.specs.declared.Event.the-variants.{Create, Borrow, Read, Write, Drop}
+use Rattle.model.specs.Lists.{any, first}
+use Rattle.model.specs.Values.{legal, inside}
+use Rattle.model.specs.Table.{span, named, liveRows, lookup, isRight, inOrder}
+
+-- 1. table not in order
+abbrev pub disordered : List Cap → ℕ → Bool
+disordered table issued = not (inOrder table issued)
+
+-- 2. event whose right is neither 1 nor 2
+abbrev pub notARight : ℕ → Bool
+notARight r = not (isRight r)
+
+-- 3. span not legal
+abbrev pub illegalSpan : Span → Bool
+illegalSpan s = not (legal s)
+
+-- The others are judged on the live rows.
+module _ (rows : List Cap) (issued : ℕ) where
+  -- 4. name 0 or above the issued number
+  abbrev pub unissued : Name → Bool
+  unissued u = eqb (u .0) 0 || ltb issued (u .0)
+
+  -- 5. name issued, capability ended
+  abbrev pub ended : Name → Bool
+  ended u = not (any (named (u .0)) rows)
+
+  -- 6. span not inside the capability's
+  abbrev pub outsideSpan : Name → Span → Bool
+  outsideSpan u s = not (inside s (span (lookup (u .0) rows)))
+
+  -- 7. write through `ro`, or borrow of `rw` from `ro`: a right above the capability's
+  abbrev pub readOnly : Name → ℕ → Bool
+  readOnly u r = ltb (lookup (u .0) rows .right) r
+
+  -- 8. borrow from depth 64
+  abbrev pub tooDeep : Name → Bool
+  tooDeep u = leb 64 (lookup (u .0) rows .depth)
+
+  -- 9. create or borrow with 1,000,000 issued
+  abbrev pub namesSpent : Bool
+  namesSpent = leb 1000000 issued
+
+  -- 10. create or borrow with no empty row, of so many rows
+  abbrev pub tableFull : ℕ → Bool
+  tableFull size = leb size (length rows)
+
+  -- Checks in order of precedence, each with its number: the standing of a name; its use on a span; its use with a right, `ro` for
+  -- a borrow of `ro` and `rw` for a write; room for a new name.
+  abbrev pub standing : Name → List (ℕ × Bool)
+  standing u = (4, unissued u) ∷ (5, ended u) ∷ []
+
+  abbrev pub within : Name → Span → List (ℕ × Bool)
+  within u s = (3, illegalSpan s) ∷ standing u ++ ((6, outsideSpan u s) ∷ [])
+
+  abbrev pub usable : Name → Span → ℕ → List (ℕ × Bool)
+  usable u s r = within u s ++ ((7, readOnly u r) ∷ [])
+
+  abbrev pub room : ℕ → List (ℕ × Bool)
+  room size = (9, namesSpent) ∷ (10, tableFull size) ∷ []
+
+  -- those that each event meets after 1
+  abbrev pub checks : ℕ → Event → List (ℕ × Bool)
+  checks size (Create s r) = (2, notARight r) ∷ (3, illegalSpan s) ∷ room size
+  checks size (Borrow u s r) = (2, notARight r) ∷ usable u s r ++ ((8, tooDeep u) ∷ room size)
+  checks size (Read u s) = within u s
+  checks size (Write u s) = usable u s 2
+  checks size (Drop u) = standing u
+
+unfoldable pub refusals : List Cap → ℕ → Event → List (ℕ × Bool)
+refusals table issued e = (1, disordered table issued) ∷ checks (liveRows table) issued (length table) e
+
+-- "The lowest number that applies is the one given": the first of the list that holds, or 0 where the event is allowed.
+-- The lists rise (proofs/Judged), so the first is the lowest.
+unfoldable pub judge : List Cap → ℕ → Event → ℕ
+judge table issued e = first (refusals table issued e)

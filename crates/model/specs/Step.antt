@@ -1,0 +1,53 @@
+-- Document 01, "What each event does" and "Eleven ways to be turned down": one event on what the caller lends.
+-- Assumes nothing.
+use Prim.Native.Nat.{ℕ, zero, suc}
+use mathlib.Core.Bool.{Bool, cond}
+use mathlib.Core.List.{List}
+use lib.Dec.{eqb}
+use lib.ListN.{length, replicate}
+use Rattle.model.specs.declared.Cap.{Cap}
+use Rattle.model.specs.declared.Tally.{Tally}
+use Rattle.model.specs.declared.Event.{Event}
+use Rattle.model.specs.Lists.{final}
+use Rattle.model.specs.Table.{emptyRow, liveRows, lentTable}
+use Rattle.model.specs.Refusals.{judge}
+use Rattle.model.specs.Effects.{rowsAfter, newName}
+use Rattle.model.specs.Counts.{countAllowed, countRefused}
+
+-- an answer in this paper's numbers: the refusal, 0 for allowed, and the name
+pub record Verdict : Type 0 where
+  pub refusal : ℕ
+  pub name : ℕ
+
+-- "A refusal carries name 0."
+abbrev pub verdict : ℕ → ℕ → Verdict
+verdict refusal name = record { refusal = refusal; name = cond (eqb refusal 0) name 0 }
+
+abbrev pub isAllowed : Verdict → Bool
+isAllowed v = eqb (v .refusal) 0
+
+-- what the caller lends
+pub record State : Type 0 where
+  pub table : List Cap
+  pub tally : Tally
+
+-- the answer to an event
+unfoldable pub answer : State → Event → Verdict
+answer h e = verdict (judge (h .table) (h .tally .issued) e) (newName (h .tally .issued) e)
+
+-- the table and the tally after an event that gets this number: allowed, refusal 1, which changes nothing, or another refusal
+abbrev pub outcome : ℕ → State → Event → State
+outcome zero h e = record { table = lentTable (length (h .table)) (rowsAfter (h .tally .issued) (liveRows (h .table)) e); tally = countAllowed e (h .tally) }
+outcome (suc zero) h e = h
+outcome (suc (suc k)) h e = record { table = h .table; tally = countRefused (h .tally) }
+
+unfoldable pub after : State → Event → State
+after h e = outcome (judge (h .table) (h .tally .issued) e) h e
+
+-- "The list begins with any number of rows, all zeros"
+abbrev pub initial : ℕ → Tally → State
+initial n t = record { table = replicate n emptyRow; tally = t }
+
+-- what the caller has after a list of events
+abbrev pub stateAfter : ℕ → Tally → List Event → State
+stateAfter n t = final after (initial n t)

@@ -1,0 +1,23 @@
+-- Document 01, "Values": spans.
+-- Assumes nothing.
+use Prim.Native.Nat.{ℕ, _+_, min, max}
+use mathlib.Core.Bool.{Bool, _&&_}
+use lib.Dec.{leb, ltb}
+use Rattle.model.specs.declared.Span.{Span}
+
+-- the address after the last one of a span
+abbrev pub end : Span → ℕ
+end s = s .start .0 + s .length
+
+-- "Legal when the length is at least 1 and start plus length is at most 4,294,967,296."
+-- Nothing else in these definitions, and no theorem about them, says that a length is at least 1.
+abbrev pub legal : Span → Bool
+legal s = leb 1 (s .length) && leb (end s) 4294967296
+
+-- "Two spans touch when they share an address": the larger start is below the smaller end.
+abbrev pub touches : Span → Span → Bool
+touches s t = ltb (max (s .start .0) (t .start .0)) (min (end s) (end t))
+
+-- the first span lies inside the second
+abbrev pub inside : Span → Span → Bool
+inside s t = leb (t .start .0) (s .start .0) && leb (end s) (end t)

@@ -1,0 +1,85 @@
+// The values of document 01 as types. The definitions over them are in specs/, the theorems about those in proofs/.
+// There is no code here: the crate is what a reader has to believe, and what the code above it is proved against.
+
+// Document 01, "Values", name: 1 to 1,000,000, given out in order, never twice; 0 stands for no parent.
+// A name is never an address, so each has a type of its own.
+pub struct Name(pub u32);
+
+// "Values", address: 0 to 4,294,967,295.
+pub struct Addr(pub u32);
+
+// "Values", span: a start and a length.
+pub struct Span {
+    pub start: Addr,
+    pub length: u32,
+}
+
+// "Values", a row of the lent table, in document 01's order of the fields. Six words of 32 bits: the same record in C, and no
+// byte of it is padding. The right is 1 (`ro`) or 2 (`rw`) in a table in order.
+pub struct Cap {
+    pub name: Name,
+    pub parent: Name,
+    pub start: Addr,
+    pub length: u32,
+    pub right: u32,
+    pub depth: u32,
+}
+
+// "Values", the tally: names issued, the allowed events of each of the five kinds, and refused events.
+pub struct Tally {
+    pub issued: u32,
+    pub creates: u32,
+    pub borrows: u32,
+    pub reads: u32,
+    pub writes: u32,
+    pub drops: u32,
+    pub refused: u32,
+}
+
+// "Values", an event: one of five kinds, each with its own values. The names, starts and lengths may be any 32-bit numbers,
+// the right any byte.
+pub enum Event {
+    Create(Span, u8),
+    Borrow(Name, Span, u8),
+    Read(Name, Span),
+    Write(Name, Span),
+    Drop(Name),
+}
+
+// "What each event does": the two kinds of access to memory.
+pub enum Access {
+    Reading,
+    Writing,
+}
+
+// "Eleven ways to be turned down": each is named for its condition.
+pub enum Refusal {
+    // 1: table not in order.
+    Disordered,
+    // 2: line or listing not in the one spelling; event whose right is neither 1 nor 2.
+    Misspelt,
+    // 3: span not legal.
+    IllegalSpan,
+    // 4: name 0 or above the issued number.
+    Unissued,
+    // 5: name issued, capability ended.
+    Ended,
+    // 6: span not inside the capability's.
+    OutsideSpan,
+    // 7: write through `ro`, or borrow of `rw` from `ro`.
+    ReadOnly,
+    // 8: borrow from depth 64.
+    TooDeep,
+    // 9: create or borrow with 1,000,000 issued.
+    NamesSpent,
+    // 10: create or borrow with no empty row.
+    TableFull,
+    // 11: text longer than the output buffer.
+    BufferTooShort,
+}
+
+// The answer to an event: allowed, with the new name of a create or borrow and name 0 of the others; or refused.
+pub enum Answer {
+    Allowed(Name),
+    Refused(Refusal),
+}

@@ -1,0 +1,250 @@
+-- One event: what the engine's parts do, put together.
+-- Assumes nothing.
+use mathlib.Core.Path.{_≡_, refl, sym, ap, ap₂, _∙_}
+use mathlib.Core.Logic.{_⊎_, inl, inr}
+use mathlib.Core.Bool.{Bool, true, false}
+use mathlib.Core.List.{List, [], _∷_, _++_, append-nil}
+use Prim.Native.Nat.{ℕ, zero, suc, _+_, _≤_, _<_, min}
+use native.Mathlib.Numerals.{add-one}
+use native.Mathlib.Omega.{arith}
+use lib.Dec.{ltb, leb}
+use lib.ListN.{length, getD, set, take, length-set, drop, take-append-drop}
+use lib.Seq.{getD-set-same, getD-set-other, ext-getD, getD-take, length-take-le, take-length, drop-length}
+use borrow.Author.Tests.{eqb-false, ltb-true, leb-false, not-false, lt-leb, leb-true}
+use Rattle.model.specs.declared.Name.{Name}
+use Rattle.model.specs.declared.Span.{Span}
+use Rattle.model.specs.declared.Cap.{Cap}
+use Rattle.model.specs.declared.Access.{Access}
+use Rattle.model.specs.declared.Access.the-variants.{Reading, Writing}
+use Rattle.model.specs.declared.Tally.{Tally}
+use Rattle.rules.specs.declared.Step.{Step}
+use Rattle.model.specs.declared.Event.{Event}
+use Rattle.model.specs.declared.Event.the-variants.{Create, Borrow, Read, Write, Drop}
+use Rattle.model.specs.declared.Refusal.{Refusal}
+use Rattle.model.specs.declared.Refusal.the-variants.{Disordered}
+use Rattle.model.specs.declared.Answer.the-variants.{Allowed, Refused}
+use Rattle.model.specs.Lists.{first, any, all}
+use Rattle.model.specs.Strike.{isEnd, isLower, struck}
+use Rattle.model.specs.Derivation.{ancestry, inSubtree}
+use Rattle.model.specs.Step.{Verdict, State, verdict, outcome, after, answer}
+use Rattle.model.specs.Table.{row, emptyRow, derivations, named, liveRows, lookup, lentTable, inOrder}
+use Rattle.model.specs.Refusals.{checks, refusals, judge}
+use Rattle.model.specs.Effects.{newName, revoke, afterAccess, rowsAfter}
+use Rattle.model.specs.Counts.{countAllowed, countRefused}
+use Rattle.model.specs.Answers.{number, verdictOf}
+use Rattle.rules.specs.Words.{rowsOf, rowsIn}
+use Rattle.rules.specs.Engine.{before, Marked, kept, Orderly, Ready}
+use Rattle.rules.specs.Steps.{heldIn, Stepped, lends}
+use Rattle.model.proofs.Lists.{test, and-both}
+use Rattle.model.proofs.Judged.{allowed}
+use Rattle.rules.proofs.Laws.Words.{length-in, length-rows, in-first, rows-at}
+use Rattle.rules.proofs.Laws.Prefix.{before-suc, before-same, length-before}
+use Rattle.rules.proofs.Laws.Settle.{before-lent, kept-revoke}
+use Rattle.rules.proofs.Laws.Judge.{numbered, orderly-live, orderly-standing, orderly-long, orderly-judge, orderly-zeros}
+
+-- a new row after the live ones
+pub appended : (T : List Cap) (n k : ℕ) (c : Cap) → k < n → n ≤ length T → ((j : ℕ) → k ≤ j → j < n → getD T j emptyRow ≡ emptyRow) → take n (set T k c) ≡ lentTable n (c ∷ before T k)
+appended T n k c b l z =
+    before-lent (set T k c) n (k + 1) (omega arith) (rw length-set l) (λ j m h. getD-set-other T k j c emptyRow (λ (e : j ≡ k). omega arith) ∙ z j (omega arith) h)
+    ∙ ap (lentTable n) (before-suc (set T k c) k ∙ ap₂ {C = List Cap} (λ x xs. x ∷ xs) (getD-set-same T k c emptyRow (omega arith)) (before-same (set T k c) T k (λ j m. getD-set-other T k j c emptyRow (λ (e : j ≡ k). omega arith))))
+
+-- the marks of an access leave what the rules leave
+pub kept-used : (marks : List ℕ) (T : List Cap) (k u : ℕ) (a : Access) (s : Span) → Marked T k marks (struck isEnd a (derivations (before T k)) u s) (struck isLower a (derivations (before T k)) u s)
+    → kept marks T k ≡ afterAccess a u s (before T k)
+unfolding afterAccess
+kept-used marks T k u a s m = kept-revoke marks (struck isEnd a (derivations (before T k)) u s) (struck isLower a (derivations (before T k)) u s) T k m
+
+module _ (ws : List ℕ) (n k issued : ℕ) (o : Orderly (rowsIn ws) n k issued) where
+  abbrev T : List Cap
+  T = rowsIn ws
+
+  fits : n ≤ length T
+  fits = omega (arith, length-in ws, o .few)
+
+  pub ready : length ws ≡ 6144 → Ready ws T n k
+  ready h = record { fits = o .front .fits; few = o .few; long = h; stands = orderly-standing T n k issued fits o; zeros = orderly-zeros T n k issued fits o }
+
+  live-is : liveRows (take n T) ≡ before T k
+  live-is = orderly-live T n k issued fits o
+
+  room-of : leb (length (take n T)) (length (liveRows (take n T))) ≡ false → k < n
+  room-of h = omega (arith, leb-false (length (take n T)) (length (liveRows (take n T))) h, orderly-long T n k issued fits o, ap length live-is ∙ length-before T k)
+
+  pub room-create : (s : Span) (r : ℕ) → judge (take n T) issued (Create s r) ≡ 0 → k < n
+  unfolding refusals
+  room-create s r h = room-of (allowed (take n T) issued (Create s r) h 10)
+
+  pub room-borrow : (u : Name) (s : Span) (r : ℕ) → judge (take n T) issued (Borrow u s r) ≡ 0 → k < n
+  unfolding refusals
+  room-borrow u s r h = room-of (allowed (take n T) issued (Borrow u s r) h 10)
+
+  pub there-borrow : (u : Name) (s : Span) (r : ℕ) → judge (take n T) issued (Borrow u s r) ≡ 0 → any (named (u .0)) (before T k) ≡ true
+  unfolding refusals
+  there-borrow u s r h = rw live-is at (not-false (any (named (u .0)) (liveRows (take n T))) (allowed (take n T) issued (Borrow u s r) h 5))
+
+  pub depth-borrow : (u : Name) (s : Span) (r : ℕ) → judge (take n T) issued (Borrow u s r) ≡ 0 → lookup (u .0) (before T k) .depth < 64
+  unfolding refusals
+  depth-borrow u s r h = leb-false 64 (lookup (u .0) (before T k) .depth) (rw live-is at (allowed (take n T) issued (Borrow u s r) h 8))
+
+-- ---- the whole step
+
+-- in a table in order, no refusal is 1
+above-one : (rows : List Cap) (issued size : ℕ) (e : Event) → all (λ c. ltb 1 (c .0)) (checks rows issued size e) ≡ true
+above-one rows issued size (Create s r) = refl
+above-one rows issued size (Borrow u s r) = refl
+above-one rows issued size (Read u s) = refl
+above-one rows issued size (Write u s) = refl
+above-one rows issued size (Drop u) = refl
+
+first-above : (cs : List (ℕ × Bool)) → all (λ c. ltb 1 (c .0)) cs ≡ true → first cs ≡ 1 → ⊥
+first-above [] h e = omega arith
+first-above (c ∷ cs) h e = let p = and-both (ltb 1 (c .0)) (all (λ c. ltb 1 (c .0)) cs) h in go (test (c .1)) (ltb-true 1 (c .0) (p .0)) (first-above cs (p .1))
+  where
+    go : (c .1 ≡ true) ⊎ (c .1 ≡ false) → 1 < c .0 → (first cs ≡ 1 → ⊥) → ⊥
+    go (inl t) l ih = let q : c .0 ≡ 1 = rw t at e in omega arith
+    go (inr f) l ih = ih (rw f at e)
+
+outcome-refused : (h : State) (e : Event) (j : ℕ) → (j ≡ 0 → ⊥) → (j ≡ 1 → ⊥) → (outcome j h e .table ≡ h .table) × (outcome j h e .tally ≡ countRefused (h .tally))
+outcome-refused h e zero a b = absurd (a refl)
+outcome-refused h e (suc zero) a b = absurd (b refl)
+outcome-refused h e (suc (suc j)) a b = (refl, refl)
+
+module _ (ws : List ℕ) (n : ℕ) (t : Tally) (e : Event) where
+  -- a table out of order
+  pub stepped-disordered : inOrder (rowsOf ws n) (t .issued) ≡ false → length ws ≡ 6144 → Stepped ws n t e ws (record { tally = t; answer = Refused Disordered })
+  unfolding judge refusals after answer
+  stepped-disordered h l = record { table = rw h; tally = rw h; answer = rw h; long = l }
+
+  pub too-many : 1024 < n → inOrder (rowsOf ws n) (t .issued) ≡ false
+  unfolding inOrder
+  too-many l = rw (length-rows ws n, lt-leb n 1024 l)
+
+  module _ (k : ℕ) (few : n ≤ 1024) (o : Orderly (rowsIn ws) n k (t .issued)) where
+    stateAfter : take n (rowsIn ws) ≡ rowsOf ws n
+    stateAfter = in-first ws n few
+
+    verdict : ℕ
+    verdict = judge (rowsOf ws n) (t .issued) e
+
+    same : judge (take n (rowsIn ws)) (t .issued) e ≡ judge (rowsOf ws n) (t .issued) e
+    same = ap (λ (l : List Cap). judge l (t .issued) e) stateAfter
+
+    pub allowed-zero : (x : Name) → verdictOf (Allowed x) ≡ verdict (judge (take n (rowsIn ws)) (t .issued) e) (newName (t .issued) e) → judge (take n (rowsIn ws)) (t .issued) e ≡ 0
+    allowed-zero x q = sym (ap (λ (r : Verdict). r .refusal) q)
+
+    -- an allowed event
+    pub stepped-allowed : (ws′ : List ℕ) (y : Tally) (x : Name) → verdictOf (Allowed x) ≡ verdict (judge (take n (rowsIn ws)) (t .issued) e) (newName (t .issued) e)
+        → take n (rowsIn ws′) ≡ lentTable n (rowsAfter (t .issued) (before (rowsIn ws) k) e) → y ≡ countAllowed e t → length ws′ ≡ 6144 → Stepped ws n t e ws′ (record { tally = y; answer = Allowed x })
+    unfolding after answer
+    stepped-allowed ws′ y x q h c l = record {
+      table = sym (in-first ws′ n few) ∙ h ∙ rw zero-is (ap₂ (λ (m : ℕ) (rows : List Cap). lentTable m (rowsAfter (t .issued) rows e)) (sym (length-rows ws n)) (sym live-of));
+      tally = c ∙ rw zero-is;
+      answer = q ∙ ap (λ (j : ℕ). verdict j (newName (t .issued) e)) same;
+      long = l;
+    }
+      where
+        zero-is : judge (rowsOf ws n) (t .issued) e ≡ 0
+        zero-is = sym same ∙ allowed-zero x q
+
+        live-of : liveRows (rowsOf ws n) ≡ before (rowsIn ws) k
+        live-of = ap liveRows (sym stateAfter) ∙ live-is ws n k (t .issued) o
+
+    -- a refused one
+    pub stepped-refused : (y : Tally) (x : Refusal) → verdictOf (Refused x) ≡ verdict (judge (take n (rowsIn ws)) (t .issued) e) (newName (t .issued) e) → y ≡ countRefused t → length ws ≡ 6144
+        → Stepped ws n t e ws (record { tally = y; answer = Refused x })
+    unfolding after answer
+    stepped-refused y x q c l = record {
+      table = sym (outcome-refused (heldIn ws n t) e (judge (rowsOf ws n) (t .issued) e) not-0 not-1 .0);
+      tally = c ∙ sym (outcome-refused (heldIn ws n t) e (judge (rowsOf ws n) (t .issued) e) not-0 not-1 .1);
+      answer = q ∙ ap (λ (j : ℕ). verdict j (newName (t .issued) e)) same;
+      long = l;
+    }
+      where
+        is : judge (rowsOf ws n) (t .issued) e ≡ number x
+        is = sym (ap (λ (r : Verdict). r .refusal) q ∙ same)
+
+        not-0 : judge (rowsOf ws n) (t .issued) e ≡ 0 → ⊥
+        not-0 z = eqb-false (number x) 0 (numbered x) (sym is ∙ z)
+
+        not-1 : judge (rowsOf ws n) (t .issued) e ≡ 1 → ⊥
+        not-1 z = first-above (checks (before (rowsIn ws) k) (t .issued) n e) (above-one (before (rowsIn ws) k) (t .issued) n e) (sym (orderly-judge (rowsIn ws) n k (t .issued) (omega (arith, length-in ws)) o e) ∙ same ∙ z)
+
+-- ---- the rows after an event
+
+module _ (n issued : ℕ) (rows : List Cap) where
+  pub next-create : (s : Span) (r : ℕ) (c : Cap) → c ≡ row (record { name = issued + 1; parent = 0; span = s }) r 1 → lentTable n (c ∷ rows) ≡ lentTable n (rowsAfter issued rows (Create s r))
+  unfolding rowsAfter
+  next-create s r c e = rw (e, add-one)
+
+  pub next-borrow : (u : Name) (s : Span) (r d : ℕ) (c : Cap) → d ≡ lookup (u .0) rows .depth → c ≡ row (record { name = issued + 1; parent = u .0; span = s }) r (d + 1) → lentTable n (c ∷ rows) ≡ lentTable n (rowsAfter issued rows (Borrow u s r))
+  unfolding rowsAfter
+  next-borrow u s r d c f e = rw (e, f, add-one, add-one)
+
+  pub next-read : (u : Name) (s : Span) → lentTable n (afterAccess Reading (u .0) s rows) ≡ lentTable n (rowsAfter issued rows (Read u s))
+  unfolding rowsAfter
+  next-read u s = refl
+
+  pub next-write : (u : Name) (s : Span) → lentTable n (afterAccess Writing (u .0) s rows) ≡ lentTable n (rowsAfter issued rows (Write u s))
+  unfolding rowsAfter
+  next-write u s = refl
+
+  pub next-drop : (u : Name) → lentTable n (revoke (λ x. inSubtree (u .0) (ancestry (derivations rows) x)) (λ x. false) rows) ≡ lentTable n (rowsAfter issued rows (Drop u))
+  unfolding rowsAfter
+  next-drop u = refl
+
+-- ---- the lent records
+
+min-le : (n : ℕ) → n ≤ 1024 → min n 1024 ≡ n
+min-le n l = omega arith
+
+min-gt : (n : ℕ) → 1024 < n → min n 1024 ≡ 1024
+min-gt n l = omega arith
+
+-- the first m of n rows
+rows-first : (ws : List ℕ) (m n : ℕ) → m ≤ n → take m (rowsOf ws n) ≡ rowsOf ws m
+rows-first ws m n l =
+    ext-getD emptyRow (take m (rowsOf ws n)) (rowsOf ws m) (long ∙ sym (length-rows ws m)) (λ j h.
+    let b : j < m = omega (arith, long) in
+    getD-take m (rowsOf ws n) j emptyRow b ∙ rows-at ws n j (omega arith) ∙ sym (rows-at ws m j b))
+  where
+    long : length (take m (rowsOf ws n)) ≡ m
+    long = length-take-le m (rowsOf ws n) (omega (arith, length-rows ws n))
+
+-- what an event leaves of the records, by way of words
+module _ (ys : List Cap) (t : Tally) (e : Event) (w ws : List ℕ) (r : Step) (same : rowsOf w (min (length ys) 1024) ≡ take (min (length ys) 1024) ys) (s : Stepped w (length ys) t e ws r) where
+  abbrev Left : Type 0
+  Left = (rowsOf ws (min (length ys) 1024) ++ drop (min (length ys) 1024) ys ≡ after (lends ys t) e .table) × (r .tally ≡ after (lends ys t) e .tally) × (verdictOf (r .answer) ≡ answer (lends ys t) e)
+
+  left-few : length ys ≤ 1024 → Left
+  left-few l =
+      let m : min (length ys) 1024 ≡ length ys = min-le (length ys) l in
+      let q : rowsOf w (length ys) ≡ ys = sym (ap (rowsOf w) m) ∙ same ∙ ap (λ (k : ℕ). take k ys) m ∙ take-length ys in
+      let h : heldIn w (length ys) t ≡ lends ys t = ap (λ (l : List Cap). lends l t) q in
+      let d : rowsOf ws (min (length ys) 1024) ++ drop (min (length ys) 1024) ys ≡ rowsOf ws (length ys) = rw (m, drop-length ys) (append-nil (rowsOf ws (length ys))) in
+      (d ∙ s .table ∙ ap (λ (x : State). after x e .table) h, s .tally ∙ ap (λ (x : State). after x e .tally) h, s .answer ∙ ap (λ (x : State). answer x e) h)
+
+  module _ (l : 1024 < length ys) where
+    disorder : (rows : List Cap) → length rows ≡ length ys → inOrder rows (t .issued) ≡ false
+    unfolding inOrder
+    disorder rows h = rw (h, lt-leb (length ys) 1024 l)
+
+    unchanged : (rows : List Cap) → inOrder rows (t .issued) ≡ false → (after (lends rows t) e ≡ lends rows t) × (answer (lends rows t) e ≡ record { refusal = 1; name = 0 })
+    unfolding judge refusals after answer
+    unchanged rows h = (rw h, rw h)
+
+    left-many : Left
+    left-many =
+        let m : min (length ys) 1024 ≡ 1024 = min-gt (length ys) l in
+        let a = unchanged (rowsOf w (length ys)) (disorder (rowsOf w (length ys)) (length-rows w (length ys))) in
+        let b = unchanged ys (disorder ys refl) in
+        let q : rowsOf ws (length ys) ≡ rowsOf w (length ys) = s .table ∙ ap (λ (x : State). x .table) (a .0) in
+        let f : rowsOf ws 1024 ≡ take 1024 ys = sym (rows-first ws 1024 (length ys) (omega arith)) ∙ ap (take 1024) q ∙ rows-first w 1024 (length ys) (omega arith) ∙ sym (ap (rowsOf w) m) ∙ same ∙ ap (λ (k : ℕ). take k ys) m in
+        let d : rowsOf ws (min (length ys) 1024) ++ drop (min (length ys) 1024) ys ≡ ys = rw (m, f) (take-append-drop 1024 ys) in
+        (d ∙ sym (ap (λ (x : State). x .table) (b .0)), s .tally ∙ ap (λ (x : State). x .tally) (a .0) ∙ sym (ap (λ (x : State). x .tally) (b .0)), s .answer ∙ a .1 ∙ sym (b .1))
+
+  pub left : Left
+  left = go (test (leb (length ys) 1024))
+    where
+      go : (leb (length ys) 1024 ≡ true) ⊎ (leb (length ys) 1024 ≡ false) → Left
+      go (inl y) = left-few (leb-true (length ys) 1024 y)
+      go (inr f) = left-many (leb-false (length ys) 1024 f)

@@ -1,0 +1,82 @@
+-- `rises` meets its contract: the first i rows rise, to `last`.
+-- Assumes nothing.
+use mathlib.Core.Path.{_≡_, ap, sym, _∙_}
+use Prim.Native.Nat.{ℕ, suc, _-_, _≤_}
+use native.Mathlib.Omega.{arith}
+use borrow.Author.Needs.{needs}
+use borrow.Author.Tests.{not-true, not-false}
+use Rattle.model.specs.declared.Cap.{Cap}
+use Rattle.model.specs.Table.{rowInOrder}
+use Rattle.rules.specs.Words.{rowsIn}
+use Rattle.rules.specs.Engine.{nameAt, before}
+use Rattle.rules.proofs.Laws.Ordered.{Checked, checked-none, checked-more, checked-all, fails-name, fails-place, rowsInOrder-rise}
+use Rattle.rules.proofs.ordered.rises.Statement.{statement}
+use Rattle.rules.proofs.ordered.rises.Tie as tie
+
+abbrev Inv-loop : tie.InvT-loop
+Inv-loop words k issued last₀ hint₀ i₀ last hint i = (i ≤ k) × Checked (rowsIn words) i last
+
+abbrev μ-loop : tie.MeasureT-loop
+μ-loop words k issued last₀ hint₀ i₀ last hint i = k - i
+
+loop-holds : tie.Need-loop-holds Inv-loop μ-loop
+loop-holds c = (search needs, checked-none (rowsIn (c .args .words .now)))
+
+row-at-requires : tie.Need-row-at-requires Inv-loop μ-loop
+row-at-requires c κs = omega (arith, c .before .before .pre .0, c .loop-test .taken)
+
+returns : tie.Need-returns Inv-loop μ-loop
+returns c = let s = c .before .before .before .before .before in let T = rowsIn (s .args .words .now) in
+    let i : ℕ = c .before .before .before .before .loop .i in
+    let n : nameAt T i ≡ c .before .before .row-at .result .name .0 = ap (λ (d : Cap). d .name .0) (sym (c .before .before .row-at .ensures)) in
+    sym (fails-name T (suc (s .args .issued)) (s .args .k) i (c .before .before .before .before .loop .last) (c .before .before .before .before .loop .inv .1) (c .before .before .before .loop-test .taken) (s .pre .1) (omega (arith, n, c .if1 .taken)))
+
+find-near-requires : tie.Need-find-near-requires Inv-loop μ-loop
+find-near-requires c κs = let s = c .before .before .before .before .before in let T = rowsIn (s .args .words .now) in
+    let i : ℕ = c .before .before .before .before .loop .i in
+    let n : nameAt T i ≡ c .before .before .row-at .result .name .0 = ap (λ (d : Cap). d .name .0) (sym (c .before .before .row-at .ensures)) in
+    (omega (arith, s .pre .0, c .before .before .before .loop-test .taken), rowsInOrder-rise T (suc (c .before .before .before .before .loop .last)) i (λ j l. s .pre .1 j (omega (arith, c .before .before .before .loop-test .taken, l))) (c .before .before .before .before .loop .inv .1 .up))
+
+row-in-order-requires : tie.Need-row-in-order-requires Inv-loop μ-loop
+row-in-order-requires c κs = let s = c .before .before .before .before .before .before in let T = rowsIn (s .args .words .now) in
+    let i : ℕ = c .before .before .before .before .before .loop .i in
+    let n : nameAt T i ≡ c .before .before .before .row-at .result .name .0 = ap (λ (d : Cap). d .name .0) (sym (c .before .before .before .row-at .ensures)) in
+    (omega (arith, s .pre .0, c .before .before .before .before .loop-test .taken), rowsInOrder-rise T (suc (c .before .before .before .before .before .loop .last)) i (λ j l. s .pre .1 j (omega (arith, c .before .before .before .before .loop-test .taken, l))) (c .before .before .before .before .before .loop .inv .1 .up), c .find-near .ensures)
+
+returns-2 : tie.Need-returns-2 Inv-loop μ-loop
+returns-2 c = let s = c .before .before .before .before .before .before .before .before in let T = rowsIn (s .args .words .now) in
+    let i : ℕ = c .before .before .before .before .before .before .before .loop .i in
+    let n : nameAt T i ≡ c .before .before .before .before .before .row-at .result .name .0 = ap (λ (d : Cap). d .name .0) (sym (c .before .before .before .before .before .row-at .ensures)) in
+    sym (fails-place T (suc (s .args .issued)) (s .args .k) i (c .before .before .before .before .before .before .loop-test .taken) (ap (λ (d : Cap). rowInOrder d (before T i)) (sym (c .before .before .before .before .before .row-at .ensures)) ∙ sym (c .before .row-in-order .ensures) ∙ not-true (c .before .row-in-order .result) (c .if2 .taken)))
+
+add-i : tie.Need-add-i Inv-loop μ-loop
+add-i c = omega (arith, c .before .before .before .before .before .before .before .before .pre .0, c .before .before .before .before .before .before .loop-test .taken)
+
+loop-less : tie.Need-loop-less Inv-loop μ-loop
+loop-less c = omega (arith, c .before .before .before .before .before .before .loop-test .taken)
+
+loop-again : tie.Need-loop-again Inv-loop μ-loop
+loop-again c = let s = c .before .before .before .before .before .before .before .before in let T = rowsIn (s .args .words .now) in
+    let i : ℕ = c .before .before .before .before .before .before .before .loop .i in
+    let n : nameAt T i ≡ c .before .before .before .before .before .row-at .result .name .0 = ap (λ (d : Cap). d .name .0) (sym (c .before .before .before .before .before .row-at .ensures)) in
+    (omega (arith, c .before .before .before .before .before .before .loop-test .taken), rw (← n) (checked-more T i (c .before .before .before .before .before .before .before .loop .last) (c .before .before .before .before .before .before .before .loop .inv .1) (omega (arith, n, c .before .before .before .if1 .left)) (ap (λ (d : Cap). rowInOrder d (before T i)) (sym (c .before .before .before .before .before .row-at .ensures)) ∙ sym (c .before .row-in-order .ensures) ∙ not-false (c .before .row-in-order .result) (c .if2 .left))))
+
+returns-3 : tie.Need-returns-3 Inv-loop μ-loop
+returns-3 c = let s = c .before .before in let e : c .before .loop .i ≡ s .args .k = omega (arith, c .before .loop .inv .0, c .loop-test .left) in rw (← e) (checked-all (rowsIn (s .args .words .now)) (c .before .loop .i) (c .before .loop .last) (s .args .issued) (c .before .loop .inv .1))
+
+pub rises-spec : {M : Type 1} → statement M
+rises-spec =
+    tie.close
+    (tie.spec
+    Inv-loop
+    μ-loop
+    loop-holds
+    row-at-requires
+    returns
+    find-near-requires
+    row-in-order-requires
+    returns-2
+    add-i
+    loop-less
+    loop-again
+    returns-3)

@@ -1,0 +1,119 @@
+-- What the engine's functions promise each other, over the 1,024 rows T that the words have.
+-- Assumes nothing.
+use Prim.Native.Nat.{ℕ, zero, suc, _<_, _≤_, max}
+use mathlib.Core.Path.{_≡_}
+use mathlib.Core.Bool.{Bool, true, false, not, cond, _&&_}
+use mathlib.Core.List.{List, [], _∷_}
+use lib.Dec.{eqb, ltb}
+use lib.ListN.{length, getD, take}
+use Rattle.model.specs.declared.Span.{Span}
+use Rattle.model.specs.declared.Cap.{Cap}
+use Rattle.model.specs.declared.Access.{Access}
+use Rattle.model.specs.Lists.{consIf, any}
+use Rattle.model.specs.Values.{touches}
+use Rattle.model.specs.Derivation.{ancestry, inSubtree}
+use Rattle.model.specs.Strike.{Effect, Keep, Lower, End, effectOf}
+use Rattle.model.specs.Table.{emptyRow, span, derivations, named, rowsInOrder, inOrder}
+use Rattle.model.specs.Effects.{lowered}
+
+abbrev pub nameAt : List Cap → ℕ → ℕ
+nameAt T i = getD T i emptyRow .name .0
+
+abbrev pub parentAt : List Cap → ℕ → ℕ
+parentAt T i = getD T i emptyRow .parent .0
+
+-- the first k rows, the newest first
+unfoldable pub before : List Cap → ℕ → List Cap
+before T zero = []
+before T (suc k) = getD T k emptyRow ∷ before T k
+
+-- the first k rows are named
+abbrev pub Filled : List Cap → ℕ → Type 0
+Filled T k = (i : ℕ) → i < k → 0 < nameAt T i
+
+-- and their names rise
+pub record Rise (T : List Cap) (k : ℕ) : Type 0 where
+  pub positive : Filled T k
+  pub sorted : (i j : ℕ) → i < j → j < k → nameAt T i < nameAt T j
+
+-- k of n rows are before the first with name 0
+pub record Front (T : List Cap) (n k : ℕ) : Type 0 where
+  pub fits : k ≤ n
+  pub filled : Filled T k
+  pub stop : k < n → nameAt T k ≡ 0
+
+-- r is the place of the name x among the first k rows, or is not below k
+pub record Found (T : List Cap) (k x r : ℕ) : Type 0 where
+  pub fits : r ≤ k
+  pub here : r < k → nameAt T r ≡ x
+  pub gone : k ≤ r → any (named x) (before T k) ≡ false
+
+-- the first k rows are live, and rise
+pub record LiveRows (T : List Cap) (k : ℕ) : Type 0 where
+  pub bound : ℕ
+  pub few : k ≤ 1024
+  pub filled : Filled T k
+  pub rise : rowsInOrder bound (before T k) ≡ true
+
+-- the first n rows are in order, and k of them are live
+pub record Orderly (T : List Cap) (n k issued : ℕ) : Type 0 where
+  pub few : n ≤ 1024
+  pub front : Front T n k
+  pub ordered : inOrder (take n T) issued ≡ true
+
+-- words whose first k of n rows are live, and the others zeros
+pub record Ready (ws : List ℕ) (T : List Cap) (n k : ℕ) : Type 0 where
+  pub fits : k ≤ n
+  pub few : n ≤ 1024
+  pub long : length ws ≡ 6144
+  pub stands : LiveRows T k
+  pub zeros : (j : ℕ) → k ≤ j → j < n → getD T j emptyRow ≡ emptyRow
+
+-- the rows on the line of the name u are those with 1
+pub record OnAncestry (T : List Cap) (k u : ℕ) (marks : List ℕ) : Type 0 where
+  pub each : (i : ℕ) → i < k → eqb (getD marks i 0) 1 ≡ inSubtree (nameAt T i) (ancestry (derivations (before T k)) u)
+
+-- ---- marks: 0 keep, 1 lower, 2 end
+
+abbrev pub weight : Effect → ℕ
+weight Keep = 0
+weight Lower = 1
+weight End = 2
+
+-- the mark of a name
+abbrev pub mark : (ℕ → Bool) → (ℕ → Bool) → ℕ → ℕ
+mark ends lowers x = cond (ends x) 2 (cond (lowers x) 1 0)
+
+pub record Marked (T : List Cap) (k : ℕ) (marks : List ℕ) (ends lowers : ℕ → Bool) : Type 0 where
+  pub each : (i : ℕ) → i < k → getD marks i 0 ≡ mark ends lowers (nameAt T i)
+
+-- a holder's own mark, where its place on the user's line is told
+abbrev pub own : Access → Span → Span → Bool → ℕ
+own a s t on = cond (touches s t && not on) (weight (effectOf a)) 0
+
+pub record Owned (T : List Cap) (k : ℕ) (onLine : List ℕ) (a : Access) (s : Span) (marks : List ℕ) : Type 0 where
+  pub each : (i : ℕ) → i < k → getD marks i 0 ≡ own a s (span (getD T i emptyRow)) (eqb (getD onLine i 0) 1)
+
+-- 2 at q, and 0 elsewhere
+pub record Only (q : ℕ) (marks : List ℕ) : Type 0 where
+  pub each : (i : ℕ) → i < 1024 → getD marks i 0 ≡ cond (eqb i q) 2 0
+
+-- each mark is the greater of the row's own and its parent's
+pub record Spread (T : List Cap) (k : ℕ) (owned marks : List ℕ) : Type 0 where
+  pub child : (i q : ℕ) → i < k → q < i → nameAt T q ≡ parentAt T i → getD marks i 0 ≡ max (getD owned i 0) (getD marks q 0)
+  pub root : (i : ℕ) → i < k → any (named (parentAt T i)) (before T i) ≡ false → getD marks i 0 ≡ getD owned i 0
+
+-- the first k rows after their marks: those marked 2 go, those marked 1 become `ro`; the newest first
+unfoldable pub kept : List ℕ → List Cap → ℕ → List Cap
+kept marks T zero = []
+kept marks T (suc k) = consIf (ltb (getD marks k 0) 2) (lowered (eqb (getD marks k 0) 1) (getD T k emptyRow)) (kept marks T k)
+
+pub record Closes (marks : List ℕ) (T T′ : List Cap) (k r : ℕ) : Type 0 where
+  pub fits : r ≤ k
+  pub rows : before T′ r ≡ kept marks T k
+  pub rest : (j : ℕ) → k ≤ j → getD T′ j emptyRow ≡ getD T j emptyRow
+
+pub record Clears (T T′ : List Cap) (from to : ℕ) : Type 0 where
+  pub low : (j : ℕ) → j < from → getD T′ j emptyRow ≡ getD T j emptyRow
+  pub zeros : (j : ℕ) → from ≤ j → j < to → getD T′ j emptyRow ≡ emptyRow
+  pub rest : (j : ℕ) → to ≤ j → getD T′ j emptyRow ≡ getD T j emptyRow

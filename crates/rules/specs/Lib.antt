@@ -1,0 +1,4 @@
+pub mod Words
+pub mod Engine
+pub mod Stands
+pub mod Steps

@@ -1,0 +1,21 @@
+// The rules engine: one event on a table and a tally, proved equal to the definitions of the crate `model`.
+// `records::apply` is the call for a lent table of records; the rest works on the same table as words.
+use model::Answer;
+use model::Tally;
+
+mod count;
+pub mod find;
+mod judge;
+mod marks;
+pub mod ordered;
+pub mod records;
+mod settle;
+mod spans;
+pub mod steps;
+pub mod words;
+
+// What an event leaves of the tally, and its answer.
+pub struct Step {
+    pub tally: Tally,
+    pub answer: Answer,
+}

@@ -1,0 +1,140 @@
+// What an access or a drop takes: a mark for each row, 0 keep, 1 lower, 2 end.
+use model::Access;
+use model::Span;
+use crate::find::find;
+use crate::find::find_near;
+use crate::spans::do_touch;
+use crate::spans::span_of;
+use crate::words::row_at;
+ghost use mathlib.Core.Path.{_≡_};
+ghost use mathlib.Core.Bool.{false, cond};
+ghost use Prim.Native.Nat.{_≤_, max};
+ghost use lib.Dec.{ltb};
+ghost use lib.ListN.{getD};
+ghost use Rattle.model.specs.Table.{derivations};
+ghost use Rattle.model.specs.Strike.{isEnd, isLower, struck};
+ghost use Rattle.model.specs.Derivation.{ancestry, inSubtree};
+ghost use Rattle.rules.specs.Words.{rowsIn};
+ghost use Rattle.rules.specs.Engine.{before, Rise, LiveRows, OnAncestry, weight, own, Owned, Only, Marked, Spread};
+
+fn effect_mark(a: Access) -> u8
+    ensures { λ r. ⌜ r ≡ weight (Rattle.model.specs.Strike.effectOf a) ⌝ }
+{
+    match a {
+        Access::Reading => 1,
+        Access::Writing => 2,
+    }
+}
+
+fn larger(a: u8, b: u8) -> u8
+    ensures { λ r. ⌜ r ≡ max a b ⌝ }
+{
+    if a < b { b } else { a }
+}
+
+// The rows on the line of the name u have 1.
+fn ancestry_of(words: &[u32; 6144], k: usize, u: u32) -> [u8; 1024]
+    requires { ⌜ (k ≤ 1024) × Rise (rowsIn (now words)) k ⌝ }
+    ensures { λ r. ⌜ OnAncestry (rowsIn (now (words .entry))) k u r ⌝ }
+{
+    let mut line = [0u8; 1024];
+    let mut top = k;
+    let mut name = u;
+    while name != 0 {
+        let q = find(words, top, name);
+        if top <= q {
+            return line;
+        }
+        line[q] = 1;
+        let c = row_at(words, q);
+        name = c.parent.0;
+        top = q;
+    }
+    line
+}
+
+// A holder's own mark: what an access to s gives it, where `on` says that it is on the user's line.
+fn own_mark(a: Access, s: Span, t: Span, on: bool) -> u8
+    ensures { λ r. ⌜ r ≡ own a s t on ⌝ }
+{
+    if on {
+        return 0;
+    }
+    if do_touch(s, t) { effect_mark(a) } else { 0 }
+}
+
+// Each row's own mark.
+fn own_marks(words: &[u32; 6144], k: usize, line: &[u8; 1024], a: Access, s: Span) -> [u8; 1024]
+    requires { ⌜ k ≤ 1024 ⌝ }
+    ensures { λ r. ⌜ Owned (rowsIn (now (words .entry))) k (now (ancestry .entry)) a s r ⌝ }
+{
+    let mut marks = [0u8; 1024];
+    let mut i: usize = 0;
+    while i < k {
+        let c = row_at(words, i);
+        marks[i] = own_mark(a, s, span_of(c), line[i] == 1);
+        i += 1;
+    }
+    marks
+}
+
+// The mark at q, if q is below i.
+fn mark_below(marks: &[u8; 1024], q: usize, i: usize) -> u8
+    requires { ⌜ i ≤ 1024 ⌝ }
+    ensures { λ r. ⌜ r ≡ cond (ltb q i) (getD (now (marks .entry)) q 0) 0 ⌝ }
+{
+    if q < i { marks[q] } else { 0 }
+}
+
+// Each row's mark is the greater of its own and its parent's.
+fn spread(words: &[u32; 6144], k: usize, owned: [u8; 1024]) -> [u8; 1024]
+    requires { ⌜ (k ≤ 1024) × Rise (rowsIn (now words)) k ⌝ }
+    ensures { λ r. ⌜ Spread (rowsIn (now (words .entry))) k owned r ⌝ }
+{
+    let mut marks = owned;
+    let mut hint: usize = 0;
+    let mut i: usize = 0;
+    while i < k {
+        let c = row_at(words, i);
+        let q = find_near(words, i, c.parent.0, hint);
+        let up = mark_below(&marks, q, i);
+        marks[i] = larger(marks[i], up);
+        hint = q;
+        i += 1;
+    }
+    marks
+}
+
+// The marks of an access through the name u.
+pub fn marks_of_access(words: &[u32; 6144], k: usize, u: u32, a: Access, s: Span) -> [u8; 1024]
+    requires { ⌜ LiveRows (rowsIn (now words)) k ⌝ }
+    ensures { λ r. ⌜ Marked (rowsIn (now (words .entry))) k r
+        (struck isEnd a (births (before (rowsIn (now (words .entry))) k)) u s)
+        (struck isLower a (derivations (before (rowsIn (now (words .entry))) k)) u s) ⌝ }
+{
+    let line = ancestry_of(words, k, u);
+    let owned = own_marks(words, k, &line, a, s);
+    spread(words, k, owned)
+}
+
+// 2 at q, and 0 elsewhere.
+fn only_mark(q: usize) -> [u8; 1024]
+    ensures { λ r. ⌜ Only q r ⌝ }
+{
+    let mut marks = [0u8; 1024];
+    if q < 1024 {
+        marks[q] = 2;
+        return marks;
+    }
+    marks
+}
+
+// The marks of a drop of the name u.
+pub fn marks_of_drop(words: &[u32; 6144], k: usize, u: u32) -> [u8; 1024]
+    requires { ⌜ LiveRows (rowsIn (now words)) k ⌝ }
+    ensures { λ r. ⌜ Marked (rowsIn (now (words .entry))) k r
+        (λ x. inSubtree u (ancestry (derivations (before (rowsIn (now (words .entry))) k)) x)) (λ x. false) ⌝ }
+{
+    let q = find(words, k, u);
+    spread(words, k, only_mark(q))
+}

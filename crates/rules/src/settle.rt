@@ -1,0 +1,86 @@
+// Rows after their marks: the gaps close, and the rest is cleared.
+use model::Cap;
+use crate::words::row_at;
+use crate::words::set_row;
+ghost use mathlib.Core.Path.{_≡_};
+ghost use mathlib.Core.Bool.{cond};
+ghost use Prim.Native.Nat.{ℕ, _+_, _<_, _≤_};
+ghost use lib.ListN.{length, getD, set, take};
+ghost use lib.Dec.{eqb, ltb};
+ghost use Rattle.model.specs.Table.{emptyRow, lentTable};
+ghost use Rattle.model.specs.Effects.{lowered};
+ghost use Rattle.rules.specs.Words.{rowsIn};
+ghost use Rattle.rules.specs.Engine.{kept, Closes, Clears};
+
+// A row with `ro`, if its mark is 1.
+fn marked_row(c: Cap, mark: u8) -> Cap
+    ensures { λ r. ⌜ r ≡ lowered (eqb mark 1) c ⌝ }
+{
+    if mark == 1 {
+        let name = c.name;
+        let parent = c.parent;
+        let start = c.start;
+        Cap {
+            name,
+            parent,
+            start,
+            length: c.length,
+            right: 1,
+            depth: c.depth,
+        }
+    } else {
+        c
+    }
+}
+
+// The row i moves to the place `left`, unless its mark is 2; the answer is the next place.
+fn move_row(words: &mut [u32; 6144], i: usize, left: usize, mark: u8) -> usize
+    requires { ⌜ (left ≤ i) × (i < 1024) × (length (now words) ≡ 6144) ⌝ }
+    ensures { λ r. ⌜ (rowsIn (now (words .exit)) ≡ cond (ltb mark 2) (set (rowsIn (now (words .entry))) left (lowered (eqb mark 1) (getD (rowsIn (now (words .entry))) i emptyRow))) (rowsIn (now (words .entry))))
+        × (r ≡ cond (ltb mark 2) (left + 1) left)
+        × (length (now (words .exit)) ≡ 6144) ⌝ }
+{
+    if mark < 2 {
+        let c = row_at(words, i);
+        set_row(words, left, marked_row(c, mark));
+        left + 1
+    } else {
+        left
+    }
+}
+
+// The first k rows close up; the answer is how many are left.
+fn close(words: &mut [u32; 6144], k: usize, marks: &[u8; 1024]) -> usize
+    requires { ⌜ (k ≤ 1024) × (length (now words) ≡ 6144) ⌝ }
+    ensures { λ r. ⌜ Closes (now (marks .entry)) (rowsIn (now (words .entry))) (rowsIn (now (words .exit))) k r × (length (now (words .exit)) ≡ 6144) ⌝ }
+{
+    let mut left: usize = 0;
+    let mut i: usize = 0;
+    while i < k {
+        left = move_row(words, i, left, marks[i]);
+        i += 1;
+    }
+    left
+}
+
+// Zeros from one row up to another.
+fn clear(words: &mut [u32; 6144], from: usize, to: usize)
+    requires { ⌜ (from ≤ to) × (to ≤ 1024) × (length (now words) ≡ 6144) ⌝ }
+    ensures { λ _. ⌜ Clears (rowsIn (now (words .entry))) (rowsIn (now (words .exit))) from to × (length (now (words .exit)) ≡ 6144) ⌝ }
+{
+    let mut i = from;
+    while i < to {
+        set_row(words, i, crate::empty_row());
+        i += 1;
+    }
+}
+
+// Of n rows, the first k after their marks.
+pub fn settle(words: &mut [u32; 6144], n: usize, k: usize, marks: &[u8; 1024])
+    requires { ⌜ (k ≤ n) × (n ≤ 1024) × (length (now words) ≡ 6144)
+        × ((j : ℕ) → k ≤ j → j < n → getD (rowsIn (now words)) j emptyRow ≡ emptyRow) ⌝ }
+    ensures { λ _. ⌜ (take n (rowsIn (now (words .exit))) ≡ lentTable n (kept (now (marks .entry)) (rowsIn (now (words .entry))) k)) × (length (now (words .exit)) ≡ 6144) ⌝ }
+{
+    let left = close(words, k, marks);
+    clear(words, left, k);
+}
