@@ -7,7 +7,7 @@ use lib.ListN.{length}
 use Rattle.model.specs.declared.Cap.{Cap}
 use Rattle.model.specs.declared.Tally.{Tally}
 use Rattle.model.specs.declared.Event.{Event}
-use Rattle.rules.specs.declared.Step.{Step}
+use Rattle.rules.specs.declared.Outcome.{Outcome}
 use Rattle.model.specs.Step.{State, after}
 use Rattle.model.specs.Table
 use Rattle.model.specs.Refusals
@@ -21,7 +21,7 @@ use Rattle.rules.specs.Words.{rowsOf}
 abbrev pub heldIn : List ℕ → ℕ → Tally → State
 heldIn ws n t = record { table = rowsOf ws n; tally = t }
 
-pub record Stepped (ws : List ℕ) (n : ℕ) (t : Tally) (e : Event) (ws′ : List ℕ) (r : Step) : Type 0 where
+pub record Stepped (ws : List ℕ) (n : ℕ) (t : Tally) (e : Event) (ws′ : List ℕ) (r : Outcome) : Type 0 where
   pub table : rowsOf ws′ n ≡ after (heldIn ws n t) e .table
   pub tally : r .tally ≡ after (heldIn ws n t) e .tally
   pub answer : verdictOf (r .answer) ≡ Step.answer (heldIn ws n t) e

@@ -12,7 +12,7 @@ ghost use Rattle.model.specs.Step;
 
 // One more; 4,294,967,295 stays.
 fn count_up(n: u32) -> u32
-    ensures { λ r. ⌜ r ≡ Counts.more n ⌝ }
+    ensures { λ r. ⌜ r ≡ Counts.countUp n ⌝ }
 {
     if n < 4294967295 { n + 1 } else { n }
 }

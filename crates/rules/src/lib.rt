@@ -15,7 +15,7 @@ pub mod steps;
 pub mod words;
 
 // What an event leaves of the tally, and its answer.
-pub struct Step {
+pub struct Outcome {
     pub tally: Tally,
     pub answer: Answer,
 }

@@ -37,20 +37,20 @@ fn ancestry_of(words: &[u32; 6144], k: usize, u: u32) -> [u8; 1024]
     requires { ⌜ (k ≤ 1024) × Rise (rowsIn (now words)) k ⌝ }
     ensures { λ r. ⌜ OnAncestry (rowsIn (now (words .entry))) k u r ⌝ }
 {
-    let mut line = [0u8; 1024];
+    let mut ancestry = [0u8; 1024];
     let mut top = k;
     let mut name = u;
     while name != 0 {
         let q = find(words, top, name);
         if top <= q {
-            return line;
+            return ancestry;
         }
-        line[q] = 1;
+        ancestry[q] = 1;
         let c = row_at(words, q);
         name = c.parent.0;
         top = q;
     }
-    line
+    ancestry
 }
 
 // A holder's own mark: what an access to s gives it, where `on` says that it is on the user's line.
@@ -64,7 +64,7 @@ fn own_mark(a: Access, s: Span, t: Span, on: bool) -> u8
 }
 
 // Each row's own mark.
-fn own_marks(words: &[u32; 6144], k: usize, line: &[u8; 1024], a: Access, s: Span) -> [u8; 1024]
+fn own_marks(words: &[u32; 6144], k: usize, ancestry: &[u8; 1024], a: Access, s: Span) -> [u8; 1024]
     requires { ⌜ k ≤ 1024 ⌝ }
     ensures { λ r. ⌜ Owned (rowsIn (now (words .entry))) k (now (ancestry .entry)) a s r ⌝ }
 {
@@ -72,7 +72,7 @@ fn own_marks(words: &[u32; 6144], k: usize, line: &[u8; 1024], a: Access, s: Spa
     let mut i: usize = 0;
     while i < k {
         let c = row_at(words, i);
-        marks[i] = own_mark(a, s, span_of(c), line[i] == 1);
+        marks[i] = own_mark(a, s, span_of(c), ancestry[i] == 1);
         i += 1;
     }
     marks
@@ -109,11 +109,11 @@ fn spread(words: &[u32; 6144], k: usize, owned: [u8; 1024]) -> [u8; 1024]
 pub fn marks_of_access(words: &[u32; 6144], k: usize, u: u32, a: Access, s: Span) -> [u8; 1024]
     requires { ⌜ LiveRows (rowsIn (now words)) k ⌝ }
     ensures { λ r. ⌜ Marked (rowsIn (now (words .entry))) k r
-        (struck isEnd a (births (before (rowsIn (now (words .entry))) k)) u s)
+        (struck isEnd a (derivations (before (rowsIn (now (words .entry))) k)) u s)
         (struck isLower a (derivations (before (rowsIn (now (words .entry))) k)) u s) ⌝ }
 {
-    let line = ancestry_of(words, k, u);
-    let owned = own_marks(words, k, &line, a, s);
+    let ancestry = ancestry_of(words, k, u);
+    let owned = own_marks(words, k, &ancestry, a, s);
     spread(words, k, owned)
 }
 

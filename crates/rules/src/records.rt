@@ -54,7 +54,7 @@ fn store(table: &mut [Cap], n: usize, words: &[u32; 6144])
 // An event on the table and the tally that are lent.
 pub fn apply(table: &mut [Cap], tally: &mut Tally, event: Event) -> Answer
     ensures { λ r. ⌜ (now (table .exit) ≡ Step.after (lends (now (table .entry)) (now (tally .entry))) event .table)
-        × (now (tally .exit) ≡ Table.after (lends (now (table .entry)) (now (tally .entry))) event .tally)
+        × (now (tally .exit) ≡ Step.after (lends (now (table .entry)) (now (tally .entry))) event .tally)
         × (verdictOf r ≡ Step.answer (lends (now (table .entry)) (now (tally .entry))) event) ⌝ }
 {
     let mut words = [0u32; 6144];

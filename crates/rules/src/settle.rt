@@ -1,5 +1,6 @@
 // Rows after their marks: the gaps close, and the rest is cleared.
 use model::Cap;
+use crate::words::empty_row;
 use crate::words::row_at;
 use crate::words::set_row;
 ghost use mathlib.Core.Path.{_≡_};
@@ -70,7 +71,7 @@ fn clear(words: &mut [u32; 6144], from: usize, to: usize)
 {
     let mut i = from;
     while i < to {
-        set_row(words, i, crate::empty_row());
+        set_row(words, i, empty_row());
         i += 1;
     }
 }

@@ -6,7 +6,7 @@ use model::Event;
 use model::Name;
 use model::Refusal;
 use model::Span;
-use crate::Step;
+use crate::Outcome;
 use model::Tally;
 use crate::count::count_allowed;
 use crate::count::count_refused;
@@ -107,20 +107,20 @@ fn change(words: &mut [u32; 6144], n: usize, k: usize, issued: u32, e: Event)
 }
 
 // An event on a table in order.
-pub fn step_ordered(words: &mut [u32; 6144], n: usize, t: Tally, e: Event) -> Step
+pub fn step_ordered(words: &mut [u32; 6144], n: usize, t: Tally, e: Event) -> Outcome
     requires { ⌜ (n ≤ 1024) × (inOrder (rowsOf (now words) n) (t .issued) ≡ true) × (length (now words) ≡ 6144) ⌝ }
     ensures { λ r. ⌜ Stepped (now (words .entry)) n t e (now (words .exit)) r ⌝ }
 {
     let k = live_count(words, n);
     let a = judge(words, n, k, t.issued, e);
     match a {
-        Answer::Refused(x) => Step {
+        Answer::Refused(x) => Outcome {
             tally: count_refused(t),
             answer: Answer::Refused(x),
         },
         Answer::Allowed(x) => {
             change(words, n, k, t.issued, e);
-            Step {
+            Outcome {
                 tally: count_allowed(e, t),
                 answer: Answer::Allowed(x),
             }
@@ -129,7 +129,7 @@ pub fn step_ordered(words: &mut [u32; 6144], n: usize, t: Tally, e: Event) -> St
 }
 
 // An event on any table; above 1,024 rows it is refusal 1.
-pub fn step(words: &mut [u32; 6144], n: usize, t: Tally, e: Event) -> Step
+pub fn step(words: &mut [u32; 6144], n: usize, t: Tally, e: Event) -> Outcome
     requires { ⌜ length (now words) ≡ 6144 ⌝ }
     ensures { λ r. ⌜ Stepped (now (words .entry)) n t e (now (words .exit)) r ⌝ }
 {
@@ -139,7 +139,7 @@ pub fn step(words: &mut [u32; 6144], n: usize, t: Tally, e: Event) -> Step
             return step_ordered(words, n, t, e);
         }
     }
-    Step {
+    Outcome {
         tally: t,
         answer: Answer::Refused(Refusal::Disordered),
     }

@@ -23,7 +23,7 @@ use Rattle.rules.specs.declared.judge.Place.the-variants.{At, Not}
 use Rattle.model.specs.Lists.{first, any, all}
 use Rattle.model.specs.Values.{legal, inside}
 use Rattle.model.specs.Table.{emptyRow, span, named, liveRows, lookup, isRight, isEmptyRow, rowsInOrder}
-use Rattle.model.specs.Refusals.{notARight, illegalSpan, outsideSpan, above, tooDeep, standing, within, usable, room, checks, refusals, judge}
+use Rattle.model.specs.Refusals.{notARight, illegalSpan, outsideSpan, readOnly, tooDeep, standing, within, usable, room, checks, refusals, judge}
 use Rattle.model.specs.Step.{verdict}
 use Rattle.model.specs.Answers.{number}
 use Rattle.rules.specs.Engine.{before, Rise, LiveRows, Orderly}
@@ -64,11 +64,11 @@ module _ (rows : List Cap) (issued : ℕ) (u : Name) (s : Span) (r : ℕ) where
   serve-illegal h = rw h
 
   pub serve-not : (x : Refusal) → legal s ≡ true → first (standing rows issued u) ≡ number x → first (usable rows issued u s r) ≡ number x
-  serve-not x h e = rw h (first-append (standing rows issued u) ((6, outsideSpan rows issued u s) ∷ (7, above rows issued u r) ∷ []) refl ∙ rw (e, numbered x))
+  serve-not x h e = rw h (first-append (standing rows issued u) ((6, outsideSpan rows issued u s) ∷ (7, readOnly rows issued u r) ∷ []) refl ∙ rw (e, numbered x))
 
   module _ (c : Cap) (h : legal s ≡ true) (e : first (standing rows issued u) ≡ 0) (f : lookup (u .0) rows ≡ c) where
-    serve-rest : first (usable rows issued u s r) ≡ first ((6, outsideSpan rows issued u s) ∷ (7, above rows issued u r) ∷ [])
-    serve-rest = rw h (first-append (standing rows issued u) ((6, outsideSpan rows issued u s) ∷ (7, above rows issued u r) ∷ []) refl ∙ rw e)
+    serve-rest : first (usable rows issued u s r) ≡ first ((6, outsideSpan rows issued u s) ∷ (7, readOnly rows issued u r) ∷ [])
+    serve-rest = rw h (first-append (standing rows issued u) ((6, outsideSpan rows issued u s) ∷ (7, readOnly rows issued u r) ∷ []) refl ∙ rw e)
 
     pub serve-outside : inside s (span c) ≡ false → first (usable rows issued u s r) ≡ 6
     serve-outside i = serve-rest ∙ rw (f, i)
@@ -140,13 +140,13 @@ module _ (T : List Cap) (n k issued : ℕ) (l : n ≤ length T) (o : Orderly T n
 
   -- a read needs no more than `ro`
   pub orderly-read : (u : Name) (s : Span) → first (usable (before T k) issued u s 1) ≡ first (within (before T k) issued u s)
-  orderly-read u s = first-append (within (before T k) issued u s) ((7, above (before T k) issued u 1) ∷ []) refl ∙ go (test (eqb (first (within (before T k) issued u s)) 0))
+  orderly-read u s = first-append (within (before T k) issued u s) ((7, readOnly (before T k) issued u 1) ∷ []) refl ∙ go (test (eqb (first (within (before T k) issued u s)) 0))
     where
       low : (c : Cap) → 1 ≤ c .right → first ((7, ltb (c .right) 1) ∷ []) ≡ 0
       low c b = rw (le-ltb (c .right) 1 b)
 
       go : (eqb (first (within (before T k) issued u s)) 0 ≡ true) ⊎ (eqb (first (within (before T k) issued u s)) 0 ≡ false)
-          → cond (eqb (first (within (before T k) issued u s)) 0) (first ((7, above (before T k) issued u 1) ∷ [])) (first (within (before T k) issued u s)) ≡ first (within (before T k) issued u s)
+          → cond (eqb (first (within (before T k) issued u s)) 0) (first ((7, readOnly (before T k) issued u 1) ∷ [])) (first (within (before T k) issued u s)) ≡ first (within (before T k) issued u s)
       go (inl y) =
           let z : first (within (before T k) issued u s) ≡ 0 = eqb-true (first (within (before T k) issued u s)) 0 y in
           let p = place-of T k (u .0) (not-false (any (named (u .0)) (before T k)) (first-none (within (before T k) issued u s) refl z 5)) in

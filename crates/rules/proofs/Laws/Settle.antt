@@ -109,9 +109,9 @@ before-lent T n r b l z =
         let s : j < n - r = omega (arith, long) in
         getD-take (n - r) (drop r T) j emptyRow s ∙ getD-drop r T j emptyRow ∙ z (r + j) (omega arith) (omega arith) ∙ sym (getD-replicate (n - r) j emptyRow emptyRow s))
 
-pub outcome-lent : (marks : List ℕ) (T U W : List Cap) (n k r : ℕ) → k ≤ n → n ≤ length W → ((j : ℕ) → k ≤ j → j < n → getD T j emptyRow ≡ emptyRow)
+pub settled-lent : (marks : List ℕ) (T U W : List Cap) (n k r : ℕ) → k ≤ n → n ≤ length W → ((j : ℕ) → k ≤ j → j < n → getD T j emptyRow ≡ emptyRow)
     → Closes marks T U k r → Clears U W r k → take n W ≡ lentTable n (kept marks T k)
-outcome-lent marks T U W n k r b l z c d =
+settled-lent marks T U W n k r b l z c d =
     before-lent W n r (omega (arith, c .fits)) l (λ j m h. go j m h (test (ltb j k)))
     ∙ ap (lentTable n) (before-same W U r (d .low) ∙ c .rows)
   where

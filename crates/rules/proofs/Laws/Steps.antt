@@ -17,7 +17,7 @@ use Rattle.model.specs.declared.Cap.{Cap}
 use Rattle.model.specs.declared.Access.{Access}
 use Rattle.model.specs.declared.Access.the-variants.{Reading, Writing}
 use Rattle.model.specs.declared.Tally.{Tally}
-use Rattle.rules.specs.declared.Step.{Step}
+use Rattle.rules.specs.declared.Outcome.{Outcome}
 use Rattle.model.specs.declared.Event.{Event}
 use Rattle.model.specs.declared.Event.the-variants.{Create, Borrow, Read, Write, Drop}
 use Rattle.model.specs.declared.Refusal.{Refusal}
@@ -104,10 +104,10 @@ first-above (c ∷ cs) h e = let p = and-both (ltb 1 (c .0)) (all (λ c. ltb 1 (
     go (inl t) l ih = let q : c .0 ≡ 1 = rw t at e in omega arith
     go (inr f) l ih = ih (rw f at e)
 
-outcome-refused : (h : State) (e : Event) (j : ℕ) → (j ≡ 0 → ⊥) → (j ≡ 1 → ⊥) → (outcome j h e .table ≡ h .table) × (outcome j h e .tally ≡ countRefused (h .tally))
-outcome-refused h e zero a b = absurd (a refl)
-outcome-refused h e (suc zero) a b = absurd (b refl)
-outcome-refused h e (suc (suc j)) a b = (refl, refl)
+settled-refused : (h : State) (e : Event) (j : ℕ) → (j ≡ 0 → ⊥) → (j ≡ 1 → ⊥) → (outcome j h e .table ≡ h .table) × (outcome j h e .tally ≡ countRefused (h .tally))
+settled-refused h e zero a b = absurd (a refl)
+settled-refused h e (suc zero) a b = absurd (b refl)
+settled-refused h e (suc (suc j)) a b = (refl, refl)
 
 module _ (ws : List ℕ) (n : ℕ) (t : Tally) (e : Event) where
   -- a table out of order
@@ -120,14 +120,11 @@ module _ (ws : List ℕ) (n : ℕ) (t : Tally) (e : Event) where
   too-many l = rw (length-rows ws n, lt-leb n 1024 l)
 
   module _ (k : ℕ) (few : n ≤ 1024) (o : Orderly (rowsIn ws) n k (t .issued)) where
-    stateAfter : take n (rowsIn ws) ≡ rowsOf ws n
-    stateAfter = in-first ws n few
-
-    verdict : ℕ
-    verdict = judge (rowsOf ws n) (t .issued) e
+    same-rows : take n (rowsIn ws) ≡ rowsOf ws n
+    same-rows = in-first ws n few
 
     same : judge (take n (rowsIn ws)) (t .issued) e ≡ judge (rowsOf ws n) (t .issued) e
-    same = ap (λ (l : List Cap). judge l (t .issued) e) stateAfter
+    same = ap (λ (l : List Cap). judge l (t .issued) e) same-rows
 
     pub allowed-zero : (x : Name) → verdictOf (Allowed x) ≡ verdict (judge (take n (rowsIn ws)) (t .issued) e) (newName (t .issued) e) → judge (take n (rowsIn ws)) (t .issued) e ≡ 0
     allowed-zero x q = sym (ap (λ (r : Verdict). r .refusal) q)
@@ -147,15 +144,15 @@ module _ (ws : List ℕ) (n : ℕ) (t : Tally) (e : Event) where
         zero-is = sym same ∙ allowed-zero x q
 
         live-of : liveRows (rowsOf ws n) ≡ before (rowsIn ws) k
-        live-of = ap liveRows (sym stateAfter) ∙ live-is ws n k (t .issued) o
+        live-of = ap liveRows (sym same-rows) ∙ live-is ws n k (t .issued) o
 
     -- a refused one
     pub stepped-refused : (y : Tally) (x : Refusal) → verdictOf (Refused x) ≡ verdict (judge (take n (rowsIn ws)) (t .issued) e) (newName (t .issued) e) → y ≡ countRefused t → length ws ≡ 6144
         → Stepped ws n t e ws (record { tally = y; answer = Refused x })
     unfolding after answer
     stepped-refused y x q c l = record {
-      table = sym (outcome-refused (heldIn ws n t) e (judge (rowsOf ws n) (t .issued) e) not-0 not-1 .0);
-      tally = c ∙ sym (outcome-refused (heldIn ws n t) e (judge (rowsOf ws n) (t .issued) e) not-0 not-1 .1);
+      table = sym (settled-refused (heldIn ws n t) e (judge (rowsOf ws n) (t .issued) e) not-0 not-1 .0);
+      tally = c ∙ sym (settled-refused (heldIn ws n t) e (judge (rowsOf ws n) (t .issued) e) not-0 not-1 .1);
       answer = q ∙ ap (λ (j : ℕ). verdict j (newName (t .issued) e)) same;
       long = l;
     }
@@ -211,7 +208,7 @@ rows-first ws m n l =
     long = length-take-le m (rowsOf ws n) (omega (arith, length-rows ws n))
 
 -- what an event leaves of the records, by way of words
-module _ (ys : List Cap) (t : Tally) (e : Event) (w ws : List ℕ) (r : Step) (same : rowsOf w (min (length ys) 1024) ≡ take (min (length ys) 1024) ys) (s : Stepped w (length ys) t e ws r) where
+module _ (ys : List Cap) (t : Tally) (e : Event) (w ws : List ℕ) (r : Outcome) (same : rowsOf w (min (length ys) 1024) ≡ take (min (length ys) 1024) ys) (s : Stepped w (length ys) t e ws r) where
   abbrev Left : Type 0
   Left = (rowsOf ws (min (length ys) 1024) ++ drop (min (length ys) 1024) ys ≡ after (lends ys t) e .table) × (r .tally ≡ after (lends ys t) e .tally) × (verdictOf (r .answer) ≡ answer (lends ys t) e)
 

@@ -6,7 +6,7 @@ use Rattle.rules.proofs.count.count_allowed.Statement.{statement}
 use Rattle.rules.proofs.count.count_allowed.Tie as tie
 
 returns : tie.Need-returns
-returns c = rw (c .before .before .enum-history .given .1, c .count-up .ensures, add-one)
+returns c = rw (c .before .before .enum-told .given .1, c .count-up .ensures, add-one)
 
 returns-2 : tie.Need-returns-2
 returns-2 c = rw (c .before .before .enum-told2 .given .1, c .count-up2 .ensures, add-one)
@@ -20,8 +20,8 @@ returns-4 c = rw (c .before .enum-told4 .given .1, c .count-up4 .ensures)
 returns-5 : tie.Need-returns-5
 returns-5 c = rw (c .before .enum-told5 .given .1, c .count-up5 .ensures)
 
-pub count_allowed-spec : {M : Type 1} → statement M
-count_allowed-spec =
+pub count-allowed-spec : {M : Type 1} → statement M
+count-allowed-spec =
     tie.close
     (tie.spec
     (λ c. search needs)

@@ -7,5 +7,5 @@ use Rattle.rules.proofs.count.count_refused.Tie as tie
 returns : tie.Need-returns
 returns c = rw (c .count-up .ensures)
 
-pub turned-down-spec : {M : Type 1} → statement M
-turned-down-spec = tie.close (tie.spec (λ c κs. search needs) returns)
+pub count-refused-spec : {M : Type 1} → statement M
+count-refused-spec = tie.close (tie.spec (λ c κs. search needs) returns)

@@ -5,10 +5,10 @@ use Rattle.rules.proofs.judge.place_answer.Statement.{statement}
 use Rattle.rules.proofs.judge.place_answer.Tie as tie
 
 returns : tie.Need-returns
-returns c = rw (c .enum-history .given .1)
+returns c = rw (c .enum-told .given .1)
 
 returns-2 : tie.Need-returns-2
 returns-2 c = rw (c .before .p .given .1)
 
-pub use-answer-spec : {M : Type 1} → statement M
-use-answer-spec = tie.close (tie.spec (λ c. search needs) (λ c. search needs) returns returns-2)
+pub place-answer-spec : {M : Type 1} → statement M
+place-answer-spec = tie.close (tie.spec (λ c. search needs) (λ c. search needs) returns returns-2)

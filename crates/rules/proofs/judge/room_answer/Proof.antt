@@ -15,5 +15,5 @@ returns-2 c = rw (lt-leb _ _ (c .before .if1 .left), le-leb _ _ (c .if2 .taken))
 returns-3 : tie.Need-returns-3
 returns-3 c = rw (lt-leb _ _ (c .before .if1 .left), lt-leb _ _ (c .if2 .left), add-one)
 
-pub new-answer-spec : {M : Type 1} → statement M
-new-answer-spec = tie.close (tie.spec returns returns-2 (λ c. search needs) returns-3)
+pub room-answer-spec : {M : Type 1} → statement M
+room-answer-spec = tie.close (tie.spec returns returns-2 (λ c. search needs) returns-3)

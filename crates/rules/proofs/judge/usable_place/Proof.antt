@@ -60,8 +60,8 @@ returns-5 c =
     let ins : inside (s .args .s) (span (c .before .before .before .before .before .row-at .result)) ≡ c .before .before .before .is-inside .result = sym (c .before .before .before .is-inside .ensures ∙ ap (inside (s .args .s)) (c .before .before .before .before .span-of .ensures)) in
     (serve (before T (s .args .k)) (s .args .issued) (s .args .u) (s .args .s) (s .args .right) (c .before .before .before .before .before .row-at .result) lg (st .0) sk (ins ∙ not-false (c .before .before .before .is-inside .result) (c .before .before .if2 .left)) (c .if3 .left), st .1, st .2)
 
-pub use-of-spec : {M : Type 1} → statement M
-use-of-spec =
+pub usable-place-spec : {M : Type 1} → statement M
+usable-place-spec =
     tie.close
     (tie.spec
     (λ c κs. search needs)

@@ -17,6 +17,6 @@ spread-requires c κs = (c .before .before .before .pre .few, stand-rise (rowsIn
 returns : tie.Need-returns
 returns c = let s = c .before .before .before .before in marked-use (rowsIn (s .args .words .now)) (s .args .k) (s .pre) (s .args .a) (s .args .s) (s .args .u) (c .before .before .before .ancestry-of .result) (c .before .own-marks .result) (c .spread .result) (c .before .before .before .ancestry-of .ensures) (c .before .own-marks .ensures) (c .spread .ensures)
 
-pub marks-of-use-spec : {M : Type 1} → statement M
-marks-of-use-spec =
+pub marks-of-access-spec : {M : Type 1} → statement M
+marks-of-access-spec =
     tie.close (tie.spec ancestry-of-requires own-marks-requires spread-requires returns)

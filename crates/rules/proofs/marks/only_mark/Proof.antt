@@ -11,5 +11,5 @@ returns c = only-set (c .before .args .q) (c .if1 .taken)
 returns-2 : tie.Need-returns-2
 returns-2 c = only-none (c .before .args .q) (c .if1 .left)
 
-pub only_mark-spec : {M : Type 1} → statement M
-only_mark-spec = tie.close (tie.spec (λ c. search needs) returns returns-2)
+pub only-mark-spec : {M : Type 1} → statement M
+only-mark-spec = tie.close (tie.spec (λ c. search needs) returns returns-2)

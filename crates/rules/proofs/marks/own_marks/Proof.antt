@@ -19,7 +19,7 @@ abbrev μ-loop : tie.MeasureT-loop
 μ-loop words k ancestry a s marks₀ i₀ marks i = k - i
 
 loop-holds : tie.Need-loop-holds Inv-loop μ-loop
-loop-holds c = (omega arith, length-replicate {A = ℕ} 1024 0, owned-none (rowsIn (c .args .words .now)) (c .args .line .now) (c .args .a) (c .args .s) _)
+loop-holds c = (omega arith, length-replicate {A = ℕ} 1024 0, owned-none (rowsIn (c .args .words .now)) (c .args .ancestry .now) (c .args .a) (c .args .s) _)
 
 row-at-requires : tie.Need-row-at-requires Inv-loop μ-loop
 row-at-requires c κs = omega (arith, c .before .before .pre, c .loop-test .taken)
@@ -45,9 +45,9 @@ loop-less c = omega (arith, c .before .before .before .before .loop-test .taken)
 loop-again : tie.Need-loop-again Inv-loop μ-loop
 loop-again c =
     let s = c .before .before .before .before .before .before in let T = rowsIn (s .args .words .now) in
-    let e : c .own-mark .result ≡ own (s .args .a) (s .args .s) (span (getD T (c .before .before .before .before .before .loop .i) emptyRow)) (eqb (getD (s .args .line .now) (c .before .before .before .before .before .loop .i) 0) 1) =
-    c .own-mark .ensures ∙ ap (λ t. own (s .args .a) (s .args .s) t (eqb (getD (s .args .line .now) (c .before .before .before .before .before .loop .i) 0) 1)) (c .before .before .span-of .ensures ∙ ap span (c .before .before .before .row-at .ensures)) in
-    (omega (arith, c .before .before .before .before .loop-test .taken), simp length-set (c .before .before .before .before .before .loop .inv .1), owned-more T (c .before .before .before .before .before .loop .i) (s .args .line .now) (s .args .a) (s .args .s) (c .before .before .before .before .before .loop .marks) (c .own-mark .result) (omega (arith, s .pre, c .before .before .before .before .loop-test .taken, c .before .before .before .before .before .loop .inv .1)) e (c .before .before .before .before .before .loop .inv .2))
+    let e : c .own-mark .result ≡ own (s .args .a) (s .args .s) (span (getD T (c .before .before .before .before .before .loop .i) emptyRow)) (eqb (getD (s .args .ancestry .now) (c .before .before .before .before .before .loop .i) 0) 1) =
+    c .own-mark .ensures ∙ ap (λ t. own (s .args .a) (s .args .s) t (eqb (getD (s .args .ancestry .now) (c .before .before .before .before .before .loop .i) 0) 1)) (c .before .before .span-of .ensures ∙ ap span (c .before .before .before .row-at .ensures)) in
+    (omega (arith, c .before .before .before .before .loop-test .taken), simp length-set (c .before .before .before .before .before .loop .inv .1), owned-more T (c .before .before .before .before .before .loop .i) (s .args .ancestry .now) (s .args .a) (s .args .s) (c .before .before .before .before .before .loop .marks) (c .own-mark .result) (omega (arith, s .pre, c .before .before .before .before .loop-test .taken, c .before .before .before .before .before .loop .inv .1)) e (c .before .before .before .before .before .loop .inv .2))
 
 returns : tie.Need-returns Inv-loop μ-loop
 returns c = let e : c .before .loop .i ≡ c .before .before .args .k = omega (arith, c .before .loop .inv .0, c .loop-test .left) in rw (← e) (c .before .loop .inv .2)

@@ -48,8 +48,8 @@ loop-again c =
 returns-2 : tie.Need-returns-2 Inv-loop μ-loop
 returns-2 c = let T = rowsIn (c .before .before .args .words .now) in sym (c .before .loop .inv .1 ∙ emptyRow-end T (c .before .before .args .n) (c .before .loop .i) (omega (arith, length-in (c .before .before .args .words .now), c .before .before .pre .1)) (c .loop-test .left) (c .before .loop .inv .0))
 
-pub zeros-last-spec : {M : Type 1} → statement M
-zeros-last-spec =
+pub rest-is-empty-spec : {M : Type 1} → statement M
+rest-is-empty-spec =
     tie.close
     (tie.spec
     Inv-loop

@@ -24,8 +24,8 @@ returns-4 : tie.Need-returns-4
 unfolding rowFitsParent
 returns-4 c = let e : inside (span (c .before .before .before .before .before .before .before .before .before .before .before .args .c)) (span (c .before .before .before .before .before .before .before .before .before .before .before .args .p)) ≡ c .before .before .before .before .before .before .before .before .is-inside .result = sym (c .before .before .before .before .before .before .before .before .is-inside .ensures ∙ ap₂ inside (c .before .before .before .before .before .before .before .before .before .before .span-of .ensures) (c .before .before .before .before .before .before .before .before .before .span-of2 .ensures)) in rw (e, not-false (c .before .before .before .before .before .before .before .before .is-inside .result) (c .before .before .before .before .before .before .before .if1 .left), le-leb _ _ (c .before .before .before .before .if2 .left), eq-eqb _ _ (c .before .if3 .left))
 
-pub is-under-spec : {M : Type 1} → statement M
-is-under-spec =
+pub row-fits-parent-spec : {M : Type 1} → statement M
+row-fits-parent-spec =
     tie.close
     (tie.spec
     (λ c κs. search needs)

@@ -33,8 +33,8 @@ returns-5 : tie.Need-returns-5
 unfolding rowInOrder parentInOrder
 returns-5 c = let e : legal (span (c .before .before .before .before .before .before .before .before .args .c)) ≡ c .before .before .before .before .before .before .is-legal .result = sym (c .before .before .before .before .before .before .is-legal .ensures ∙ ap legal (c .before .before .before .before .before .before .before .span-of .ensures)) in let f : isRight (c .before .before .before .before .before .before .before .before .args .c .right) ≡ c .before .before .before .before .is-right .result = sym (c .before .before .before .before .is-right .ensures) in rw (e, not-false (c .before .before .before .before .before .before .is-legal .result) (c .before .before .before .before .before .if1 .left), f, not-false (c .before .before .before .before .is-right .result) (c .before .before .before .if2 .left), ne-eqb _ _ (c .before .if3 .left), c .before .before .before .before .before .before .before .before .pre .2 .gone (c .if4 .left))
 
-pub is-placed-spec : {M : Type 1} → statement M
-is-placed-spec =
+pub row-in-order-spec : {M : Type 1} → statement M
+row-in-order-spec =
     tie.close
     (tie.spec
     (λ c κs. search needs)

@@ -21,7 +21,7 @@ use ghost.Atoms.{Atoms, sem}
 use contract.Monad.{Fun, fact}
 use contract.Running.{givenOf, tables, tablesOf}
 use contract.Lifetimes.{AllOutlive}
-use types.Kit.{Given, ‵, raw, newName, some, later, _⊛_, ⋆, _$_, _∵_, !, qed, by, move, consIf, drop, use1, use2, use3, split, join, pick, learn, rewrite, check, fsplit, fsplit3, fjoin, fjoin3, feqL, feqI, suffices, frame, await, updating, now as at-once, show, done}
+use types.Kit.{Given, ‵, raw, given, some, later, _⊛_, ⋆, _$_, _∵_, !, qed, by, move, keep, drop, use1, use2, use3, split, join, pick, learn, rewrite, check, fsplit, fsplit3, fjoin, fjoin3, feqL, feqI, suffices, frame, await, updating, now as at-once, show, done}
 use types.Part.{agg, rep, whole, sub, look-in}
 use types.Run.{look, look-raw, store, store-raw, init, forget, stop, hop, fld, from, load, lit, of-opd, addr, and-then, no-more, assigns, land, returns, enter, alloc1, alloc0, params1, pass1, pass0, free1, free0}
 use types.SemTy.{Body}
@@ -52,18 +52,18 @@ use denote.Exit.{yes}
 use Rattle.model.specs.declared.Cap.{Cap}
 use Rattle.model.specs.declared.Tally.{Tally}
 use Rattle.model.specs.declared.Event.{Event}
-use Rattle.rules.specs.declared.Step.{Step}
+use Rattle.rules.specs.declared.Outcome.{Outcome}
 use Rattle.rules.specs.Words.{flat, rowsOf}
 use Rattle.rules.specs.Steps.{Stepped}
-use Rattle.rules.proofs.Cap as T
-use Rattle.rules.proofs.Tally as L
-use Rattle.rules.proofs.Tally.Laws as L′
-use Rattle.rules.proofs.Step as O
-use Rattle.rules.proofs.Step.Laws as O′
-use Rattle.rules.proofs.Event as E
-use Rattle.rules.proofs.Event.Laws as E′
-use Rattle.rules.proofs.Answer as N
-use Rattle.rules.proofs.Answer.Laws as N′
+use Rattle.model.proofs.Cap as T
+use Rattle.model.proofs.Tally as L
+use Rattle.model.proofs.Tally.Laws as L′
+use Rattle.rules.proofs.Outcome as O
+use Rattle.rules.proofs.Outcome.Laws as O′
+use Rattle.model.proofs.Event as E
+use Rattle.model.proofs.Event.Laws as E′
+use Rattle.model.proofs.Answer as N
+use Rattle.model.proofs.Answer.Laws as N′
 use Rattle.rules.proofs.Laws.Records.{length-flat, length-stored}
 use Rattle.rules.proofs.Laws.Steps.{left}
 use Rattle.rules.proofs.Walks.Shared.{Kept, shares-out, shares-back}
@@ -200,7 +200,7 @@ module _ {M : Type 1} (𝓤 : URA M) (H : Heap 𝓤) (A : Atoms 𝓤) (W : Given
         split ! $ move ! (1 ∷ []) $ use1 W (some (λ (zs : Unit {0} × (Unit {0} × (List ℕ × Unit {0}))). ‵ (lasts load′.ended (ν ∷ [], (μ ∷ [], tt)) (table γ₁, (m, (words l δ w₀, tt))) zs) ⊛ raw (fact 𝓤 ((zs .1 .1 .0 ≡ w₁) × (rowsOf (zs .1 .1 .0) m ≡ take m ys))))) (id⊢ 𝓤 _) $ pick ! (λ zs.
         split ! $ move ! (1 ∷ []) $ heard ! ((zs .1 .1 .0 ≡ w₁) × (rowsOf (zs .1 .1 .0) m ≡ take m ys)) (λ e. fsplit ! $ drop ! $ fsplit ! $ drop ! $ fsplit ! $ rewrite ! 0 (λ (z : List ℕ). ‵ (fres δ (Ws .coded .code z))) (e .0) refl $
         -- [res; true; the tokens and the result]
-        move ! (2 ∷ []) $ split ! $ move ! (1 ∷ []) $ feqL ! (λ u. at-once ! $ check ! (ap only u, ap (λ (z : List ℕ). rowsOf z m) (sym (e .0)) ∙ e .1) $ split ! $ move ! (1 ∷ []) $ split ! $ consIf ! (2 ∷ 0 ∷ 3 ∷ []) $ done !))))
+        move ! (2 ∷ []) $ split ! $ move ! (1 ∷ []) $ feqL ! (λ u. at-once ! $ check ! (ap only u, ap (λ (z : List ℕ). rowsOf z m) (sym (e .0)) ∙ e .1) $ split ! $ move ! (1 ∷ []) $ split ! $ keep ! (2 ∷ 0 ∷ 3 ∷ []) $ done !))))
 
   -- ---- `core`, with the words lent for ρ
   module _ (l ρ : ℕ) (δ : GName) where
@@ -219,18 +219,18 @@ module _ {M : Type 1} (𝓤 : URA M) (H : Heap 𝓤) (A : Atoms 𝓤) (W : Given
         nothing ! $ owned ! E.the-row (Is E.the-row) (EL.makes E.the-type E′.the-plain 𝓤 H A) x _ x-is $ fjoin ! $ owned ! L.the-row (Is L.the-row) (LL.makes L.the-type L′.the-plain 𝓤 H A) t _ is $ fjoin ! $
         owned ! usize (Is usize) (uint-makes 𝓤 H A W w64) n _ (refl, room .0) $ fjoin ! $ move ! (1 ∷ 0 ∷ []) $ fjoin ! $ done !
 
-    abbrev Done : Val → List ℕ × Step → Type 0
+    abbrev Done : Val → List ℕ × Outcome → Type 0
     Done v p = (v ≡ LL.val O.the-type O′.the-laws (p .1)) × Is O.the-row (p .1) (LL.val O.the-type O′.the-laws (p .1) ∷ []) × Stepped w₁ n t x (p .0) (p .1)
 
-    gives-core : (v : Val) → ent 𝓤 (Core 𝓤 H A mem′ run .post to-core v) (H .⇛ (ex 𝓤 (λ (p : List ℕ × Step). guard 𝓤 (Done v p) (sep 𝓤 (A .lft (ρ ∷ []) fullShare) (A .res δ (Ws .coded .code (p .0)))))))
+    gives-core : (v : Val) → ent 𝓤 (Core 𝓤 H A mem′ run .post to-core v) (H .⇛ (ex 𝓤 (λ (p : List ℕ × Outcome). guard 𝓤 (Done v p) (sep 𝓤 (A .lft (ρ ∷ []) fullShare) (A .res δ (Ws .coded .code (p .0)))))))
     gives-core v =
         qed W (raw (Core 𝓤 H A mem′ run .post to-core v) ∷ []) ∵ updating ! $
-        use1 W (later (some (λ (r : Step). ((‵ (flft (ρ ∷ []) fullShare) ⊛ ‵ ftrue) ⊛ ‵ (O.the-row .own r (v ∷ []))) ⊛ raw (ensured 𝓤 H A core.ended (core.clauses 𝓤 H A mem′ run) (ρ ∷ [], tt) (words l δ w₁, (n, (t, (x, tt)))) tt r)))) (id⊢ 𝓤 _) $ await ! tt $ pick ! (λ r.
+        use1 W (later (some (λ (r : Outcome). ((‵ (flft (ρ ∷ []) fullShare) ⊛ ‵ ftrue) ⊛ ‵ (O.the-row .own r (v ∷ []))) ⊛ raw (ensured 𝓤 H A core.ended (core.clauses 𝓤 H A mem′ run) (ρ ∷ [], tt) (words l δ w₁, (n, (t, (x, tt)))) tt r)))) (id⊢ 𝓤 _) $ await ! tt $ pick ! (λ r.
         split ! $ move ! (1 ∷ []) $ use1 W (some (λ (zs : List ℕ × (Unit {0} × (Unit {0} × (Unit {0} × Unit {0})))). ‵ (lasts core.ended (ρ ∷ [], tt) (words l δ w₁, (n, (t, (x, tt)))) zs) ⊛ raw (fact 𝓤 (Stepped w₁ n t x (zs .0) r)))) (id⊢ 𝓤 _) $ pick ! (λ zs.
         split ! $ move ! (1 ∷ []) $ heard ! (Stepped w₁ n t x (zs .0) r) (λ e. fsplit ! $ move ! (2 ∷ []) $ split ! $ move ! (1 ∷ []) $
         -- [what the result owns; the token; res; true]
-        peeks ! O.the-row (Is O.the-row) (shows 𝓤 H A O.the-row) r (v ∷ []) (λ is. at-once ! $ drop ! $ split ! $ show ! (λ (p : List ℕ × Step). guard 𝓤 (Done v p) (sep 𝓤 (A .lft (ρ ∷ []) fullShare) (A .res δ (Ws .coded .code (p .0))))) (zs .0, r) $
-        check ! (ap only (LL.tells O.the-type O′.the-laws r (v ∷ []) is), subst (Is O.the-row r) (LL.tells O.the-type O′.the-laws r (v ∷ []) is) is, e) $ consIf ! (0 ∷ 2 ∷ []) $ done !))))
+        peeks ! O.the-row (Is O.the-row) (shows 𝓤 H A O.the-row) r (v ∷ []) (λ is. at-once ! $ drop ! $ split ! $ show ! (λ (p : List ℕ × Outcome). guard 𝓤 (Done v p) (sep 𝓤 (A .lft (ρ ∷ []) fullShare) (A .res δ (Ws .coded .code (p .0))))) (zs .0, r) $
+        check ! (ap only (LL.tells O.the-type O′.the-laws r (v ∷ []) is), subst (Is O.the-row r) (LL.tells O.the-type O′.the-laws r (v ∷ []) is) is, e) $ keep ! (0 ∷ 2 ∷ []) $ done !))))
 
   -- ---- `store`, with the table given at its own lifetime and the words shared for π
   module _ (l π : ℕ) (δ : GName) (ws : List ℕ) where
@@ -249,9 +249,9 @@ module _ {M : Type 1} (𝓤 : URA M) (H : Heap 𝓤) (A : Atoms 𝓤) (W : Given
         split ! $ move ! (1 ∷ []) $ use1 W (some (λ (zs : List Cap × (Unit {0} × (Unit {0} × Unit {0}))). ‵ (lasts store′.ended (κ, (π ∷ [], tt)) (table γ, (m, (words l δ ws, tt))) zs) ⊛ raw (fact 𝓤 (zs .0 ≡ (rowsOf ws m ++ drop-list m ys))))) (id⊢ 𝓤 _) $ pick ! (λ zs.
         split ! $ move ! (1 ∷ []) $ heard ! (zs .0 ≡ (rowsOf ws m ++ drop-list m ys)) (λ e. fsplit ! $ fsplit ! $ rewrite ! 0 (λ (z : List Cap). ‵ (finally T.the-row γ z)) e refl $
         -- [the last list; its length; true; the tokens and the result]
-        move ! (3 ∷ []) $ split ! $ move ! (1 ∷ []) $ feqL ! (λ u. at-once ! $ check ! (ap only u) $ split ! $ move ! (1 ∷ []) $ split ! $ consIf ! (2 ∷ 0 ∷ 3 ∷ []) $ done !))))
+        move ! (3 ∷ []) $ split ! $ move ! (1 ∷ []) $ feqL ! (λ u. at-once ! $ check ! (ap only u) $ split ! $ move ! (1 ∷ []) $ split ! $ keep ! (2 ∷ 0 ∷ 3 ∷ []) $ done !))))
 
-  exits : (ws : List ℕ) (r : Step) → rowsOf w₁ m ≡ take m ys → Stepped w₁ n t x ws r → Is O.the-row r (LL.val O.the-type O′.the-laws r ∷ [])
+  exits : (ws : List ℕ) (r : Outcome) → rowsOf w₁ m ≡ take m ys → Stepped w₁ n t x ws r → Is O.the-row r (LL.val O.the-type O′.the-laws r ∷ [])
       → ent 𝓤 (⋆ 𝓤 H A (‵ (fobs γ′ (L.the-row .coded .code (r .tally))) ∷ ‵ (fbor κ′ (Body (mem L.the-row) b′ o′ γ′)) ∷ ‵ (flft κ′ q′) ∷ ‵ (finally T.the-row γ (rowsOf ws m ++ drop-list m ys)) ∷ ‵ (flft κ q) ∷ [])) (Post (EL.val N.the-type N′.the-laws (r .answer)))
   exits ws r same e is =
       qed W (‵ (fobs γ′ (L.the-row .coded .code (r .tally))) ∷ ‵ (fbor κ′ (Body (mem L.the-row) b′ o′ γ′)) ∷ ‵ (flft κ′ q′) ∷ ‵ (finally T.the-row γ (rowsOf ws m ++ drop-list m ys)) ∷ ‵ (flft κ q) ∷ []) ∵
@@ -280,7 +280,7 @@ module _ {M : Type 1} (𝓤 : URA M) (H : Heap 𝓤) (A : Atoms 𝓤) (W : Given
         -- `few`
         owned ! usize (Is usize) (uint-makes 𝓤 H A W w64) n (vint w64 n ∷ []) (refl, room .0) $ use1 W (raw (Few 𝓤 H A mem′ run .pre to-few)) goes-few $
         calls-at ! fm (Few 𝓤 H A mem′ run) known-few to-few (and-then ! (load ! (from ! (stop !)) (look ! 29 refl)) (no-more !)) (λ v₁.
-        use1 W (later (newName (v₁ ≡ vint w64 m) (‵ ftrue))) (gives-few v₁) $ await ! tt $ learn ! (λ e₁. drop ! $
+        use1 W (later (given (v₁ ≡ vint w64 m) (‵ ftrue))) (gives-few v₁) $ await ! tt $ learn ! (λ e₁. drop ! $
         land ! (from ! (stop !)) (init ! 26 refl (subst (λ (y : Val). T (hasTy (tyInt w64) y) × WT y) (sym e₁) (tt, record { fits = m-fits }))) $ rewrite ! 26 (λ (u : Val). ‵ (fat fullShare (tyInt w64) l₆ 0 u)) e₁ refl $
         assigns ! (addr ! (from ! (fld ! refl (hop ! (look-in ! 35 (sub ! 0 refl (whole !))) (stop !))))) (from ! (stop !)) (init ! 20 refl (tt, tt)) $
         assigns ! (agg ! (and-then ! (load ! (from ! (stop !)) (look ! 20 refl)) (and-then ! (load ! (from ! (fld ! refl (stop !))) (look-in ! 35 (sub ! 1 refl (whole !)))) (no-more !)))) (from ! (stop !)) (init ! 18 refl (tt, (tt, (record { fits = room .0 }, tt)))) $
@@ -292,7 +292,7 @@ module _ {M : Type 1} (𝓤 : URA M) (H : Heap 𝓤) (A : Atoms 𝓤) (W : Given
         use1 W (later (some (λ (δ : GName). ‵ (MutRef (named 1) (μ ∷ []) Ws .own (words l₄ δ w₀) (vptr l₄ 0 ∷ [])) ⊛ ‵ (flent (μ ∷ []) (Body (mem Ws) l₄ 0 δ))))) (lends-ref 𝓤 H A W Ws (named 1) (μ ∷ []) w₀ l₄ 0) $ await ! tt $ pick ! (λ δ. split ! $
         move ! (3 ∷ 0 ∷ []) $ join ! $ move ! (2 ∷ 0 ∷ []) $ join ! $ move ! (3 ∷ 0 ∷ []) $ join ! $ use1 W (raw (Load 𝓤 H A mem′ run .pre (to-load l₄ ν μ γ₁ δ))) (goes-load l₄ ν μ γ₁ δ) $
         calls-at ! fm (Load 𝓤 H A mem′ run) known-load (to-load l₄ ν μ γ₁ δ) (and-then ! (load ! (from ! (stop !)) (look ! 18 refl)) (and-then ! (load ! (from ! (stop !)) (look ! 26 refl)) (and-then ! (load ! (from ! (stop !)) (look ! 16 refl)) (no-more !)))) (λ v.
-        use1 W (later (newName (Loaded l₄ ν μ γ₁ δ v) (‵ (flft (ν ∷ []) fullShare) ⊛ ‵ (flft (μ ∷ []) fullShare) ⊛ ‵ (fres δ (Ws .coded .code w₁))))) (gives-load l₄ ν μ γ₁ δ v) $ await ! tt $ learn ! (λ e. split ! $
+        use1 W (later (given (Loaded l₄ ν μ γ₁ δ v) (‵ (flft (ν ∷ []) fullShare) ⊛ ‵ (flft (μ ∷ []) fullShare) ⊛ ‵ (fres δ (Ws .coded .code w₁))))) (gives-load l₄ ν μ γ₁ δ v) $ await ! tt $ learn ! (λ e. split ! $
         land ! (from ! (stop !)) (init ! 23 refl (subst (λ (y : Val). T (hasTy tyUnit y) × WT y) (sym (e .0)) (tt, tt))) $
         lft-end ! tt $ move ! (0 ∷ 3 ∷ []) $ use2 W (later (‵ Tab ⊛ ‵ (flft κ q))) (shares-back T.the-row κ (ν ∷ []) q γ b o ys 𝓤 H A W (named 0) (named 0) room) $ await ! tt $ split ! $
         move ! (2 ∷ []) $ split ! $ lft-end ! tt $ move ! (0 ∷ 4 ∷ 1 ∷ []) $ use3 W (later (‵ (mem Ws .lies w₁ l₄ 0))) (ref-back 𝓤 H A W Ws (μ ∷ []) δ w₁ l₄ 0) $ await ! tt $
@@ -307,7 +307,7 @@ module _ {M : Type 1} (𝓤 : URA M) (H : Heap 𝓤) (A : Atoms 𝓤) (W : Given
         use1 W (later (some (λ (δ₂ : GName). ‵ (MutRef (named 0) (ρ ∷ []) Ws .own (words l₄ δ₂ w₁) (vptr l₄ 0 ∷ [])) ⊛ ‵ (flent (ρ ∷ []) (Body (mem Ws) l₄ 0 δ₂))))) (lends-ref 𝓤 H A W Ws (named 0) (ρ ∷ []) w₁ l₄ 0) $ await ! tt $ pick ! (λ δ₂. split ! $
         move ! (2 ∷ 0 ∷ []) $ use2 W (raw (Core 𝓤 H A mem′ run .pre (to-core l₄ ρ δ₂))) (goes-core l₄ ρ δ₂ t-is) $
         calls-at ! fm (Core 𝓤 H A mem′ run) known-core (to-core l₄ ρ δ₂) (and-then ! (load ! (from ! (stop !)) (look ! 17 refl)) (and-then ! (load ! (from ! (stop !)) (look ! 31 refl)) (and-then ! (load ! (from ! (stop !)) (look ! 15 refl)) (and-then ! (load ! (from ! (stop !)) (look ! 34 refl)) (no-more !))))) (λ v₂.
-        use1 W (later (some (λ (p : List ℕ × Step). newName (Done l₄ ρ δ₂ v₂ p) (‵ (flft (ρ ∷ []) fullShare) ⊛ ‵ (fres δ₂ (Ws .coded .code (p .0))))))) (gives-core l₄ ρ δ₂ v₂) $ await ! tt $ pick ! (λ p. let ws : List ℕ = p .0 in let out : Step = p .1 in learn ! (λ d. split ! $
+        use1 W (later (some (λ (p : List ℕ × Outcome). given (Done l₄ ρ δ₂ v₂ p) (‵ (flft (ρ ∷ []) fullShare) ⊛ ‵ (fres δ₂ (Ws .coded .code (p .0))))))) (gives-core l₄ ρ δ₂ v₂) $ await ! tt $ pick ! (λ p. let ws : List ℕ = p .0 in let out : Outcome = p .1 in learn ! (λ d. split ! $
         land ! (from ! (stop !)) (init ! 28 refl (subst (λ (y : Val). T (hasTy O′.mir y) × WT y) (sym (d .0)) (LL.lawful O.the-type O′.the-laws 𝓤 H A W .typed out _ (d .1) .0))) $
         rewrite ! 28 (λ (u : Val). ‵ (fat fullShare O′.mir l₇ 0 u)) (d .0) refl $
         lft-end ! tt $ move ! (0 ∷ 2 ∷ 1 ∷ []) $ use3 W (later (‵ (mem Ws .lies ws l₄ 0))) (ref-back 𝓤 H A W Ws (ρ ∷ []) δ₂ ws l₄ 0) $ await ! tt $
@@ -320,7 +320,7 @@ module _ {M : Type 1} (𝓤 : URA M) (H : Heap 𝓤) (A : Atoms 𝓤) (W : Given
         use1 W (later (some (λ (δ₃ : GName). ‵ (ShrRef (named 1) (π ∷ []) Ws .own (words l₄ δ₃ ws) (vptr l₄ 0 ∷ [])) ⊛ ‵ (flent (π ∷ []) (partAt Ws fullShare ws l₄ 0))))) (lends-shr 𝓤 H A W Ws (named 1) (π ∷ []) fullShare ws l₄ 0) $ await ! tt $ pick ! (λ δ₃. split ! $
         move ! (8 ∷ 0 ∷ []) $ join ! $ move ! (2 ∷ 0 ∷ []) $ join ! $ move ! (7 ∷ 0 ∷ []) $ join ! $ use1 W (raw (Store 𝓤 H A mem′ run .pre (to-store l₄ π δ₃ ws))) (goes-store l₄ π δ₃ ws) $
         calls-at ! fm (Store 𝓤 H A mem′ run) known-store (to-store l₄ π δ₃ ws) (and-then ! (load ! (from ! (stop !)) (look ! 9 refl)) (and-then ! (load ! (from ! (stop !)) (look ! 27 refl)) (and-then ! (load ! (from ! (stop !)) (look ! 7 refl)) (no-more !)))) (λ v₃.
-        use1 W (later (newName (v₃ ≡ vunit) (‵ (flft κ q) ⊛ ‵ (flft (π ∷ []) fullShare) ⊛ ‵ (finally T.the-row γ (rowsOf ws m ++ drop-list m ys))))) (gives-store l₄ π δ₃ ws v₃) $ await ! tt $ learn ! (λ e₃. split ! $
+        use1 W (later (given (v₃ ≡ vunit) (‵ (flft κ q) ⊛ ‵ (flft (π ∷ []) fullShare) ⊛ ‵ (finally T.the-row γ (rowsOf ws m ++ drop-list m ys))))) (gives-store l₄ π δ₃ ws v₃) $ await ! tt $ learn ! (λ e₃. split ! $
         land ! (from ! (stop !)) (store ! 24 refl (subst (λ (y : Val). T (hasTy tyUnit y) × WT y) (sym e₃) (tt, tt))) $
         move ! (1 ∷ []) $ split ! $ lft-end ! tt $ move ! (0 ∷ 3 ∷ []) $ lent-back ! tt $ use1 W (‵ (froom arr l₄ 0)) (lies-out 𝓤 H A W l₄ ws) $
         -- [room for _4; the table's last list; κ; the tally's cell; what it owns; its open borrow; obs; auth; _16; …]: F = 8

@@ -22,7 +22,7 @@ use ghost.Atoms.{Atoms, sem}
 use contract.Monad.{Fun, fact}
 use contract.Running.{givenOf, tables, tablesOf}
 use contract.Lifetimes.{AllOutlive}
-use types.Kit.{Given, Item, ‵, raw, newName, some, later, _⊛_, ⋆, anyQ, atRet, _$_, _∵_, !, qed, by, move, consIf, drop, use1, use2, use3, split, join, pick, learn, rewrite, check, fsplit, fsplit3, fjoin, fjoin3, feqL, feqI, suffices, frame, await, updating, now as at-once, done}
+use types.Kit.{Given, Item, ‵, raw, given, some, later, _⊛_, ⋆, anyQ, atRet, _$_, _∵_, !, qed, by, move, keep, drop, use1, use2, use3, split, join, pick, learn, rewrite, check, fsplit, fsplit3, fjoin, fjoin3, feqL, feqI, suffices, frame, await, updating, now as at-once, done}
 use types.Part.{whole, sub, look-in}
 use types.Run.{look, look-raw, store, init, forget, stop, hop, fld, from, load, lit, unit-lit, of-opd, bin, addr, and-then, no-more, assigns, assigns-last, land, stays, leaves-loop, returns, enter, alloc1, alloc0, params1, pass1, pass0, free1, free0, exec}
 use types.Tokens.{lft-new, lft-end}
@@ -51,8 +51,8 @@ use denote.Exit.{yes}
 use Rattle.model.specs.declared.Cap.{Cap}
 use Rattle.model.specs.Table.{emptyRow}
 use Rattle.rules.specs.Words.{rowsIn, setRow}
-use Rattle.rules.proofs.Cap as T
-use Rattle.rules.proofs.Cap.Laws as T′
+use Rattle.model.proofs.Cap as T
+use Rattle.model.proofs.Cap.Laws as T′
 use Rattle.rules.proofs.Walks.Count.{counts, holds, fails}
 use Rattle.rules.proofs.Laws.Records.{loaded, loaded-none, length-loaded, loaded-rows, loaded-suc}
 use Rattle.rules.proofs.words.set_row as set-row
@@ -131,7 +131,7 @@ module _ {M : Type 1} (𝓤 : URA M) (H : Heap 𝓤) (A : Atoms 𝓤) (W : Given
       use1 W (later (some (λ (r : Unit {0}). ((‵ (flft (ν ∷ []) fullShare) ⊛ ‵ ftrue) ⊛ ‵ (unit .own r (v ∷ []))) ⊛ raw (ensured 𝓤 H A set-row.ended (set-row.clauses 𝓤 H A mem run) (ν ∷ [], tt) (words δ l, (i, (c, tt))) tt r)))) (id⊢ 𝓤 _) $ await ! tt $ pick ! (λ r.
       split ! $ move ! (1 ∷ []) $ use1 W (some (λ (zs : List ℕ × (Unit {0} × (Unit {0} × Unit {0}))). ‵ (lasts set-row.ended (ν ∷ [], tt) (words δ l, (i, (c, tt))) zs) ⊛ raw (fact 𝓤 ((rowsIn (zs .0) ≡ set (rowsIn l) i c) × (length (zs .0) ≡ 6144) × (zs .0 ≡ setRow l i c))))) (id⊢ 𝓤 _) $ pick ! (λ zs.
       split ! $ move ! (1 ∷ []) $ heard ! ((rowsIn (zs .0) ≡ set (rowsIn l) i c) × (length (zs .0) ≡ 6144) × (zs .0 ≡ setRow l i c)) (λ e. fsplit ! $ rewrite ! 0 (λ (z : List ℕ). ‵ (fres δ (Ws .coded .code z))) (e .2) refl $
-      move ! (2 ∷ []) $ split ! $ move ! (1 ∷ []) $ feqL ! (λ u. at-once ! $ check ! (ap only u) $ split ! $ consIf ! (0 ∷ 2 ∷ []) $ done !))))
+      move ! (2 ∷ []) $ split ! $ move ! (1 ∷ []) $ feqL ! (λ u. at-once ! $ check ! (ap only u) $ split ! $ keep ! (0 ∷ 2 ∷ []) $ done !))))
 
   module _ (𝓣 : Tables 𝓤 H) (known : Triple 𝓤 (𝓣 .C #rules·set-row) (SetRow 𝓤 H A mem run)) where
     abbrev C : Calls 𝓤 H
@@ -199,7 +199,7 @@ module _ {M : Type 1} (𝓤 : URA M) (H : Heap 𝓤) (A : Atoms 𝓤) (W : Given
           move ! (2 ∷ 0 ∷ []) $ use2 W (raw (SetRow 𝓤 H A mem run .pre (to-set ν δ (loaded ys ws i) i (getD ys i emptyRow)))) (goes ν δ (loaded ys ws i) i (getD ys i emptyRow) (small, whole-words) g) $
           calls-at ! (fmOf 𝓤 H (W .laws) 𝓣) (SetRow 𝓤 H A mem run) known (to-set ν δ (loaded ys ws i) i (getD ys i emptyRow))
           (and-then ! (load ! (from ! (stop !)) (look ! 10 refl)) (and-then ! (load ! (from ! (stop !)) (look ! 16 refl)) (and-then ! (load ! (from ! (stop !)) (look ! 4 refl)) (no-more !)))) (λ v.
-          use1 W (later (newName (v ≡ vunit) (‵ (flft (ν ∷ []) fullShare) ⊛ ‵ (fres δ (Ws .coded .code (setRow (loaded ys ws i) i (getD ys i emptyRow))))))) (gives ν δ (loaded ys ws i) i (getD ys i emptyRow) v) $ await ! tt $ learn ! (λ e. split ! $
+          use1 W (later (given (v ≡ vunit) (‵ (flft (ν ∷ []) fullShare) ⊛ ‵ (fres δ (Ws .coded .code (setRow (loaded ys ws i) i (getD ys i emptyRow))))))) (gives ν δ (loaded ys ws i) i (getD ys i emptyRow) v) $ await ! tt $ learn ! (λ e. split ! $
           land ! (from ! (stop !)) (init ! 13 refl (subst (λ (y : Val). T (hasTy tyUnit y) × WT y) (sym e) (tt, tt))) $
           -- the lifetime is ended, and the words come back with row i in them
           lft-end ! tt $ move ! (0 ∷ 2 ∷ 1 ∷ []) $ use3 W (later (‵ (Words (setRow (loaded ys ws i) i (getD ys i emptyRow))) ⊛ ‵ (flft κ′ q′))) (comes-back 𝓤 H A W Ws (named 1) κ′ (ν ∷ []) q′ γ′ b′ o′ δ (loaded ys ws i) (setRow (loaded ys ws i) i (getD ys i emptyRow))) $ await ! tt $ split ! $
@@ -238,7 +238,7 @@ module _ {M : Type 1} (𝓤 : URA M) (H : Heap 𝓤) (A : Atoms 𝓤) (W : Given
         opens ! tt Ws {h = ws} b′ o′ (λ vs. move ! (1 ∷ []) $ peeks ! Ws (Is Ws) (shows 𝓤 H A Ws) ws vs (λ g. move ! (1 ∷ 0 ∷ []) $ closes ! tt Ws ws vs b′ o′ $
         feqI ! (List Val) (vptr b′ o′ ∷ []) (vptr b′ o′ ∷ []) refl $ fjoin3 ! $ rewrite ! 0 (λ (z : List ℕ). ‵ (Words z)) (sym (loaded-none ys ws)) refl $
         move ! (5 ∷ 3 ∷ 0 ∷ 1 ∷ []) $
-        consIf ! (0 ∷ 1 ∷ 2 ∷ 3 ∷ 6 ∷ 7 ∷ 8 ∷ 9 ∷ 10 ∷ 11 ∷ 12 ∷ 13 ∷ 14 ∷ 15 ∷ 16 ∷ 17 ∷ 18 ∷ 19 ∷ 20 ∷ 21 ∷ 22 ∷ 23 ∷ 24 ∷ 25 ∷ 26 ∷ 27 ∷ []) $
+        keep ! (0 ∷ 1 ∷ 2 ∷ 3 ∷ 6 ∷ 7 ∷ 8 ∷ 9 ∷ 10 ∷ 11 ∷ 12 ∷ 13 ∷ 14 ∷ 15 ∷ 16 ∷ 17 ∷ 18 ∷ 19 ∷ 20 ∷ 21 ∷ 22 ∷ 23 ∷ 24 ∷ 25 ∷ 26 ∷ 27 ∷ []) $
         by ! (loops (g .1 .0 .1) l₀ l₁ l₂ l₃ l₄ l₅ l₆ l₇ l₈ l₉ l₁₀))))))))))))))
 
 module _ {M : Type 1} (𝓤 : URA M) (H : Heap 𝓤) (A : Atoms 𝓤) (W : Given 𝓤 H A) (mem : Memory → SProp 𝓤) (run : Routine → Fun 𝓤) (𝓣 : Tables 𝓤 H) (known : Triple 𝓤 (𝓣 .C #rules·set-row) (SetRow 𝓤 H A mem run)) where

@@ -22,7 +22,7 @@ use ghost.Atoms.{Atoms, sem}
 use contract.Monad.{Fun, fact}
 use contract.Running.{givenOf, tables, tablesOf}
 use contract.Lifetimes.{AllOutlive}
-use types.Kit.{Given, Item, ‵, raw, newName, some, later, _⊛_, ⋆, anyQ, atRet, _$_, _∵_, !, qed, by, move, consIf, drop, use1, use2, split, join, pick, learn, rewrite, check, fsplit, fjoin, feqI, suffices, frame, await, updating, now as at-once, done}
+use types.Kit.{Given, Item, ‵, raw, given, some, later, _⊛_, ⋆, anyQ, atRet, _$_, _∵_, !, qed, by, move, keep, drop, use1, use2, split, join, pick, learn, rewrite, check, fsplit, fjoin, feqI, suffices, frame, await, updating, now as at-once, done}
 use types.Part.{whole, sub, look-in}
 use types.Run.{look, store, store-raw, init, forget, stop, hop, fld, from, load, lit, unit-lit, of-opd, bin, and-then, no-more, assigns, assigns-last, land, stays, leaves-loop, returns, enter, alloc1, alloc0, params1, pass1, pass0, free1, free0, exec}
 use sound.WpLaws.{fmOf, WpFn-mono}
@@ -35,7 +35,7 @@ use denote.Array.{Array}
 use denote.Builtin.{u32, usize, ArrayOf}
 use denote.Ref.{RefT, ShrRef, ptr-vals, shr-tells, shr-copy}
 use denote.Slice.{sliceTy, sliceVal, MutSlice, Room, heres, codedHoleys, at-slice, slice-vals, mut-slice-tells}
-use denote.Lend.{State}
+use denote.Lend.{Held}
 use denote.Index.{place-is, elem-out, elem-put, opens-slice, closes-slice}
 use denote.Signature.{plain}
 use denote.Steps.{only, owned, peeks, heard, nothing}
@@ -51,8 +51,8 @@ use denote.Exit.{yes}
 use Rattle.model.specs.declared.Cap.{Cap}
 use Rattle.model.specs.Table.{emptyRow}
 use Rattle.rules.specs.Words.{rowAt, rowsIn}
-use Rattle.rules.proofs.Cap as T
-use Rattle.rules.proofs.Cap.Laws as T′
+use Rattle.model.proofs.Cap as T
+use Rattle.model.proofs.Cap.Laws as T′
 use Rattle.rules.proofs.Walks.Count.{counts, holds, fails}
 use Rattle.rules.proofs.Laws.Words.{in-at}
 use Rattle.rules.proofs.Laws.Records.{stored, stored-none, stored-suc, length-stored}
@@ -103,7 +103,7 @@ module _ {M : Type 1} (𝓤 : URA M) (H : Heap 𝓤) (A : Atoms 𝓤) (W : Given
   Obs l = fobs γ (codedHoleys T.the-row .code (heres T.the-row l))
 
   abbrev Bor : List Cap → Fml
-  Bor l = fbor κ (State T.the-row (length l) b o γ)
+  Bor l = fbor κ (Held T.the-row (length l) b o γ)
 
   abbrev Words : Fml
   Words = ShrRef (named 1) κ′ Ws .own words (vptr b′ o′ ∷ [])
@@ -144,7 +144,7 @@ module _ {M : Type 1} (𝓤 : URA M) (H : Heap 𝓤) (A : Atoms 𝓤) (W : Given
       check ! (
         ap only (LL.tells T.the-type T′.the-laws r (v ∷ []) is) ∙ ap T′.lowered e,
         subst (λ (c : Cap). Is T.the-row c (T′.lowered c ∷ [])) e (subst (Is T.the-row r) (LL.tells T.the-type T′.the-laws r (v ∷ []) is) is),
-      ) $ drop ! $ split ! $ consIf ! (0 ∷ []) $ done !)))
+      ) $ drop ! $ split ! $ keep ! (0 ∷ []) $ done !)))
 
   module _ (𝓣 : Tables 𝓤 H) (known : Triple 𝓤 (𝓣 .C #rules·row-at) (RowAt 𝓤 H A mem run)) where
     abbrev C : Calls 𝓤 H
@@ -191,7 +191,7 @@ module _ {M : Type 1} (𝓤 : URA M) (H : Heap 𝓤) (A : Atoms 𝓤) (W : Given
           move ! (4 ∷ []) $ use1 W (‵ Words ⊛ ‵ Words) (shr-copy 𝓤 H A W (named 1) κ′ Ws .twice words (vptr b′ o′ ∷ [])) $ split ! $
           move ! (5 ∷ 0 ∷ []) $ use2 W (raw (RowAt 𝓤 H A mem run .pre (to-row i))) (goes i small) $
           calls-at ! (fmOf 𝓤 H (W .laws) 𝓣) (RowAt 𝓤 H A mem run) known (to-row i) (and-then ! (load ! (from ! (stop !)) (look ! 15 refl)) (and-then ! (load ! (from ! (stop !)) (look ! 13 refl)) (no-more !))) (λ v.
-          use1 W (later (newName (Row i v) (‵ (flft κ′ q′)))) (gives i small v) $ await ! tt $ learn ! (λ e.
+          use1 W (later (given (Row i v) (‵ (flft κ′ q′)))) (gives i small v) $ await ! tt $ learn ! (λ e.
           land ! (from ! (stop !)) (init ! 9 refl (subst (λ (y : Val). T (hasTy T′.mir y) × WT y) (sym (e .0)) (LL.lawful T.the-type T′.the-laws 𝓤 H A W .typed (rowAt ws i) _ (e .1) .0))) $
           rewrite ! 9 (λ (u : Val). ‵ (fat fullShare T′.mir l₆ 0 u)) (e .0) refl $
           -- [κ′'s token; the words; obs; the table's borrow; κ's token; _8; …; _7; …; _6; …; _5; …; _4; …; _3; …; _2; …; _1; …; _0; …]
@@ -238,7 +238,7 @@ module _ {M : Type 1} (𝓤 : URA M) (H : Heap 𝓤) (A : Atoms 𝓤) (W : Given
         move ! (19 ∷ []) $ fsplit ! $ move ! (1 ∷ []) $ fsplit ! $ drop ! $ fsplit ! $ move ! (2 ∷ []) $ fsplit ! $ drop ! $ fsplit ! $ move ! (22 ∷ []) $ split ! $ move ! (1 ∷ []) $ split ! $
         -- [κ′'s token; true; κ's token; obs; the table's borrow; the words; true; _8; …]
         rewrite ! 3 (λ (z : List Cap). ‵ (Obs z)) (sym (stored-none ys ws)) refl $ rewrite ! 4 (λ (z : List Cap). ‵ (Bor z)) (sym (stored-none ys ws)) refl $
-        consIf ! (3 ∷ 4 ∷ 2 ∷ 0 ∷ 5 ∷ 7 ∷ 8 ∷ 9 ∷ 10 ∷ 11 ∷ 12 ∷ 13 ∷ 14 ∷ 15 ∷ 16 ∷ 17 ∷ 18 ∷ 19 ∷ 20 ∷ 21 ∷ 22 ∷ 23 ∷ 24 ∷ []) $
+        keep ! (3 ∷ 4 ∷ 2 ∷ 0 ∷ 5 ∷ 7 ∷ 8 ∷ 9 ∷ 10 ∷ 11 ∷ 12 ∷ 13 ∷ 14 ∷ 15 ∷ 16 ∷ 17 ∷ 18 ∷ 19 ∷ 20 ∷ 21 ∷ 22 ∷ 23 ∷ 24 ∷ []) $
         by ! (loops l₀ l₁ l₂ l₃ l₄ l₅ l₆ l₇ l₈))))))))))
 
 module _ {M : Type 1} (𝓤 : URA M) (H : Heap 𝓤) (A : Atoms 𝓤) (W : Given 𝓤 H A) (mem : Memory → SProp 𝓤) (run : Routine → Fun 𝓤) (𝓣 : Tables 𝓤 H) (known : Triple 𝓤 (𝓣 .C #rules·row-at) (RowAt 𝓤 H A mem run)) where

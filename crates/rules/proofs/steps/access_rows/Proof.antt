@@ -16,5 +16,5 @@ settle-requires c κs = let s = c .before .before .before .before in (s .pre .fi
 returns : tie.Need-returns
 returns c = let s = c .before .before .before .before .before in (c .settle .ensures .0 ∙ ap (lentTable (s .args .n)) (kept-used (c .before .before .before .marks-of-access .result) (rowsIn (s .args .words .now)) (s .args .k) (s .args .u) (s .args .a) (s .args .s) (c .before .before .before .marks-of-access .ensures)), c .settle .ensures .1)
 
-pub use-rows-spec : {M : Type 1} → statement M
-use-rows-spec = tie.close (tie.spec marks-of-access-requires settle-requires returns)
+pub access-rows-spec : {M : Type 1} → statement M
+access-rows-spec = tie.close (tie.spec marks-of-access-requires settle-requires returns)
