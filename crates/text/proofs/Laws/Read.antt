@@ -1,0 +1,68 @@
+-- Laws of `guess` and `same`.
+-- Assumes nothing.
+use mathlib.Core.Path.{_≡_, refl, sym, ap₂, _∙_}
+use mathlib.Core.Bool.{Bool, true, false, _&&_}
+use mathlib.Core.List.{List, [], _∷_}
+use Prim.Native.Nat.{ℕ}
+use native.Mathlib.Omega.{arith}
+use lib.Dec.{eqb}
+use lib.ListN.{getD}
+use borrow.Author.Tests.{eqb-true, eq-eqb, ne-eqb}
+use Rattle.text.specs.Line.{afterSpace}
+use Rattle.text.specs.Read.{same, nameOf, spanOf, rightOf, guess}
+use Rattle.model.specs.declared.Event.the-variants.{Create, Borrow, Read, Write, Drop}
+
+module _ (s : List ℕ) where
+  abbrev one : List ℕ
+  one = afterSpace s
+
+  abbrev two : List ℕ
+  two = afterSpace one
+
+  abbrev three : List ℕ
+  three = afterSpace two
+
+  pub guess-create : getD s 1 0 ≡ 99 → guess s ≡ Create (spanOf one two) (rightOf three)
+  unfolding guess
+  guess-create e = rw e
+
+  pub guess-borrow : getD s 1 0 ≡ 98 → guess s ≡ Borrow (nameOf one) (spanOf two three) (rightOf (afterSpace three))
+  unfolding guess
+  guess-borrow e = rw e
+
+  pub guess-read : getD s 1 0 ≡ 114 → guess s ≡ Read (nameOf one) (spanOf two three)
+  unfolding guess
+  guess-read e = rw e
+
+  pub guess-write : getD s 1 0 ≡ 119 → guess s ≡ Write (nameOf one) (spanOf two three)
+  unfolding guess
+  guess-write e = rw e
+
+  pub guess-drop : (getD s 1 0 ≡ 99 → ⊥) → (getD s 1 0 ≡ 98 → ⊥) → (getD s 1 0 ≡ 114 → ⊥) → (getD s 1 0 ≡ 119 → ⊥) → guess s ≡ Drop (nameOf one)
+  unfolding guess
+  guess-drop c b r w = rw (ne-eqb _ _ c, ne-eqb _ _ b, ne-eqb _ _ r, ne-eqb _ _ w)
+
+pub same-refl : (s : List ℕ) → same s s ≡ true
+unfolding same
+same-refl [] = refl
+same-refl (a ∷ s) = rw (eq-eqb a a refl) (same-refl s)
+
+pub same-true : (s t : List ℕ) → same s t ≡ true → s ≡ t
+unfolding same
+same-true [] [] h = refl
+same-true [] (b ∷ t) h = absurd (let z : _≡_ {A = ℕ} 0 1 = cc in omega arith)
+same-true (a ∷ s) [] h = absurd (let z : _≡_ {A = ℕ} 0 1 = cc in omega arith)
+same-true (a ∷ s) (b ∷ t) h = go (eqb a b) refl h (same-true s t)
+  where
+    go : (e : Bool) → eqb a b ≡ e → (e && same s t) ≡ true → (same s t ≡ true → s ≡ t) → a ∷ s ≡ b ∷ t
+    go true e h rec = ap₂ (λ (x : ℕ) (l : List ℕ). x ∷ l) (eqb-true a b e) (rec h)
+    go false e h rec = absurd (let z : _≡_ {A = ℕ} 0 1 = cc in omega arith)
+
+-- a test that tells whether two texts are equal is `same`
+pub same-is : (r : Bool) (s t : List ℕ) → (r ≡ true → s ≡ t) → (s ≡ t → r ≡ true) → r ≡ same s t
+same-is r s t to back = go r (same s t) refl refl
+  where
+    go : (x y : Bool) → r ≡ x → same s t ≡ y → r ≡ same s t
+    go true y p q = cc (to p, same-refl s)
+    go false true p q = p ∙ sym (sym (back (same-true s t q)) ∙ p) ∙ cc
+    go false false p q = cc

@@ -1,0 +1,61 @@
+-- What a line reads as: the event whose spelling it is.
+use Prim.Native.Nat.{ℕ}
+use mathlib.Core.Bool.{Bool, true, false, cond, _&&_}
+use mathlib.Core.List.{List, [], _∷_}
+use lib.Dec.{eqb}
+use lib.ListN.{getD}
+use Rattle.text.specs.Answer.{Answer, given, refused}
+use Rattle.text.specs.Line.{afterSpace}
+use Rattle.text.specs.Decimal.{numberOf}
+use Rattle.text.specs.Event.{spell, hasSpelling}
+use Rattle.model.specs.declared.Name.{Name}
+use Rattle.model.specs.declared.Span.{Span}
+use Rattle.model.specs.declared.Event.{Event}
+use Rattle.model.specs.declared.Event.the-variants.{Create, Borrow, Read, Write, Drop}
+use Rattle.text.specs.declared.read.EventRead.{EventRead}
+use Rattle.text.specs.declared.read.EventRead.the-variants.{Event as Found, Refused}
+
+-- two texts have the same bytes
+unfoldable pub same : List ℕ → List ℕ → Bool
+same [] [] = true
+same [] (b ∷ t) = false
+same (a ∷ s) [] = false
+same (a ∷ s) (b ∷ t) = eqb a b && same s t
+
+-- the name that a word spells, the span that two words spell, and the right: ro has an o
+abbrev pub nameOf : List ℕ → Name
+nameOf w = record { 0 = numberOf w }
+
+abbrev pub spanOf : List ℕ → List ℕ → Span
+spanOf v w = record { start = record { 0 = numberOf v }; length = numberOf w }
+
+abbrev pub rightOf : List ℕ → ℕ
+rightOf w = cond (eqb (getD w 1 0) 111) 1 2
+
+-- the event of a kind, told by the second byte of its line, with these words behind the first
+abbrev pub eventOf : ℕ → List ℕ → List ℕ → List ℕ → List ℕ → Event
+eventOf kind first second third fourth =
+    cond (eqb kind 99) (Create (spanOf first second) (rightOf third))
+    (cond (eqb kind 98) (Borrow (nameOf first) (spanOf second third) (rightOf fourth))
+    (cond (eqb kind 114) (Read (nameOf first) (spanOf second third))
+    (cond (eqb kind 119) (Write (nameOf first) (spanOf second third))
+    (Drop (nameOf first)))))
+
+-- the one event whose spelling a line can be
+unfoldable pub guess : List ℕ → Event
+guess s =
+    eventOf (getD s 1 0) (afterSpace s) (afterSpace (afterSpace s)) (afterSpace (afterSpace (afterSpace s)))
+    (afterSpace (afterSpace (afterSpace (afterSpace s))))
+
+-- a line is the spelling of an event
+abbrev pub isSpelling : List ℕ → Event → Bool
+isSpelling s e = hasSpelling e && same s (spell e)
+
+-- the answer that each case of `EventRead` stands for
+abbrev pub readAnswer : EventRead → Answer Event
+readAnswer (Found e) = given e
+readAnswer Refused = refused 2
+
+-- the event whose spelling a line is, or refusal 2
+unfoldable pub readEvent : List ℕ → Answer Event
+readEvent s = cond (isSpelling s (guess s)) (given (guess s)) (refused 2)
