@@ -4,7 +4,7 @@ use mathlib.Core.Bool.{Bool, true, false, cond, _&&_}
 use mathlib.Core.List.{List, [], _∷_}
 use lib.Dec.{eqb}
 use lib.ListN.{getD}
-use Rattle.text.specs.Answer.{Answer, given, refused}
+use Rattle.text.specs.Result.{Result, value, refused}
 use Rattle.text.specs.Line.{afterSpace}
 use Rattle.text.specs.Decimal.{numberOf}
 use Rattle.text.specs.Event.{spell, hasSpelling}
@@ -52,10 +52,10 @@ abbrev pub isSpelling : List ℕ → Event → Bool
 isSpelling s e = hasSpelling e && same s (spell e)
 
 -- the answer that each case of `EventRead` stands for
-abbrev pub readAnswer : EventRead → Answer Event
-readAnswer (Found e) = given e
+abbrev pub readAnswer : EventRead → Result Event
+readAnswer (Found e) = value e
 readAnswer Refused = refused 2
 
 -- the event whose spelling a line is, or refusal 2
-unfoldable pub readEvent : List ℕ → Answer Event
-readEvent s = cond (isSpelling s (guess s)) (given (guess s)) (refused 2)
+unfoldable pub readEvent : List ℕ → Result Event
+readEvent s = cond (isSpelling s (guess s)) (value (guess s)) (refused 2)

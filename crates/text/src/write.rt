@@ -1,17 +1,11 @@
 // Event lines, written.
 use crate::pieces;
 use model::Event;
+use model::Refusal;
 ghost use mathlib.Core.Bool.{true};
 ghost use mathlib.Core.List.{[], _++_};
 ghost use Rattle.text.specs.Event.{spaced, bytes, ending, isRight, spell, hasSpelling};
 ghost use Rattle.text.specs.Write.{Short, Writes};
-
-// Why nothing is written: refusals 1, 2 and 11 of the document.
-pub enum Refusal {
-    Order,
-    Spelling,
-    Room,
-}
 
 // What writing answers: the length of the text, or a refusal.
 pub enum Written {
@@ -26,7 +20,7 @@ fn write_line(word: &[u8], numbers: &[u32], ending: &[u8], out: &mut [u8]) -> Wr
 {
     let length = word.len() + pieces::spaced_length(numbers) + ending.len();
     if out.len() < length {
-        return Written::Refused(Refusal::Room);
+        return Written::Refused(Refusal::BufferTooShort);
     }
     let past_word = pieces::put_bytes(out, 0, word);
     let past_numbers = pieces::put_numbers(out, past_word, numbers);
@@ -44,7 +38,7 @@ fn write_with_right(word: &[u8], numbers: &[u32], right: u8, out: &mut [u8]) -> 
     } else if right == 2 {
         write_line(word, numbers, b" rw)\n", out)
     } else {
-        Written::Refused(Refusal::Spelling)
+        Written::Refused(Refusal::Misspelt)
     }
 }
 

@@ -5,7 +5,7 @@ use mathlib.Core.Bool.{true}
 use Prim.Native.Nat.{ℕ}
 use Prim.Native.String.{String}
 use lib.ListN.{replicate}
-use Rattle.text.specs.Answer.{given, refused}
+use Rattle.text.specs.Result.{value, refused}
 use Rattle.text.specs.Class.{classOf}
 use Rattle.text.specs.Line.{through, nextLine}
 use Rattle.text.specs.Decimal.{numeral, decimal, numberFrom}
@@ -77,7 +77,7 @@ unfolding refuses readEvent guess through classOf numberFrom same hasSpelling sp
 no-newline = refl
 
 -- and what is spelled right is read
-reads : readEvent (bytes "(write 2 0 8)\n") ≡ given (Write (name 2) (span 0 8))
+reads : readEvent (bytes "(write 2 0 8)\n") ≡ value (Write (name 2) (span 0 8))
 unfolding readEvent guess through classOf numberFrom same hasSpelling spell spaced decimal numeral
 reads = refl
 

@@ -21,7 +21,7 @@ use Rattle.model.specs.declared.Name.{Name}
 use Rattle.model.specs.declared.Span.{Span}
 use Rattle.model.specs.declared.Event.{Event}
 use Rattle.model.specs.declared.Event.the-variants.{Create, Borrow, Read, Write, Drop}
-use Rattle.text.specs.Answer.{given, refused}
+use Rattle.text.specs.Result.{value, refused}
 
 -- the words of a line whose numbers are followed by e, as a name and as a span
 module _ (e : List ℕ) (stop : Stops e) where
@@ -104,16 +104,16 @@ guess-spell (Drop n) h k =
 -- ---- the theorems
 
 -- what was written is read back
-pub read-spell : (e : Event) → hasSpelling e ≡ true → InRange e → readEvent (spell e) ≡ given e
+pub read-spell : (e : Event) → hasSpelling e ≡ true → InRange e → readEvent (spell e) ≡ value e
 unfolding readEvent
 read-spell e h k = rw (guess-spell e h k, h, same-refl (spell e))
 
 -- no other text is read
-pub spell-read : (s : List ℕ) (e : Event) → readEvent s ≡ given e → (hasSpelling e ≡ true) × (s ≡ spell e)
+pub spell-read : (s : List ℕ) (e : Event) → readEvent s ≡ value e → (hasSpelling e ≡ true) × (s ≡ spell e)
 unfolding readEvent
 spell-read s e h = go (hasSpelling (guess s)) (same s (spell (guess s))) refl refl h
   where
-    go : (x y : Bool) → hasSpelling (guess s) ≡ x → same s (spell (guess s)) ≡ y → cond (x && y) (given (guess s)) (refused 2) ≡ given e → (hasSpelling e ≡ true) × (s ≡ spell e)
+    go : (x y : Bool) → hasSpelling (guess s) ≡ x → same s (spell (guess s)) ≡ y → cond (x && y) (value (guess s)) (refused 2) ≡ value e → (hasSpelling e ≡ true) × (s ≡ spell e)
     go true true p q h =
         let is : guess s ≡ e = cc in
         (ap hasSpelling (sym is) ∙ p, same-true s (spell (guess s)) q ∙ ap spell is)

@@ -1,0 +1,16 @@
+pub mod Sorted
+pub mod Live
+pub mod Links
+pub mod Writing
+pub mod Listing
+pub mod Forms
+pub mod Stored
+pub mod Reading
+pub mod Roots
+pub mod Sorting
+pub mod Front
+pub mod ReadListing
+pub mod Nested
+pub mod Back
+pub mod Theorems
+pub mod ListingExamples

@@ -1,0 +1,101 @@
+-- The forms of a listing, one row at a time; and how long they are.
+-- Assumes nothing.
+use mathlib.Core.Path.{_≡_, refl, sym, ap, _∙_}
+use mathlib.Core.Bool.{Bool, true, false, cond}
+use mathlib.Core.List.{List, [], _∷_, _++_, append-assoc}
+use Prim.Native.Nat.{ℕ, suc, _+_, _≤_, _<_}
+use native.Mathlib.Omega.{arith}
+use lib.Dec.{eqb}
+use lib.ListN.{length, getD, length-append, drop-of-length-le}
+use lib.Seq.{drop-cons}
+use borrow.Author.Tests.{eq-eqb}
+use Rattle.model.specs.declared.Cap.{Cap}
+use Rattle.model.specs.Table.{emptyRow}
+use Rattle.rules.specs.Words.{rowAt, rowsOf}
+use Rattle.rules.specs.Engine.{nameAt, parentAt}
+use Rattle.text.specs.Event.{bytes, spaced}
+use Rattle.listing.specs.Listing.{right, pieces, form, children, roots, formAt, childrenFrom, rootsFrom, issuedLine, listed}
+use Rattle.listing.specs.Met.{met, formLength, formsLength}
+use Rattle.listing.proofs.Laws.Sorted.{InOrder, sorted-met, length-sorted}
+
+pub length-right : (r : ℕ) → length (right r) ≡ 3
+length-right r = go (eqb r 1)
+  where
+    go : (t : Bool) → length (cond t (bytes " ro") (bytes " rw")) ≡ 3
+    go true = refl
+    go false = refl
+
+pub form-length : (c : Cap) → formLength c ≡ 5 + length (spaced (c .name .0 ∷ c .start .0 ∷ c .length ∷ []))
+unfolding formLength pieces spaced
+form-length c = simp length-append (omega (arith, length-right (c .right)))
+
+pub length-form : (c : Cap) (inner : List ℕ) → length (form c inner) + 1 ≡ formLength c + length inner
+unfolding form formLength
+length-form c inner = simp length-append (omega arith)
+
+forms-append : (a b : List Cap) → formsLength (a ++ b) ≡ formsLength a + formsLength b
+unfolding formsLength
+forms-append [] b = omega arith
+forms-append (c ∷ a) b = omega (arith, forms-append a b)
+
+pub forms-more : (ws : List ℕ) (n : ℕ) → formsLength (rowsOf ws (suc n)) ≡ formsLength (rowsOf ws n) + formLength (rowAt ws n)
+unfolding rowsOf formsLength
+forms-more ws n = omega (arith, forms-append (rowsOf ws n) (rowAt ws n ∷ []))
+
+-- the forms below p have the bytes of the rows met there
+pub length-children : (p : ℕ) (rows : List Cap) → length (children p rows) ≡ formsLength (met p rows)
+unfolding children met formsLength
+length-children p [] = refl
+length-children p (c ∷ rows) = go (eqb (c .parent .0) p) (length-children (c .name .0) rows) (length-children p rows)
+  where
+    go : (t : Bool) → length (children (c .name .0) rows) ≡ formsLength (met (c .name .0) rows) → length (children p rows) ≡ formsLength (met p rows)
+        → length (cond t (32 ∷ (form c (children (c .name .0) rows) ++ children p rows)) (children p rows)) ≡ formsLength (cond t (c ∷ (met (c .name .0) rows ++ met p rows)) (met p rows))
+    go true e f =
+        omega (arith, length-append (form c (children (c .name .0) rows)) (children p rows), length-form c (children (c .name .0) rows), forms-append (met (c .name .0) rows) (met p rows))
+    go false e f = f
+
+length-roots : (rows : List Cap) → length (roots rows) ≡ formsLength (met 0 rows)
+unfolding roots met formsLength
+length-roots [] = refl
+length-roots (c ∷ rows) = go (eqb (c .parent .0) 0) (length-children (c .name .0) rows) (length-roots rows)
+  where
+    go : (t : Bool) → length (children (c .name .0) rows) ≡ formsLength (met (c .name .0) rows) → length (roots rows) ≡ formsLength (met 0 rows)
+        → length (cond t (form c (children (c .name .0) rows) ++ (10 ∷ roots rows)) (roots rows)) ≡ formsLength (cond t (c ∷ (met (c .name .0) rows ++ met 0 rows)) (met 0 rows))
+    go true e f =
+        omega (arith, length-append (form c (children (c .name .0) rows)) (10 ∷ roots rows), length-form c (children (c .name .0) rows), forms-append (met (c .name .0) rows) (met 0 rows))
+    go false e f = f
+
+-- the lines of rows in order are as long as their rows
+pub roots-length : (rows : List Cap) → InOrder rows → length (roots rows) ≡ formsLength rows
+roots-length rows h = length-roots rows ∙ sym (length-sorted (met 0 rows)) ∙ ap formsLength (sorted-met rows h)
+
+-- ---- by place
+
+module _ (rows : List Cap) (k : ℕ) where
+  pub form-text : (t : List ℕ) → formAt rows k ++ t ≡ 40 ∷ (pieces (getD rows k emptyRow) ++ (childrenFrom (nameAt rows k) rows (suc k) ++ (41 ∷ t)))
+  unfolding form
+  form-text t = ap (λ (l : List ℕ). 40 ∷ l) (append-assoc (pieces (getD rows k emptyRow)) (childrenFrom (nameAt rows k) rows (suc k) ++ (41 ∷ [])) t ∙ ap (λ (l : List ℕ). pieces (getD rows k emptyRow) ++ l) (append-assoc (childrenFrom (nameAt rows k) rows (suc k)) (41 ∷ []) t))
+
+  pub child-at : (p : ℕ) (t : List ℕ) → k < length rows → parentAt rows k ≡ p → childrenFrom p rows k ++ t ≡ 32 ∷ (formAt rows k ++ (childrenFrom p rows (suc k) ++ t))
+  unfolding children
+  child-at p t l e = rw (drop-cons rows k emptyRow, eq-eqb (parentAt rows k) p e) (ap (λ (x : List ℕ). 32 ∷ x) (append-assoc (formAt rows k) (childrenFrom p rows (suc k)) t))
+
+  pub root-at : k < length rows → parentAt rows k ≡ 0 → rootsFrom rows k ≡ formAt rows k ++ (10 ∷ rootsFrom rows (suc k))
+  unfolding roots
+  root-at l e = rw (drop-cons rows k emptyRow, eq-eqb (parentAt rows k) 0 e)
+
+  pub no-child : (p : ℕ) → length rows ≤ k → childrenFrom p rows k ≡ []
+  unfolding children
+  no-child p l = rw (drop-of-length-le rows l)
+
+  pub no-root : length rows ≤ k → rootsFrom rows k ≡ []
+  unfolding roots
+  no-root l = rw (drop-of-length-le rows l)
+
+pub listed-length : (rows : List Cap) (issued : ℕ) → InOrder rows → length (listed rows issued) ≡ 9 + length (spaced (issued ∷ [])) + formsLength rows
+unfolding listed
+listed-length rows issued h = simp length-append (omega (arith, roots-length rows h))
+
+pub listed-is : (rows : List Cap) (issued : ℕ) → listed rows issued ≡ issuedLine issued ++ rootsFrom rows 0
+unfolding listed
+listed-is rows issued = refl

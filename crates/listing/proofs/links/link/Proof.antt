@@ -1,0 +1,71 @@
+-- `listing::links::link` meets its contract. The invariant: the rows from i on are linked.
+-- Assumes nothing.
+use mathlib.Core.Path.{_≡_, sym, ap, _∙_, subst}
+use Prim.Native.Nat.{ℕ, suc, _-_, _≤_}
+use mathlib.Core.List.{List}
+use native.Mathlib.Omega.{arith}
+use lib.ListN.{length, replicate, length-replicate}
+use borrow.Author.Needs.{needs}
+use Rattle.model.specs.declared.Cap.{Cap}
+use Rattle.rules.specs.Words.{rowsOf}
+use Rattle.rules.proofs.Laws.Words.{length-rows}
+use Rattle.listing.proofs.Laws.Live.{live-order}
+use Rattle.listing.proofs.Laws.Links.{Filling, filling-start, filling-step, filling-end}
+use Rattle.listing.proofs.links.link.Statement.{statement}
+use Rattle.listing.proofs.links.link.Tie as tie
+
+module _ (ws first next : List ℕ) (n : ℕ) (few : n ≤ 1024) where
+  start : first ≡ replicate 1025 n → next ≡ replicate 1025 n → Filling (rowsOf ws n) first next n
+  start e f =
+      let long = length-rows ws n in
+      subst (Filling (rowsOf ws n) first next) long
+      (filling-start (rowsOf ws n) first next (omega arith) (ap length f ∙ length-replicate 1025 n) (e ∙ ap (replicate 1025) (sym long)))
+
+abbrev Inv-loop : tie.InvT-loop
+Inv-loop words n first₀ next₀ i₀ first next i = (i ≤ n) × Filling (rowsOf words n) first next i
+
+abbrev μ-loop : tie.MeasureT-loop
+μ-loop words n first₀ next₀ i₀ first next i = i
+
+loop-holds : tie.Need-loop-holds Inv-loop μ-loop
+loop-holds c = (omega arith, start (c .args .words .now) (c .args .first .now) (c .args .next .now) (c .args .n) (c .pre .0) (c .pre .2) (c .pre .3))
+
+loop-again : tie.Need-loop-again Inv-loop μ-loop
+loop-again c =
+    let l = c .before .before .before in
+    let s = l .before in
+    let rows : List Cap = rowsOf (s .args .words .now) (s .args .n) in
+    let long : length rows ≡ s .args .n = length-rows (s .args .words .now) (s .args .n) in
+    let i : ℕ = l .loop .i - 1 in
+    let up : l .loop .i ≡ suc i = omega (arith, c .before .before .loop-test .taken) in (
+      omega arith,
+      filling-step rows (l .loop .first) (l .loop .next) i (c .before .parent-row .result) (live-order (s .pre .1)) (omega arith) (omega arith) (omega (arith, c .before .parent-row .ensures .0))
+          (c .before .parent-row .ensures .1) (subst (Filling rows (l .loop .first) (l .loop .next)) up (l .loop .inv .1)),
+    )
+
+returns : tie.Need-returns Inv-loop μ-loop
+returns c =
+    let l = c .before in
+    let s = l .before in
+    let rows : List Cap = rowsOf (s .args .words .now) (s .args .n) in
+    let zero : l .loop .i ≡ 0 = omega (arith, c .loop-test .left) in
+    filling-end rows (l .loop .first) (l .loop .next) (live-order (s .pre .1)) (subst (Filling rows (l .loop .first) (l .loop .next)) zero (l .loop .inv .1))
+
+pub link-spec : {M : Type 1} → statement M
+link-spec =
+    tie.close
+    (tie.spec
+    Inv-loop
+    μ-loop
+    loop-holds
+    (λ c. search needs)
+    (λ c κs. search needs)
+    (λ c. search needs)
+    (λ c. search needs)
+    (λ c. search needs)
+    (λ c. search needs)
+    (λ c. search needs)
+    (λ c. search needs)
+    (λ c. search needs)
+    loop-again
+    returns)

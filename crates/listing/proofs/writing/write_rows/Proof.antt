@@ -1,0 +1,23 @@
+-- `listing::writing::write_rows` meets its contract: it measures, and then writes.
+-- Assumes nothing.
+use native.Mathlib.Omega.{arith}
+use Rattle.rules.specs.Words.{rowsOf}
+use Rattle.listing.specs.Listing.{listed}
+use Rattle.text.proofs.Laws.Write.{writes-none, writes-put}
+use borrow.Author.Needs.{needs}
+use Rattle.listing.proofs.writing.write_rows.Statement.{statement}
+use Rattle.listing.proofs.writing.write_rows.Tie as tie
+
+returns : tie.Need-returns
+returns c =
+    let s = c .before .before .before in
+    (writes-none (listed (rowsOf (s .args .words .now) (s .args .n)) (s .args .issued)) (s .args .out .now) (omega (arith, c .before .listing-length .ensures .0)), omega (arith, c .before .listing-length .ensures .0, c .before .listing-length .ensures .1))
+
+returns-2 : tie.Need-returns-2
+returns-2 c =
+    let s = c .before .before .before .before .before .before .before in
+    (writes-put (c .before .before .put-listing .ensures) (omega (arith, c .before .before .before .before .before .listing-length .ensures .0, c .before .before .before .before)), omega (arith, c .before .before .before .before .before .listing-length .ensures .0, c .before .before .before .before .before .listing-length .ensures .1))
+
+pub write-rows-spec : {M : Type 1} → statement M
+write-rows-spec =
+    tie.close (tie.spec (λ c κs. search needs) returns (λ c κs. search needs) (λ c. search needs) returns-2)

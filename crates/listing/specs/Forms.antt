@@ -1,0 +1,112 @@
+-- How the forms of a listing are read, whatever the text is: a form holds a run of forms. What is read is judged afterwards, by writing it back.
+-- Assumes nothing.
+use mathlib.Core.Path.{_≡_}
+use mathlib.Core.Bool.{Bool, cond, _&&_}
+use mathlib.Core.List.{List, [], _∷_, reverse}
+use Prim.Native.Nat.{ℕ, zero, suc, _+_, _-_, _*_, _≤_, _<_}
+use lib.Dec.{ltb, eqb}
+use lib.ListN.{length, getD, drop}
+use Rattle.model.specs.declared.Cap.{Cap}
+use Rattle.model.specs.Table.{lentTable}
+use Rattle.rules.specs.Words.{rowsOf, rowsIn}
+use Rattle.text.specs.Class.{newline}
+use Rattle.text.specs.Line.{through, afterSpace}
+use Rattle.text.specs.Decimal.{numberOf}
+use Rattle.text.specs.Read.{rightOf}
+use Rattle.listing.specs.Met.{sorted}
+
+-- what is left of the text, and the rows so far, the newest first
+pub record Reading : Type 0 where
+  pub rest : List ℕ
+  pub rows : List Cap
+
+-- the words of a form: what stands behind its bracket, and behind each space
+abbrev pub nameText : List ℕ → List ℕ
+nameText s = drop 1 s
+
+abbrev pub startText : List ℕ → List ℕ
+startText s = afterSpace (nameText s)
+
+abbrev pub lengthText : List ℕ → List ℕ
+lengthText s = afterSpace (startText s)
+
+abbrev pub rightText : List ℕ → List ℕ
+rightText s = afterSpace (lengthText s)
+
+-- what stands behind the two letters of the right
+abbrev pub childrenText : List ℕ → List ℕ
+childrenText s = drop 2 (rightText s)
+
+-- the row that a form's words spell
+abbrev pub rowOf : List ℕ → ℕ → ℕ → Cap
+rowOf s parent depth = record {
+  name = record { 0 = numberOf (nameText s) };
+  parent = record { 0 = parent };
+  start = record { 0 = numberOf (startText s) };
+  length = numberOf (lengthText s);
+  right = rightOf (rightText s);
+  depth = depth;
+}
+
+-- a child follows: the depth and the table allow one, and the text goes on with a space
+abbrev pub follows : List ℕ → ℕ → ℕ → Bool
+follows s count depth = ltb depth 64 && (ltb count 1024 && eqb (getD s 0 0) 32)
+
+abbrev pub childFollows : ℕ → Reading → Bool
+childFollows depth r = follows (r .rest) (length (r .rows)) depth
+
+-- a form: its row, its run of children behind the right's two letters, and its closing bracket.
+-- a run: a form behind a space, and a run behind that, as long as one follows.
+-- k bounds how deep the two call each other.
+unfoldable mutual
+  pub readForm : ℕ → ℕ → ℕ → Reading → Reading
+  readForm zero parent depth r = r
+  readForm (suc k) parent depth r =
+      let row = rowOf (r .rest) parent depth in
+      let inner = readRun k (row .name .0) depth (record { rest = childrenText (r .rest); rows = row ∷ r .rows }) in
+      record { rest = drop 1 (inner .rest); rows = inner .rows }
+
+  pub readRun : ℕ → ℕ → ℕ → Reading → Reading
+  readRun zero parent depth r = r
+  readRun (suc k) parent depth r =
+      let child = readForm k parent (depth + 1) (record { rest = drop 1 (r .rest); rows = r .rows }) in
+      let more = readRun k parent depth child in
+      cond (childFollows depth r) more r
+
+-- a line: the form of a root, and its newline
+abbrev pub readLine : Reading → Reading
+readLine r =
+    let root = readForm (2 * length (r .rest) + 2) 0 1 r in
+    record { rest = drop 1 (root .rest); rows = root .rows }
+
+abbrev pub lineFollows : Reading → Bool
+lineFollows r = ltb 0 (length (r .rest)) && ltb (length (r .rows)) 1024
+
+-- the rows of the lines, at most k of them
+unfoldable pub readLines : ℕ → Reading → List Cap
+readLines zero r = r .rows
+readLines (suc k) r =
+    let more = readLines k (readLine r) in
+    cond (lineFollows r) more (r .rows)
+
+-- the rows of a listing, by rising name, and its issued number
+unfoldable pub guessRows : List ℕ → List Cap
+guessRows s = sorted (reverse (readLines 1024 (record { rest = drop (through newline s) s; rows = [] })))
+
+abbrev pub guessIssued : List ℕ → ℕ
+guessIssued s = numberOf (afterSpace s)
+
+-- f k, at every k above μ, reads the text s up to its last bytes, and then has these rows
+pub record Reads (f : ℕ → Reading) (μ : ℕ) (s : List ℕ) (left : ℕ) (rows : List Cap) : Type 0 where
+  pub inside : left ≤ length s
+  pub reads : (k : ℕ) → μ < k → f k ≡ record { rest = drop (length s - left) s; rows = rows }
+
+-- the first count rows that words have, the newest first
+abbrev pub newest : List ℕ → ℕ → List Cap
+newest ws count = reverse (rowsOf ws count)
+
+-- words hold a table of 1,024 rows, of which the first count were stored and the others are zeros
+pub record Stored (ws : List ℕ) (count : ℕ) : Type 0 where
+  pub few : count ≤ 1024
+  pub long : length ws ≡ 6144
+  pub table : rowsIn ws ≡ lentTable 1024 (newest ws count)

@@ -1,0 +1,6 @@
+pub mod Listing
+pub mod Met
+pub mod Links
+pub mod Forms
+pub mod ReadListing
+pub mod WriteListing

@@ -1,0 +1,59 @@
+-- Document 01, "The bracket text": the listing of a table.
+-- Assumes nothing.
+use Prim.Native.Nat.{ℕ, suc}
+use mathlib.Core.Bool.{cond}
+use mathlib.Core.List.{List, [], _∷_, _++_, reverse}
+use lib.Dec.{eqb}
+use lib.ListN.{getD, drop}
+use Rattle.model.specs.declared.Cap.{Cap}
+use Rattle.model.specs.Table.{emptyRow, liveRows}
+use Rattle.rules.specs.Engine.{nameAt}
+use Rattle.text.specs.Decimal.{decimal}
+use Rattle.text.specs.Event.{bytes, spaced, line}
+
+-- a right with a space before it: 1 is ro, 2 is rw
+abbrev pub right : ℕ → List ℕ
+right r = cond (eqb r 1) (bytes " ro") (bytes " rw")
+
+-- a capability's own pieces: name, start, length, right
+unfoldable pub pieces : Cap → List ℕ
+pieces c = decimal (c .name .0) ++ (spaced (c .start .0 ∷ c .length ∷ []) ++ right (c .right))
+
+-- a form: a capability's pieces, and then its children, in brackets
+unfoldable pub form : Cap → List ℕ → List ℕ
+form c inner = 40 ∷ (pieces c ++ (inner ++ (41 ∷ [])))
+
+-- Rows stand by rising name, so that a capability's children are among the later ones.
+
+-- the children of p, each with a space before its form
+unfoldable pub children : ℕ → List Cap → List ℕ
+children p [] = []
+children p (c ∷ later) =
+    cond (eqb (c .parent .0) p) (32 ∷ (form c (children (c .name .0) later) ++ children p later)) (children p later)
+
+-- a line for each root
+unfoldable pub roots : List Cap → List ℕ
+roots [] = []
+roots (c ∷ later) =
+    cond (eqb (c .parent .0) 0) (form c (children (c .name .0) later) ++ (10 ∷ roots later)) (roots later)
+
+-- the form of the row at i, the children of p from the row at i on, and the roots from there on
+abbrev pub formAt : List Cap → ℕ → List ℕ
+formAt rows i = form (getD rows i emptyRow) (children (nameAt rows i) (drop (suc i) rows))
+
+abbrev pub childrenFrom : ℕ → List Cap → ℕ → List ℕ
+childrenFrom p rows i = children p (drop i rows)
+
+abbrev pub rootsFrom : List Cap → ℕ → List ℕ
+rootsFrom rows i = roots (drop i rows)
+
+abbrev pub issuedLine : ℕ → List ℕ
+issuedLine issued = line "(issued" (issued ∷ []) ")\n"
+
+-- the listing of rows by rising name
+unfoldable pub listed : List Cap → ℕ → List ℕ
+listed rows issued = issuedLine issued ++ roots rows
+
+-- the listing of a table: of its live rows
+abbrev pub listing : List Cap → ℕ → List ℕ
+listing table issued = listed (reverse (liveRows table)) issued

@@ -1,0 +1,54 @@
+-- Document 01, "The bracket text": what a text reads as, the table whose listing it is.
+-- Assumes nothing.
+use Prim.Native.Nat.{ℕ}
+use mathlib.Core.Path.{_≡_}
+use mathlib.Core.Bool.{Bool, cond, _&&_}
+use mathlib.Core.List.{List, reverse}
+use lib.Dec.{leb}
+use lib.ListN.{length}
+use Rattle.model.specs.declared.Cap.{Cap}
+use Rattle.model.specs.Table.{liveRows, lentTable, inOrder}
+use Rattle.rules.specs.Words.{rowsOf, rowsIn}
+use Rattle.text.specs.Result.{Result, value, refused}
+use Rattle.text.specs.Read.{same}
+use Rattle.listing.specs.Listing.{listing}
+use Rattle.listing.specs.Forms.{guessRows, guessIssued}
+use Rattle.listing.specs.declared.reading.ListingRead.{ListingRead}
+use Rattle.listing.specs.declared.reading.ListingRead.the-variants.{Issued, Misspelt, Full}
+
+-- a text is the listing of a table in order
+unfoldable pub isListing : List ℕ → List Cap → ℕ → Bool
+isListing s table issued = inOrder table issued && same s (listing table issued)
+
+-- the one table of 1,024 rows whose listing a text can be
+unfoldable pub guessTable : List ℕ → List Cap
+guessTable s = lentTable 1024 (reverse (guessRows s))
+
+-- what is read: a table, and the issued number
+pub record Listed : Type 0 where
+  pub table : List Cap
+  pub issued : ℕ
+
+-- reading into n rows: refusal 2 when no table in order has this listing, 10 when it holds more capabilities than rows
+unfoldable pub readListing : List ℕ → ℕ → Result Listed
+readListing s n =
+    let rows = liveRows (guessTable s) in
+    cond (isListing s (guessTable s) (guessIssued s))
+    (cond (leb (length rows) n) (value (record { table = lentTable n rows; issued = guessIssued s })) (refused 10))
+    (refused 2)
+
+-- the answer that each case of `ListingRead` stands for, where the words then have these rows
+abbrev pub readingAnswer : ListingRead → List Cap → Result Listed
+readingAnswer (Issued i) table = value (record { table = table; issued = i })
+readingAnswer Misspelt table = refused 2
+readingAnswer Full table = refused 10
+
+-- the words after reading: all of them are fixed where a listing was read, and unchanged where not
+abbrev pub readingWords : ListingRead → List ℕ → List ℕ → List ℕ → Type 0
+readingWords (Issued i) s before after = rowsIn after ≡ guessTable s
+readingWords Misspelt s before after = after ≡ before
+readingWords Full s before after = after ≡ before
+
+pub record ReadsListing (s : List ℕ) (n : ℕ) (before after : List ℕ) (r : ListingRead) : Type 0 where
+  pub answer : readingAnswer r (rowsOf after n) ≡ readListing s n
+  pub words : readingWords r s before after

@@ -1,0 +1,148 @@
+// The forms of a listing, read into rows by two functions that call each other. Nothing is refused here: what was read is
+// judged afterwards, by writing it back.
+use text::lines;
+use text::numbers;
+use text::read;
+use model::Addr;
+use model::Cap;
+use model::Name;
+use rules::words;
+ghost use mathlib.Core.Path.{_≡_};
+ghost use mathlib.Core.List.{[], _∷_};
+ghost use Prim.Native.Nat.{ℕ, suc, _+_, _-_, _*_, _≤_, _<_};
+ghost use lib.ListN.{length, drop};
+ghost use Rattle.listing.specs.Forms.{Reading, childrenText, rowOf, follows, readForm, readRun, readLines, Reads, newest, Stored};
+
+// How many bytes of the text are left, and how many rows were stored.
+pub struct Place {
+    pub left: usize,
+    pub count: usize,
+}
+
+// Stores a row behind the others, and returns how many there are now.
+fn add_row(words: &mut [u32; 6144], count: usize, row: Cap) -> usize
+    requires { ⌜ Stored (now words) count × (count < 1024) ⌝ }
+    ensures { λ r. ⌜ (r ≡ suc count) × Stored (now (words .exit)) r × (newest (now (words .exit)) r ≡ row ∷ newest (now (words .entry)) count) ⌝ }
+{
+    words::set_row(words, count, row);
+    count + 1
+}
+
+// The text behind its first bytes.
+pub fn past(text: &[u8], count: usize) -> &[u8]
+    ensures { λ r. ⌜ now r ≡ drop count (now (text .entry)) ⌝ }
+{
+    if count < text.len() {
+        &text[count..]
+    } else {
+        &text[text.len()..]
+    }
+}
+
+// The last bytes of the text.
+fn last(text: &[u8], count: usize) -> &[u8]
+    requires { ⌜ count ≤ length (now text) ⌝ }
+    ensures { λ r. ⌜ now r ≡ drop (length (now (text .entry)) - count) (now (text .entry)) ⌝ }
+{
+    past(text, text.len() - count)
+}
+
+// The row that a form's words spell.
+fn row_of(text: &[u8], parent: u32, depth: u32) -> Cap
+    ensures { λ r. ⌜ r ≡ rowOf (now (text .entry)) parent depth ⌝ }
+{
+    let name = past(text, 1);
+    let start = lines::after_space(name);
+    let length = lines::after_space(start);
+    let right = lines::after_space(length);
+    Cap {
+        name: Name(numbers::number(name)),
+        parent: Name(parent),
+        start: Addr(numbers::number(start)),
+        length: numbers::number(length),
+        right: read::right_of(right) as u32,
+        depth,
+    }
+}
+
+// The text of a form's children, behind the two letters of its right.
+fn children_of(text: &[u8]) -> &[u8]
+    ensures { λ r. ⌜ now r ≡ childrenText (now (text .entry)) ⌝ }
+{
+    let start = lines::after_space(past(text, 1));
+    let right = lines::after_space(lines::after_space(start));
+    past(right, 2)
+}
+
+// Whether a child follows: the depth and the table allow one, and the text goes on with a space.
+fn child_follows(text: &[u8], count: usize, depth: u32) -> bool
+    ensures { λ r. ⌜ r ≡ follows (now (text .entry)) count depth ⌝ }
+{
+    if depth < 64 {
+        if count < 1024 {
+            return read::byte_at(text, 0) == b' ';
+        }
+    }
+    false
+}
+
+// Reads a form: its row, its run of children, and its closing bracket.
+fn read_form(text: &[u8], words: &mut [u32; 6144], count: usize, parent: u32, depth: u32) -> Place
+    requires { ⌜ Stored (now words) count × (count < 1024) ⌝ }
+    ensures { λ r. ⌜ (count < r .count) × Stored (now (words .exit)) (r .count)
+        × Reads (λ (k : ℕ). readForm k parent depth (record { rest = now (text .entry); rows = newest (now (words .entry)) count })) (2 * length (now (text .entry)) + 1) (now (text .entry)) (r .left) (newest (now (words .exit)) (r .count)) ⌝ }
+{
+    let row = row_of(text, parent, depth);
+    let name = row.name.0;
+    let stored = add_row(words, count, row);
+    let children = children_of(text);
+    let inner = read_run(children, words, stored, name, depth);
+    let left = inner.left;
+    let rest = past(last(children, left), 1);
+    Place {
+        left: rest.len(),
+        count: inner.count,
+    }
+}
+
+// Reads a run of forms, each behind a space.
+fn read_run(text: &[u8], words: &mut [u32; 6144], count: usize, parent: u32, depth: u32) -> Place
+    requires { ⌜ Stored (now words) count ⌝ }
+    ensures { λ r. ⌜ (count ≤ r .count) × Stored (now (words .exit)) (r .count)
+        × Reads (λ (k : ℕ). readRun k parent depth (record { rest = now (text .entry); rows = newest (now (words .entry)) count })) (2 * length (now (text .entry))) (now (text .entry)) (r .left) (newest (now (words .exit)) (r .count)) ⌝ }
+{
+    if child_follows(text, count, depth) {
+        let child = past(text, 1);
+        let read = read_form(child, words, count, parent, depth + 1);
+        let left = read.left;
+        return read_run(last(child, left), words, read.count, parent, depth);
+    }
+    Place {
+        left: text.len(),
+        count,
+    }
+}
+
+fn one_less(n: usize) -> usize
+    ensures { λ r. ⌜ r ≡ n - 1 ⌝ }
+{
+    if 0 < n { n - 1 } else { 0 }
+}
+
+// Reads the lines of the roots into a table of zeros, and returns how many rows were stored.
+pub fn read_lines(text: &[u8], words: &mut [u32; 6144]) -> usize
+    requires { ⌜ Stored (now words) 0 ⌝ }
+    ensures { λ r. ⌜ Stored (now (words .exit)) r × (newest (now (words .exit)) r ≡ readLines 1024 (record { rest = now (text .entry); rows = [] })) ⌝ }
+{
+    let mut left = text.len();
+    let mut count = 0;
+    while 0 < left {
+        if 1024 <= count {
+            return count;
+        }
+        let line = read_form(last(text, left), words, count, 0, 1);
+        left = one_less(line.left);
+        count = line.count;
+    }
+    count
+}

@@ -1,0 +1,79 @@
+// Listings, read: the table that a text can be the listing of is guessed, and accepted when it is in order and writes back to
+// the same bytes.
+use text::classes;
+use crate::forms;
+use text::lines;
+use crate::writing;
+use text::numbers;
+use crate::sort;
+use text::write::Written;
+use rules::find;
+use rules::ordered;
+ghost use mathlib.Core.Path.{_≡_};
+ghost use Prim.Native.Nat.{_≤_};
+ghost use lib.ListN.{length};
+ghost use Rattle.rules.specs.Words.{rowsIn};
+ghost use Rattle.listing.specs.Forms.{Stored};
+ghost use Rattle.listing.specs.ReadListing.{isListing, guessTable, ReadsListing};
+
+// What reading answers: the issued number, or refusal 2 or 10.
+pub enum ListingRead {
+    Issued(u32),
+    Misspelt,
+    Full,
+}
+
+// Reads the rows of a text into a table of zeros, by rising name.
+fn guess_table(text: &[u8], words: &mut [u32; 6144])
+    requires { ⌜ Stored (now words) 0 ⌝ }
+    ensures { λ _. ⌜ (rowsIn (now (words .exit)) ≡ guessTable (now (text .entry))) × (length (now (words .exit)) ≡ 6144) ⌝ }
+{
+    let start = lines::count_through(text, classes::NEWLINE);
+    let count = forms::read_lines(forms::past(text, start), words);
+    sort::sort_rows(words, count);
+}
+
+// Whether a text is the listing of a table of 1,024 rows in order.
+fn is_listing(text: &[u8], words: &[u32; 6144], issued: u32) -> bool
+    ensures { λ r. ⌜ r ≡ isListing (now (text .entry)) (rowsIn (now (words .entry))) issued ⌝ }
+{
+    let live = find::live_count(words, 1024);
+    if !ordered::in_order(words, 1024, live, issued) {
+        return false;
+    }
+    let mut buffer = [0u8; 39936];
+    let written = writing::write_rows(words, live, issued, &mut buffer);
+    let Written::Length(length) = written else {
+        return false;
+    };
+    check::same(text, &buffer[..length])
+}
+
+fn copy(from: &[u32; 6144], to: &mut [u32; 6144])
+    requires { ⌜ (length (now from) ≡ 6144) × (length (now to) ≡ 6144) ⌝ }
+    ensures { λ _. ⌜ now (to .exit) ≡ now (from .entry) ⌝ }
+{
+    let mut i = 0;
+    while i < 6144 {
+        to[i] = from[i];
+        i += 1;
+    }
+}
+
+// Reads a listing into a table of n rows. A refusal changes nothing; a listing that is read fixes all the words.
+pub fn read_listing(text: &[u8], words: &mut [u32; 6144], n: usize) -> ListingRead
+    requires { ⌜ (n ≤ 1024) × (length (now words) ≡ 6144) ⌝ }
+    ensures { λ r. ⌜ ReadsListing (now (text .entry)) n (now (words .entry)) (now (words .exit)) r ⌝ }
+{
+    let mut table = [0u32; 6144];
+    guess_table(text, &mut table);
+    let issued = numbers::number(lines::after_space(text));
+    if !is_listing(text, &table, issued) {
+        return ListingRead::Misspelt;
+    }
+    if n < find::live_count(&table, 1024) {
+        return ListingRead::Full;
+    }
+    copy(&table, words);
+    ListingRead::Issued(issued)
+}

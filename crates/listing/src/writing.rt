@@ -1,0 +1,161 @@
+// Listings, written.
+use crate::links;
+use text::numbers;
+use text::pieces;
+use model::Refusal;
+use text::write::Written;
+use model::Cap;
+use rules::find;
+use rules::ordered;
+use rules::words;
+ghost use mathlib.Core.Path.{_≡_};
+ghost use mathlib.Core.Bool.{true};
+ghost use Prim.Native.Nat.{_+_, _*_, _<_, _≤_};
+ghost use lib.ListN.{length};
+ghost use Rattle.rules.specs.Words.{rowsOf};
+ghost use Rattle.text.specs.Put.{Room, Put};
+ghost use Rattle.listing.specs.Listing.{pieces, formAt, rootsFrom, issuedLine, listed};
+ghost use Rattle.listing.specs.Met.{formLength, formsLength};
+ghost use Rattle.listing.specs.Links.{Live, Linked};
+ghost use Rattle.text.specs.Write.{Writes};
+ghost use Rattle.listing.specs.WriteListing.{WritesListing};
+
+// How many bytes a capability adds to a listing.
+fn form_length(c: Cap) -> usize
+    ensures { λ r. ⌜ (r ≡ formLength c) × (r ≤ 38) ⌝ }
+{
+    let numbers = [c.name.0, c.start.0, c.length];
+    5 + pieces::spaced_length(&numbers)
+}
+
+// How many bytes the first n capabilities add.
+fn forms_length(words: &[u32; 6144], n: usize) -> usize
+    requires { ⌜ n ≤ 1024 ⌝ }
+    ensures { λ r. ⌜ (r ≡ formsLength (rowsOf (now (words .entry)) n)) × (r ≤ 38 * n) ⌝ }
+{
+    let mut total = 0;
+    let mut i = 0;
+    while i < n {
+        total += form_length(words::row_at(words, i));
+        i += 1;
+    }
+    total
+}
+
+// Writes a capability's own pieces at a position, and returns the position behind them.
+fn put_pieces(out: &mut [u8], at: usize, c: Cap) -> usize
+    requires { ⌜ Room (now out) at (pieces c) ⌝ }
+    ensures { λ r. ⌜ Put (now (out .entry)) at (pieces c) (now (out .exit)) r ⌝ }
+{
+    let numbers = [c.start.0, c.length];
+    let past_name = numbers::put_number(out, at, c.name.0);
+    let past_numbers = pieces::put_numbers(out, past_name, &numbers);
+    if c.right == 1 {
+        pieces::put_bytes(out, past_numbers, b" ro")
+    } else {
+        pieces::put_bytes(out, past_numbers, b" rw")
+    }
+}
+
+// Writes the form of row i, with its children, and returns the position behind it.
+fn put_form(
+    words: &[u32; 6144],
+    n: usize,
+    first: &[usize; 1025],
+    next: &[usize; 1025],
+    i: usize,
+    out: &mut [u8],
+    at: usize,
+) -> usize
+    requires { ⌜ (n ≤ 1024) × (i < n) × Linked (rowsOf (now words) n) (now first) (now next) × Room (now out) at (formAt (rowsOf (now words) n) i) ⌝ }
+    ensures { λ r. ⌜ Put (now (out .entry)) at (formAt (rowsOf (now (words .entry)) n) i) (now (out .exit)) r ⌝ }
+{
+    out[at] = b'(';
+    let mut here = put_pieces(out, at + 1, words::row_at(words, i));
+    let mut k = first[i];
+    while k < n {
+        out[here] = b' ';
+        here = put_form(words, n, first, next, k, out, here + 1);
+        k = next[k];
+    }
+    out[here] = b')';
+    here + 1
+}
+
+// Writes a line for each root, and returns the position behind them.
+fn put_roots(
+    words: &[u32; 6144],
+    n: usize,
+    first: &[usize; 1025],
+    next: &[usize; 1025],
+    out: &mut [u8],
+    at: usize,
+) -> usize
+    requires { ⌜ (n ≤ 1024) × Linked (rowsOf (now words) n) (now first) (now next) × Room (now out) at (rootsFrom (rowsOf (now words) n) 0) ⌝ }
+    ensures { λ r. ⌜ Put (now (out .entry)) at (rootsFrom (rowsOf (now (words .entry)) n) 0) (now (out .exit)) r ⌝ }
+{
+    let mut here = at;
+    let mut k = first[n];
+    while k < n {
+        here = put_form(words, n, first, next, k, out, here);
+        out[here] = b'\n';
+        here += 1;
+        k = next[k];
+    }
+    here
+}
+
+// Writes the line of the issued number at the buffer's first bytes, and returns the position behind it.
+fn put_issued(issued: u32, out: &mut [u8]) -> usize
+    requires { ⌜ Room (now out) 0 (issuedLine issued) ⌝ }
+    ensures { λ r. ⌜ Put (now (out .entry)) 0 (issuedLine issued) (now (out .exit)) r ⌝ }
+{
+    let numbers = [issued];
+    let past_word = pieces::put_bytes(out, 0, b"(issued");
+    let past_number = pieces::put_numbers(out, past_word, &numbers);
+    pieces::put_bytes(out, past_number, b")\n")
+}
+
+// Writes the listing of the first n rows, all of them live, at the buffer's first bytes, and returns its length.
+fn put_listing(words: &[u32; 6144], n: usize, issued: u32, out: &mut [u8]) -> usize
+    requires { ⌜ (n ≤ 1024) × Live (rowsOf (now words) n) × Room (now out) 0 (listed (rowsOf (now words) n) issued) ⌝ }
+    ensures { λ r. ⌜ Put (now (out .entry)) 0 (listed (rowsOf (now (words .entry)) n) issued) (now (out .exit)) r ⌝ }
+{
+    let mut first = [n; 1025];
+    let mut next = [n; 1025];
+    links::link(words, n, &mut first, &mut next);
+    let past_line = put_issued(issued, out);
+    put_roots(words, n, &first, &next, out, past_line)
+}
+
+// How many bytes the listing of the first n rows has: at most 39 for each of 1,024.
+fn listing_length(words: &[u32; 6144], n: usize, issued: u32) -> usize
+    requires { ⌜ (n ≤ 1024) × Live (rowsOf (now words) n) ⌝ }
+    ensures { λ r. ⌜ (r ≡ length (listed (rowsOf (now (words .entry)) n) issued)) × (r ≤ 39936) ⌝ }
+{
+    let numbers = [issued];
+    9 + pieces::spaced_length(&numbers) + forms_length(words, n)
+}
+
+// Writes the listing of the first n rows, all of them live, where it fits.
+pub fn write_rows(words: &[u32; 6144], n: usize, issued: u32, out: &mut [u8]) -> Written
+    requires { ⌜ (n ≤ 1024) × Live (rowsOf (now words) n) ⌝ }
+    ensures { λ r. ⌜ Writes true (listed (rowsOf (now (words .entry)) n) issued) (now (out .entry)) (now (out .exit)) r × (length (listed (rowsOf (now (words .entry)) n) issued) ≤ 39936) ⌝ }
+{
+    if out.len() < listing_length(words, n, issued) {
+        return Written::Refused(Refusal::BufferTooShort);
+    }
+    Written::Length(put_listing(words, n, issued, out))
+}
+
+// Writes the listing of a table of n rows at the buffer's first bytes.
+pub fn write_listing(words: &[u32; 6144], n: usize, issued: u32, out: &mut [u8]) -> Written
+    requires { ⌜ n ≤ 1024 ⌝ }
+    ensures { λ r. ⌜ WritesListing (rowsOf (now (words .entry)) n) issued (now (out .entry)) (now (out .exit)) r ⌝ }
+{
+    let live = find::live_count(words, n);
+    if !ordered::in_order(words, n, live, issued) {
+        return Written::Refused(Refusal::Disordered);
+    }
+    write_rows(words, live, issued, out)
+}
