@@ -1,4 +1,4 @@
--- A parent lives as long as its children, so the live rows have the lines that the notes have:
+-- A parent lives as long as its children, so the live rows have the ancestries that the notes have:
 -- an event does to the rows what its note does to the history.
 -- Assumes nothing.
 use mathlib.Core.Path.{_≡_, refl, sym, ap, ap₂, _∙_}
@@ -60,7 +60,7 @@ closed-noted n w notes s p c =
         let p = and-both (lives notes (b .name)) (not (hits ends (derivations (w ∷ notes)) (b .name) w)) (rw (lives-older n w notes s (b .name) l) at e) in
         parent-lives w s b (omega (arith, l, step .1)) (rowFitsParent (p .0)) (ends-up w (ancestry (derivations (w ∷ notes)) (user w)) (ancestry (derivations (w ∷ notes)) (b .parent)) b (rw (step .2) at (not-true (hits ends (derivations (w ∷ notes)) (b .name) w) (p .1))))
 
--- ---- the lines of the rows
+-- ---- the ancestries of the rows
 
 module _ (n : ℕ) (notes : List Note) (s : Sound n notes) (c : Closed (lives notes) (derivations notes)) where
   derivations-rows : Table.derivations (rows notes) ≡ filter (alive notes) (derivations notes)
@@ -81,7 +81,7 @@ module _ (n : ℕ) (notes : List Note) (s : Sound n notes) (c : Closed (lives no
       go (inl e) = e
       go (inr e) = clash h (any-false (named x) (rows notes) (All-map _ _ (λ r l. ne-eqb x (r .name .0) (λ (q : x ≡ r .name .0). clash l (ap (lives notes) (sym q) ∙ e))) (rows notes) rows-live))
 
-  -- ---- a note takes from the rows what it takes by their own lines
+  -- ---- a note takes from the rows what it takes by their own ancestries
 
   hits-rows : (m : ℕ) (w : Note) → Sound m (w ∷ notes) → Through notes w → (x : ℕ) → lives notes x ≡ true → x < floor m w
       → (takes : Takes) → hits takes (derivations (w ∷ notes)) x w ≡ hits takes (Table.derivations (rows notes)) x w
@@ -89,7 +89,7 @@ module _ (n : ℕ) (notes : List Note) (s : Sound n notes) (c : Closed (lives no
   hits-rows m w q t x h l takes =
       ap₂ (takes w) (ancestry-older m w notes q (user w) (q .1) ∙ ancestry-rows (user w) t) (ancestry-older m w notes q x l ∙ ancestry-rows x (rw h (or-true (eqb x 0))))
 
-  -- the rows after a note, by their own lines
+  -- the rows after a note, by their own ancestries
   pub rows-after : (m : ℕ) (w : Note) → Sound m (w ∷ notes) → Through notes w
       → rows (w ∷ notes) ≡ map (rowOf (w ∷ notes)) (derivedBy w) ++ revokedBy (Table.derivations (rows notes)) w (rows notes)
   unfolding rowOf

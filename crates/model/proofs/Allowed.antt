@@ -37,7 +37,7 @@ use Rattle.model.proofs.Judged.{numbered}
 use Rattle.model.proofs.Match.{Kept, Match, live-rows, run, at-first, same-judge}
 use Rattle.model.proofs.Order.{order-fresh, order-final}
 
--- ---- births are found by their names
+-- ---- derivations are found by their names
 
 makes-derivations : (x : ℕ) (notes : List Note) → any (makes x) notes ≡ any (λ b. eqb x (b .name)) (derivations notes)
 unfolding makes derivations derivedBy
@@ -54,7 +54,7 @@ derivedBy-between n (b ∷ B) x f h = go (test (eqb x (b .name))) (derivedBy-bet
     go (inl t) ih = let e = eqb-true x (b .name) t in omega arith
     go (inr t) ih = let r = ih (rw t at h) in omega arith
 
--- the one birth of a name
+-- the one derivation of a name
 module _ (s : Span) where
   abbrev Covering : List Derivation → ℕ → Bool
   Covering B x = any (λ d. eqb x (d .name) && inside s (d .span)) B

@@ -1,4 +1,4 @@
--- Laws of lines: past a birth of another name, and among the births that are left when closed ones are taken away.
+-- Laws of ancestries: past a derivation of another name, and among the derivations that are left when closed ones are taken away.
 -- Assumes nothing.
 use mathlib.Core.Path.{_≡_, refl, sym, ap, _∙_}
 use mathlib.Core.Logic.{_⊎_, inl, inr}
@@ -29,12 +29,12 @@ below-differs {x} {y} h = ne-eqb x y (λ (e : x ≡ y). omega arith)
 pub not-zero : {x y : ℕ} → x < y → eqb y 0 ≡ false
 not-zero {x} {y} h = ne-eqb y 0 (λ (e : y ≡ 0). omega arith)
 
--- births with falling names below a bound, each parent's name below its child's
+-- derivations with falling names below a bound, each parent's name below its child's
 abbrev pub Falling : ℕ → List Derivation → Type 0
 Falling n [] = Unit {0}
 Falling n (b ∷ B) = (b .name < n) × (b .parent < b .name) × Falling (b .name) B
 
--- a line goes on with the parent's line
+-- an ancestry goes on with the parent's ancestry
 abbrev pub Step : ℕ → List Derivation → Derivation → Type 0
 Step n B b = (b .name < n) × (b .parent < b .name) × (ancestry B (b .name) ≡ b ∷ ancestry B (b .parent))
 
@@ -51,11 +51,11 @@ ancestry-step n (c ∷ B) f = (
     up : (b : Derivation) → Step (c .name) B b → Step n (c ∷ B) b
     up b h = (omega arith, h .1, past (b .name) (h .0) ∙ h .2 ∙ ap {B = List Derivation} (λ r. b ∷ r) (sym (past (b .parent) (omega arith))))
 
--- a test that passes at the parent, unless 0, of each birth that it passes at
+-- a test that passes at the parent, unless 0, of each derivation that it passes at
 abbrev pub Closed : (ℕ → Bool) → List Derivation → Type 0
 Closed k B = All (λ b. k (b .name) ≡ true → eqb (b .parent) 0 || k (b .parent) ≡ true) B
 
--- where ancestors are kept with their descendants, lines stay
+-- where ancestors are kept with their descendants, ancestries stay
 pub ancestry-kept : (k : ℕ → Bool) (n : ℕ) (B : List Derivation) → Falling n B → Closed k B → (x : ℕ) → eqb x 0 || k x ≡ true → ancestry (filter (λ b. k (b .name)) B) x ≡ ancestry B x
 ancestry-kept k n [] f c x h = refl
 ancestry-kept k n (b ∷ B) f c x h = go (ancestry-kept k (b .name) B (f .2) (c .1)) (test (eqb x (b .name))) (test (k (b .name)))
@@ -70,7 +70,7 @@ ancestry-kept k n (b ∷ B) f c x h = go (ancestry-kept k (b .name) B (f .2) (c 
     go ih (inr e) (inl t) = rw (t, ancestry-past b F x e, ancestry-past b B x e) (ih x h)
     go ih (inr e) (inr t) = rw (t, ancestry-past b B x e) (ih x h)
 
--- 0 has no line
+-- 0 has no ancestry
 pub ancestry-zero : (n : ℕ) (B : List Derivation) → Falling n B → ancestry B 0 ≡ []
 unfolding ancestry
 ancestry-zero n [] f = refl

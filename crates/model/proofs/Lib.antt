@@ -6,6 +6,8 @@ pub mod Notes
 pub mod Agree
 pub mod Lent
 pub mod Judged
+pub mod Precedence
+pub mod Frame
 pub mod Match
 pub mod Order
 pub mod Allowed

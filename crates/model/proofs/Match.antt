@@ -46,7 +46,7 @@ unfolding rowOf
 rows-named n notes s =
     rows-all notes (λ c. named 0 c ≡ false) (All-map _ _ (λ b h e. ne-eqb 0 (b .name) (λ (q : 0 ≡ b .name). omega arith)) (derivations notes) (ancestry-step n (derivations notes) (falling n notes s)))
 
--- the depth of a row is the length of its line
+-- the depth of a row is the length of its ancestry
 rows-depth : (notes : List Note) → All (λ c. c .depth ≡ length (ancestry (derivations notes) (c .name .0))) (rows notes)
 unfolding rowOf
 rows-depth notes = rows-all notes (λ c. c .depth ≡ length (ancestry (derivations notes) (c .name .0))) (All-of _ (λ b e. refl) (derivations notes))

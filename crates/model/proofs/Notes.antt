@@ -152,7 +152,7 @@ derivedBy-live n (Dropped u) notes s = refl
 
 -- ---- the rows after the note
 
--- what a note takes from a row, by the lines of these births
+-- what a note takes from a row, by the ancestries of these derivations
 abbrev pub lower : List Derivation → Note → Cap → Cap
 lower B w c = lowered (hits lowers B (c .name .0) w) c
 
@@ -163,7 +163,7 @@ left B w c = not (hits ends B (c .name .0) w)
 abbrev pub revokedBy : List Derivation → Note → List Cap → List Cap
 revokedBy B w rows = map (lower B w) (filter (left B w) rows)
 
--- it is the same by other births with the same lines
+-- it is the same by other derivations with the same ancestries
 pub revokedBy-cong : (B C : List Derivation) (w : Note) (rows : List Cap) → All (λ c. (takes : Takes) → hits takes B (c .name .0) w ≡ hits takes C (c .name .0) w) rows → revokedBy B w rows ≡ revokedBy C w rows
 revokedBy-cong B C w rows h =
     ap (map (lower B w)) (filter-cong (left B w) (left C w) rows (All-map _ _ (λ c e. ap not (e ends)) rows h))

@@ -15,7 +15,7 @@ pub spared : (a : Access) (s : Span) (user : List Derivation) (b : Derivation) (
 unfolding strike
 spared a s user b above h = rw (h, and-false (touches s (b .span)))
 
--- every birth on the line `above` is on the user's line
+-- every derivation on the ancestry `above` is on the user's ancestry
 abbrev Within : List Derivation → List Derivation → Type 0
 Within [] user = Unit {0}
 Within (b ∷ above) user = (inSubtree (b .name) user ≡ true) × Within above user
@@ -28,7 +28,7 @@ itself : (user : List Derivation) → Within user user
 itself [] = tt
 itself (b ∷ above) = (rw (same (b .name)), within b above above (itself above))
 
--- a test that Keep fails takes nothing along a line within the user's
+-- a test that Keep fails takes nothing along an ancestry within the user's
 none : (is : Effect → Bool) → is Keep ≡ false → (a : Access) (s : Span) (user ancestry : List Derivation) → Within ancestry user → reached is a s user ancestry ≡ false
 unfolding reached onAncestry
 none is k a s user [] h = refl

@@ -12,7 +12,7 @@ use Rattle.model.specs.declared.Event.the-variants.{Read, Write}
 use Rattle.model.specs.Lists.{answers}
 use Rattle.model.specs.Step.{initial, stateAfter, isAllowed}
 use Rattle.model.specs.Step
-use Rattle.model.specs.History.{emptyHistory, historyAfter, table, lives, livesRw, mayRead, mayWrite}
+use Rattle.model.specs.History.{emptyHistory, historyAfter, notedName, noteOf, table, lives, livesRw, mayRead, mayWrite}
 use Rattle.model.specs.History
 
 -- The list begins with n rows, all zeros, and a tally t whose issued number is 0. n and t's other counts may be anything.
@@ -22,6 +22,8 @@ pub record Demand3 (n : ℕ) (t : Tally) (es : List Event) : Type 0 where
   -- "After every list the lent table equals it, and the issued number equals the count of names."
   pub same-table : stateAfter n t es .table ≡ table n (historyAfter n es .notes)
   pub same-issued : stateAfter n t es .tally .issued ≡ historyAfter n es .count
+  -- "an allowed create or borrow has the name noted for it", and the others have name 0
+  pub noted-names : (e : Event) → isAllowed (Step.answer (stateAfter n t es) e) ≡ true → Step.answer (stateAfter n t es) e .name ≡ notedName (noteOf (historyAfter n es .count) e)
   -- "Each read and write is also allowed exactly when demand 3 says."
   pub reads : (u : Name) (s : Span) → isAllowed (Step.answer (stateAfter n t es) (Read u s)) ≡ mayRead (historyAfter n es .notes) (u .0) s
   pub writes : (u : Name) (s : Span) → isAllowed (Step.answer (stateAfter n t es) (Write u s)) ≡ mayWrite (historyAfter n es .notes) (u .0) s

@@ -151,6 +151,12 @@ noteOf count (Read u s) = Accessed Reading (u .0) s
 noteOf count (Write u s) = Accessed Writing (u .0) s
 noteOf count (Drop u) = Dropped (u .0)
 
+-- the name that a note makes; 0 where it makes none
+unfoldable pub notedName : Note → ℕ
+notedName (New d r) = d .name
+notedName (Accessed a u s) = 0
+notedName (Dropped u) = 0
+
 -- "It answers each event as this document says, judged on its own table and with its count as the issued number."
 unfoldable pub answer : ℕ → History → Event → Verdict
 answer n h e = verdict (judge (table n (h .notes)) (h .count) e) (newName (h .count) e)

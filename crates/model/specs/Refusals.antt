@@ -82,6 +82,6 @@ unfoldable pub refusals : List Cap → ℕ → Event → List (ℕ × Bool)
 refusals table issued e = (1, disordered table issued) ∷ checks (liveRows table) issued (length table) e
 
 -- "The lowest number that applies is the one given": the first of the list that holds, or 0 where the event is allowed.
--- The lists rise (proofs/Judged), so the first is the lowest.
+-- The lists rise (proofs/Precedence), so the first is the lowest.
 unfoldable pub judge : List Cap → ℕ → Event → ℕ
 judge table issued e = first (refusals table issued e)

@@ -1,17 +1,21 @@
--- Document 01, "Traces to try": those with a star.
+-- Document 01, "Traces to try", those with a star; "Eleven ways to be turned down", the examples that are events; and capcheck's example.
+-- One table, and one computed proof over it (proofs/Traces).
 -- Assumes nothing.
-use Prim.Native.Nat.{ℕ}
+use Prim.Native.Nat.{ℕ, zero, suc}
 use mathlib.Core.Bool.{Bool, true, false, _&&_}
-use mathlib.Core.List.{List, [], _∷_, map, reverse}
+use mathlib.Core.List.{List, [], _∷_, _++_, map, reverse}
 use lib.Dec.{eqb}
+use Rattle.model.specs.declared.Span.{Span}
 use Rattle.model.specs.declared.Cap.{Cap}
 use Rattle.model.specs.declared.Tally.{Tally}
 use Rattle.model.specs.declared.Event.{Event}
 use Rattle.model.specs.declared.Event.the-variants.{Create, Borrow, Read, Write, Drop}
-use Rattle.model.specs.Lists.{answers}
-use Rattle.model.specs.Step.{Verdict, initial, stateAfter, answer, after}
-use Rattle.model.specs.Table.{liveRows}
+use Rattle.model.specs.Lists.{answers, final}
+use Rattle.model.specs.Table.{row, emptyRow, liveRows}
 use Rattle.model.specs.Counts.{tally}
+use Rattle.model.specs.Step.{Verdict, State, initial, answer, after}
+
+-- ---- events as the text spells them
 
 abbrev ro : ℕ
 ro = 1
@@ -19,58 +23,125 @@ ro = 1
 abbrev RW : ℕ
 RW = 2
 
--- events as the text spells them
+abbrev span : ℕ → ℕ → Span
+span start length = record { start = record { 0 = start }; length = length }
+
 abbrev create : ℕ → ℕ → ℕ → Event
-create start length right = Create (record { start = record { 0 = start }; length = length }) right
+create start length right = Create (span start length) right
 
 abbrev borrow : ℕ → ℕ → ℕ → ℕ → Event
-borrow name start length right = Borrow (record { 0 = name }) (record { start = record { 0 = start }; length = length }) right
+borrow name start length right = Borrow (record { 0 = name }) (span start length) right
 
 abbrev read : ℕ → ℕ → ℕ → Event
-read name start length = Read (record { 0 = name }) (record { start = record { 0 = start }; length = length })
+read name start length = Read (record { 0 = name }) (span start length)
 
 abbrev write : ℕ → ℕ → ℕ → Event
-write name start length = Write (record { 0 = name }) (record { start = record { 0 = start }; length = length })
+write name start length = Write (record { 0 = name }) (span start length)
 
 abbrev drop : ℕ → Event
 drop name = Drop (record { 0 = name })
 
--- a number of rows; each event with its answer, a refusal (0: allowed) and a name; and at the end the live names, rising, with their rights
+-- ---- traces
+
+-- what is lent at first; each event with its answer, a refusal (0: allowed) and a name; and at the end the live names, rising, with
+-- their rights
 pub record Trace : Type 0 where
-  pub rows : ℕ
+  pub lent : State
   pub lines : List (Event × ℕ × ℕ)
   pub left : List (ℕ × ℕ)
 
-abbrev trace : ℕ → List (Event × ℕ × ℕ) → List (ℕ × ℕ) → Trace
-trace rows lines left = record { rows = rows; lines = lines; left = left }
+abbrev from : State → List (Event × ℕ × ℕ) → List (ℕ × ℕ) → Trace
+from lent lines left = record { lent = lent; lines = lines; left = left }
 
-unfoldable pub traces : List Trace
-traces =
+abbrev noCounts : ℕ → Tally
+noCounts issued = tally issued 0 0 0 0 0 0
+
+-- from so many rows, all zeros
+abbrev trace : ℕ → List (Event × ℕ × ℕ) → List (ℕ × ℕ) → Trace
+trace rows = from (initial rows (noCounts 0))
+
+-- the same after the line `(create 0 64 rw)`
+abbrev created : ℕ → List (Event × ℕ × ℕ) → List (ℕ × ℕ) → Trace
+created rows lines left = trace rows ((create 0 64 RW, 0, 1) ∷ lines) left
+
+unfoldable pub starred : List Trace
+starred =
     -- 1
-    trace 1024 ((create 0 64 RW, 0, 1) ∷ (borrow 1 0 64 RW, 0, 2) ∷ (borrow 1 1 64 RW, 6, 0) ∷ []) ((1, RW) ∷ (2, RW) ∷ [])
+    created 1024 ((borrow 1 0 64 RW, 0, 2) ∷ (borrow 1 1 64 RW, 6, 0) ∷ []) ((1, RW) ∷ (2, RW) ∷ [])
     -- 2
-    ∷ trace 1024 ((create 0 64 RW, 0, 1) ∷ (borrow 1 0 8 RW, 0, 2) ∷ (write 1 8 1, 0, 0) ∷ []) ((1, RW) ∷ (2, RW) ∷ [])
-    ∷ trace 1024 ((create 0 64 RW, 0, 1) ∷ (borrow 1 0 8 RW, 0, 2) ∷ (write 1 7 1, 0, 0) ∷ []) ((1, RW) ∷ [])
+    ∷ created 1024 ((borrow 1 0 8 RW, 0, 2) ∷ (write 1 8 1, 0, 0) ∷ []) ((1, RW) ∷ (2, RW) ∷ [])
+    ∷ created 1024 ((borrow 1 0 8 RW, 0, 2) ∷ (write 1 7 1, 0, 0) ∷ []) ((1, RW) ∷ [])
     -- 3
-    ∷ trace 1024 ((create 0 64 RW, 0, 1) ∷ (borrow 1 0 8 RW, 0, 2) ∷ (borrow 1 0 8 RW, 0, 3) ∷ (write 2 0 8, 0, 0) ∷ []) ((1, RW) ∷ (2, RW) ∷ [])
+    ∷ created 1024 ((borrow 1 0 8 RW, 0, 2) ∷ (borrow 1 0 8 RW, 0, 3) ∷ (write 2 0 8, 0, 0) ∷ []) ((1, RW) ∷ (2, RW) ∷ [])
     -- 4
-    ∷ trace 1024 ((create 0 64 RW, 0, 1) ∷ (borrow 1 0 8 RW, 0, 2) ∷ (borrow 1 0 8 RW, 0, 3) ∷ (read 2 0 1, 0, 0) ∷ (read 3 0 1, 0, 0) ∷ []) ((1, RW) ∷ (2, ro) ∷ (3, ro) ∷ [])
+    ∷ created 1024 ((borrow 1 0 8 RW, 0, 2) ∷ (borrow 1 0 8 RW, 0, 3) ∷ (read 2 0 1, 0, 0) ∷ (read 3 0 1, 0, 0) ∷ []) ((1, RW) ∷ (2, ro) ∷ (3, ro) ∷ [])
     -- 5
-    ∷ trace 1024 ((create 0 64 RW, 0, 1) ∷ (borrow 1 0 32 RW, 0, 2) ∷ (borrow 2 16 16 RW, 0, 3) ∷ (write 1 0 1, 0, 0) ∷ []) ((1, RW) ∷ [])
+    ∷ created 1024 ((borrow 1 0 32 RW, 0, 2) ∷ (borrow 2 16 16 RW, 0, 3) ∷ (write 1 0 1, 0, 0) ∷ []) ((1, RW) ∷ [])
     -- 6
-    ∷ trace 1024 ((create 0 64 RW, 0, 1) ∷ (drop 1, 0, 0) ∷ (read 1 0 0, 3, 0) ∷ []) []
+    ∷ created 1024 ((drop 1, 0, 0) ∷ (read 1 0 0, 3, 0) ∷ []) []
     -- 7
     ∷ trace 1024 ((create 4294967295 1 RW, 0, 1) ∷ (create 4294967295 2 RW, 3, 0) ∷ []) ((1, RW) ∷ [])
     -- 8
-    ∷ trace 1 ((create 0 64 RW, 0, 1) ∷ (borrow 1 0 8 RW, 10, 0) ∷ (drop 1, 0, 0) ∷ (create 0 64 RW, 0, 2) ∷ []) ((2, RW) ∷ [])
+    ∷ created 1 ((borrow 1 0 8 RW, 10, 0) ∷ (drop 1, 0, 0) ∷ (create 0 64 RW, 0, 2) ∷ []) ((2, RW) ∷ [])
     -- 9
     ∷ trace 0 ((create 0 64 RW, 10, 0) ∷ []) []
     -- 10
-    ∷ trace 1024 ((create 4096 8 RW, 0, 1) ∷ (borrow 1 4096 8 RW, 0, 2) ∷ (borrow 2 4096 8 RW, 0, 3) ∷ (write 2 4096 8, 0, 0) ∷ (write 3 4096 8, 5, 0) ∷ []) ((1, RW) ∷ (2, RW) ∷ [])
+    ∷ trace 1024
+    ((create 4096 8 RW, 0, 1) ∷ (borrow 1 4096 8 RW, 0, 2) ∷ (borrow 2 4096 8 RW, 0, 3) ∷ (write 2 4096 8, 0, 0) ∷ (write 3 4096 8, 5, 0) ∷ [])
+    ((1, RW) ∷ (2, RW) ∷ [])
     ∷ []
 
-abbrev noCounts : Tally
-noCounts = tally 0 0 0 0 0 0 0
+-- n borrows of `0 8 rw`, each from the newest name, which is x at first
+abbrev nested : ℕ → ℕ → List (Event × ℕ × ℕ)
+nested zero x = []
+nested (suc n) x = (borrow x 0 8 RW, 0, suc x) ∷ nested n (suc x)
+
+-- the names from x on, n of them, with `rw`
+abbrev names : ℕ → ℕ → List (ℕ × ℕ)
+names zero x = []
+names (suc n) x = (x, RW) ∷ names n (suc x)
+
+abbrev namedThree : Cap
+namedThree = row (record { name = 3; parent = 0; span = span 0 64 }) RW 1
+
+abbrev namedOne : Cap
+namedOne = row (record { name = 1; parent = 0; span = span 0 64 }) RW 1
+
+unfoldable pub refused : List Trace
+refused =
+    -- 1: rows both named 3
+    from (record { table = namedThree ∷ namedThree ∷ []; tally = noCounts 3 }) ((read 3 0 8, 1, 0) ∷ []) ((3, RW) ∷ (3, RW) ∷ [])
+    -- 2: an event whose right is neither 1 nor 2
+    ∷ created 2 ((borrow 1 0 8 0, 2, 0) ∷ (create 0 8 3, 2, 0) ∷ []) ((1, RW) ∷ [])
+    -- 3
+    ∷ created 2 ((read 1 0 0, 3, 0) ∷ []) ((1, RW) ∷ [])
+    -- 4
+    ∷ created 2 ((read 9 0 8, 4, 0) ∷ []) ((1, RW) ∷ [])
+    -- 5
+    ∷ created 2 ((drop 1, 0, 0) ∷ (read 1 0 8, 5, 0) ∷ []) []
+    -- 6
+    ∷ created 2 ((read 1 60 8, 6, 0) ∷ []) ((1, RW) ∷ [])
+    -- 7
+    ∷ created 2 ((borrow 1 0 8 ro, 0, 2) ∷ (write 2 0 8, 7, 0) ∷ []) ((1, RW) ∷ (2, ro) ∷ [])
+    -- 8
+    ∷ created 1024 (nested 63 1 ++ ((borrow 64 0 8 RW, 8, 0) ∷ [])) (names 64 1)
+    -- 9: with 1,000,000 issued
+    ∷ from (record { table = namedOne ∷ emptyRow ∷ []; tally = noCounts 1000000 }) ((create 0 8 RW, 9, 0) ∷ []) ((1, RW) ∷ [])
+    -- 10
+    ∷ created 2 ((borrow 1 0 8 ro, 0, 2) ∷ (create 0 8 RW, 10, 0) ∷ []) ((1, RW) ∷ (2, ro) ∷ [])
+    ∷ []
+
+-- "The bracket text": what capcheck is shown on
+unfoldable pub printed : Trace
+printed =
+    created 1024
+    ((borrow 1 0 16 RW, 0, 2) ∷ (borrow 1 16 16 RW, 0, 3) ∷ (write 2 0 8, 0, 0) ∷ (read 1 0 4, 0, 0) ∷ (write 2 0 8, 7, 0) ∷ [])
+    ((1, RW) ∷ (2, ro) ∷ (3, RW) ∷ [])
+
+unfoldable pub traces : List Trace
+traces = starred ++ (refused ++ (printed ∷ []))
+
+-- ---- when a trace goes as it says
 
 -- the answers are those of the lines
 abbrev sameAnswers : List Verdict → List (Event × ℕ × ℕ) → Bool
@@ -86,7 +157,8 @@ sameRights [] (l ∷ left) = false
 sameRights (c ∷ rows) [] = false
 sameRights (c ∷ rows) (l ∷ left) = eqb (c .name .0) (l .0) && eqb (c .right) (l .1) && sameRights rows left
 
+abbrev eventsOf : Trace → List Event
+eventsOf t = map (λ l. l .0) (t .lines)
+
 unfoldable pub holds : Trace → Bool
-holds t =
-    sameAnswers (answers after answer (initial (t .rows) noCounts) (map (λ l. l .0) (t .lines))) (t .lines)
-    && sameRights (reverse (liveRows (stateAfter (t .rows) noCounts (map (λ l. l .0) (t .lines)) .table))) (t .left)
+holds t = sameAnswers (answers after answer (t .lent) (eventsOf t)) (t .lines) && sameRights (reverse (liveRows (final after (t .lent) (eventsOf t) .table))) (t .left)

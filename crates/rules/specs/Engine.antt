@@ -69,7 +69,7 @@ pub record Ready (ws : List ℕ) (T : List Cap) (n k : ℕ) : Type 0 where
   pub stands : LiveRows T k
   pub zeros : (j : ℕ) → k ≤ j → j < n → getD T j emptyRow ≡ emptyRow
 
--- the rows on the line of the name u are those with 1
+-- the rows on the ancestry of the name u are those with 1
 pub record OnAncestry (T : List Cap) (k u : ℕ) (marks : List ℕ) : Type 0 where
   pub each : (i : ℕ) → i < k → eqb (getD marks i 0) 1 ≡ inSubtree (nameAt T i) (ancestry (derivations (before T k)) u)
 
@@ -87,7 +87,7 @@ mark ends lowers x = cond (ends x) 2 (cond (lowers x) 1 0)
 pub record Marked (T : List Cap) (k : ℕ) (marks : List ℕ) (ends lowers : ℕ → Bool) : Type 0 where
   pub each : (i : ℕ) → i < k → getD marks i 0 ≡ mark ends lowers (nameAt T i)
 
--- a holder's own mark, where its place on the user's line is told
+-- a holder's own mark, where its place on the user's ancestry is told
 abbrev pub own : Access → Span → Span → Bool → ℕ
 own a s t on = cond (touches s t && not on) (weight (effectOf a)) 0
 

@@ -32,7 +32,7 @@ fn larger(a: u8, b: u8) -> u8
     if a < b { b } else { a }
 }
 
-// The rows on the line of the name u have 1.
+// The rows on the ancestry of the name u have 1.
 fn ancestry_of(words: &[u32; 6144], k: usize, u: u32) -> [u8; 1024]
     requires { ⌜ (k ≤ 1024) × Rise (rowsIn (now words)) k ⌝ }
     ensures { λ r. ⌜ OnAncestry (rowsIn (now (words .entry))) k u r ⌝ }
@@ -53,7 +53,7 @@ fn ancestry_of(words: &[u32; 6144], k: usize, u: u32) -> [u8; 1024]
     ancestry
 }
 
-// A holder's own mark: what an access to s gives it, where `on` says that it is on the user's line.
+// A holder's own mark: what an access to s gives it, where `on` says that it is on the user's ancestry.
 fn own_mark(a: Access, s: Span, t: Span, on: bool) -> u8
     ensures { λ r. ⌜ r ≡ own a s t on ⌝ }
 {

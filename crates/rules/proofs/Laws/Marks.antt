@@ -49,9 +49,9 @@ place-of T (suc k) x h = go (test (eqb x (nameAt T k))) (place-of T k x)
     go (inl t) ih = (k, (omega arith, sym (eqb-true x (nameAt T k) t)))
     go (inr f) ih = let p = ih (rw f at h) in (p .0, (omega (arith, p .1 .0), p .1 .1))
 
--- ---- lines by places
+-- ---- ancestries by places
 
--- the line of a name that is there goes on from its place
+-- the ancestry of a name that is there goes on from its place
 pub ancestry-place : (T : List Cap) (k q x : ℕ) → Rise T k → q < k → nameAt T q ≡ x → ancestry (derivations (before T k)) x ≡ derivation (getD T q emptyRow) ∷ ancestry (derivations (before T q)) (parentAt T q)
 unfolding before
 ancestry-place T zero q x r l e = absurd (not-suc-le-zero l)
@@ -67,7 +67,7 @@ unfolding before ancestry
 ancestry-none T zero x h = refl
 ancestry-none T (suc k) x h = let p = or-neither (eqb x (nameAt T k)) (any (named x) (before T k)) h in ancestry-past (derivation (getD T k emptyRow)) (derivations (before T k)) x (p .0) ∙ ancestry-none T k x (p .1)
 
--- the walk up the line of u: what is left is the line of a name among the first `top` rows
+-- the walk up the ancestry of u: what is left is the ancestry of a name among the first `top` rows
 pub record Walk (T : List Cap) (k u : ℕ) (marks : List ℕ) (top name : ℕ) : Type 0 where
   pub fits : top ≤ k
   pub long : length marks ≡ 1024

@@ -1,4 +1,4 @@
--- `counted` meets its contract.
+-- `count_allowed` meets its contract.
 -- Assumes nothing.
 use native.Mathlib.Numerals.{add-one}
 use borrow.Author.Needs.{needs}

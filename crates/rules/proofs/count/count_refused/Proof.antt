@@ -1,4 +1,4 @@
--- `turned_down` meets its contract.
+-- `count_refused` meets its contract.
 -- Assumes nothing.
 use borrow.Author.Needs.{needs}
 use Rattle.rules.proofs.count.count_refused.Statement.{statement}

@@ -1,4 +1,4 @@
--- `near` meets its contract.
+-- `find_near` meets its contract.
 -- Assumes nothing.
 use mathlib.Core.Path.{ap, sym, _∙_}
 use borrow.Author.Needs.{needs}

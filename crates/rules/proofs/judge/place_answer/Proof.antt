@@ -1,4 +1,4 @@
--- `use_answer` meets its contract.
+-- `place_answer` meets its contract.
 -- Assumes nothing.
 use borrow.Author.Needs.{needs}
 use Rattle.rules.proofs.judge.place_answer.Statement.{statement}

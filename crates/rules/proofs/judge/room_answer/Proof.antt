@@ -1,4 +1,4 @@
--- `new_answer` meets its contract.
+-- `room_answer` meets its contract.
 -- Assumes nothing.
 use native.Mathlib.Numerals.{add-one}
 use borrow.Author.Needs.{needs}

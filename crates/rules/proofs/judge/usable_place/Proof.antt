@@ -1,4 +1,4 @@
--- `use_of` meets its contract.
+-- `usable_place` meets its contract.
 -- Assumes nothing.
 use mathlib.Core.Path.{_≡_, sym, ap, _∙_, subst}
 use mathlib.Core.Bool.{true}

@@ -1,4 +1,4 @@
--- `line_of` meets its contract: what is left of the line is that of `name`, among the first `top` rows.
+-- `ancestry_of` meets its contract: what is left of the ancestry is that of `name`, among the first `top` rows.
 -- Assumes nothing.
 use mathlib.Core.Path.{_≡_, ap}
 use native.Mathlib.Omega.{arith}

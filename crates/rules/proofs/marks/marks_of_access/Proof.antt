@@ -1,4 +1,4 @@
--- `marks_of_use` meets its contract.
+-- `marks_of_access` meets its contract.
 -- Assumes nothing.
 use Rattle.rules.specs.Words.{rowsIn}
 use Rattle.rules.proofs.Laws.Marks.{stand-rise, marked-use}

@@ -1,4 +1,4 @@
--- `only` meets its contract.
+-- `only_mark` meets its contract.
 -- Assumes nothing.
 use borrow.Author.Needs.{needs}
 use Rattle.rules.proofs.Laws.Marks.{only-set, only-none}

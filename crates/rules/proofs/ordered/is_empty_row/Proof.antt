@@ -1,4 +1,4 @@
--- `is_blank` meets its contract.
+-- `is_empty_row` meets its contract.
 -- Assumes nothing.
 use borrow.Author.Tests.{eq-eqb, ne-eqb}
 use Rattle.model.specs.Table.{isEmptyRow}

@@ -1,4 +1,4 @@
--- `zeros_last` meets its contract: the rows from k on are blank if those from i on are.
+-- `rest_is_empty` meets its contract: the rows from k on are blank if those from i on are.
 -- Assumes nothing.
 use mathlib.Core.Path.{_≡_, refl, ap, sym, _∙_}
 use Prim.Native.Nat.{_-_, _≤_}

@@ -1,4 +1,4 @@
--- `is_under` meets its contract.
+-- `row_fits_parent` meets its contract.
 -- Assumes nothing.
 use mathlib.Core.Path.{_≡_, ap₂, sym, _∙_}
 use borrow.Author.Needs.{needs}

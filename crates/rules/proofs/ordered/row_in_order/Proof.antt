@@ -1,4 +1,4 @@
--- `is_placed` meets its contract.
+-- `row_in_order` meets its contract.
 -- Assumes nothing.
 use mathlib.Core.Path.{_≡_, ap, sym, _∙_}
 use borrow.Author.Needs.{needs}

@@ -1,4 +1,4 @@
--- `use_rows` meets its contract.
+-- `access_rows` meets its contract.
 -- Assumes nothing.
 use mathlib.Core.Path.{ap, _∙_}
 use Rattle.model.specs.Table.{lentTable}
