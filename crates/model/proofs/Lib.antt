@@ -8,6 +8,7 @@ pub mod Lent
 pub mod Judged
 pub mod Precedence
 pub mod Frame
+pub mod Counted
 pub mod Match
 pub mod Order
 pub mod Allowed

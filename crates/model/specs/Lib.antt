@@ -7,6 +7,7 @@ pub mod Refusals
 pub mod Effects
 pub mod Counts
 pub mod Step
+pub mod Counted
 pub mod Answers
 pub mod History
 pub mod Demand3
