@@ -1,6 +1,7 @@
 //! One call of the implementation beside the oracle: the answer and everything lent must be equal.
 
 use std::fmt::Debug;
+use std::sync::atomic::{AtomicU64, Ordering};
 
 use interface::{Cap, Event, Interface};
 use oracle::{Refused, Row, Tally};
@@ -145,10 +146,23 @@ pub fn lend(
     Ok((answer, after))
 }
 
+/// How often events were allowed, and refused by each number.
+static MET: [AtomicU64; 11] = [const { AtomicU64::new(0) }; 11];
+
+/// Whether events have met every answer that an event can meet, and how often.
+pub fn every_answer_met() -> Result<u64, String> {
+    let met = MET.each_ref().map(|count| count.load(Ordering::Relaxed));
+    match met.iter().all(|count| *count > 0) {
+        true => Ok(met.iter().sum()),
+        false => Err(format!("allowed and refusals 1 to 10: {met:?}")),
+    }
+}
+
 /// One event on what is lent, which is then as the event leaves it.
 pub fn apply(subject: Subject, lent: &mut Lent, event: Event) -> Result<u64, String> {
     let (answer, found) = lend(lent, |table, tally| subject.apply(table, tally, event))?;
     let verdict = oracle::apply(&mut lent.rows, &mut lent.tally, oracle_event(event));
+    MET[usize::from(verdict.err().unwrap_or(0))].fetch_add(1, Ordering::Relaxed);
     same_answer(packed(verdict), answer)?;
     same_lent(lent, &found)?;
     Ok(answer)

@@ -3,7 +3,7 @@
 use std::collections::BTreeSet;
 
 use interface::Event;
-use oracle::{History, MAX_ROWS, Row, Span};
+use oracle::{History, MAX_DEPTH, MAX_NAME, MAX_ROWS, Row, Span};
 
 use crate::agree::{self, Agreed, Lent, Subject, oracle_event, packed, same_answer, same_lent};
 use crate::generate::{self, Shape};
@@ -69,6 +69,9 @@ pub fn groups(report: &mut Report, subject: Subject) {
             lent
         })
     });
+    report.group("events on tables at their limits", |random| {
+        at_limits(random, subject)
+    });
     report.group("lists of events and their history", |random| {
         histories(random, subject, 1_600, 24)
     });
@@ -90,6 +93,58 @@ fn noise(random: &mut Random) -> Lent {
     let mut tally = generate::tally(random);
     tally.issued = random.number();
     Lent { rows, tally }
+}
+
+/// A root and a chain of borrows below it, named from a number on.
+fn chain(first_name: u32, rows: usize) -> Vec<Row> {
+    let row = |depth: u32| Row {
+        name: first_name + depth - 1,
+        parent: if depth == 1 {
+            0
+        } else {
+            first_name + depth - 2
+        },
+        start: 0,
+        length: 8,
+        right: 2,
+        depth,
+    };
+    (1..=rows as u32).map(row).collect()
+}
+
+/// Tables in order but for one limit, and tables just within it.
+fn at_limits(random: &mut Random, subject: Subject) -> Checked {
+    let depth = MAX_DEPTH as usize;
+    let mut tables = Vec::new();
+    for rows in depth - 1..=depth + 2 {
+        tables.push((chain(1, rows), rows as u32));
+    }
+    for last_name in MAX_NAME - 1..=MAX_NAME + 1 {
+        for issued in MAX_NAME - 1..=MAX_NAME + 1 {
+            tables.push((chain(last_name - 3, 4), issued));
+        }
+    }
+    for rows in MAX_ROWS - 1..=MAX_ROWS + 1 {
+        let roots = (1..=rows as u32).map(|name| Row {
+            name,
+            ..chain(1, 1)[0]
+        });
+        tables.push((roots.collect(), rows as u32));
+    }
+    let mut cases = 0;
+    for (mut rows, issued) in tables {
+        for spare in 0..3 {
+            rows.extend((0..spare).map(|_| Row::default()));
+            let mut tally = generate::tally(random);
+            tally.issued = issued;
+            let rows = rows.clone();
+            cases += on_tables(random, subject, 2, 6, |_| Lent {
+                rows: rows.clone(),
+                tally,
+            })?;
+        }
+    }
+    Ok(cases)
 }
 
 /// Some events, one after the other, on each of many tables.

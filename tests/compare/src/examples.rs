@@ -164,14 +164,13 @@ pub fn groups(report: &mut Report, subject: Subject) {
     }
     report.group("trace 8", |_| check_trace(subject, &one_row()));
     report.group("trace 9", |_| check_trace(subject, &no_rows()));
-    report.group("trace 11, depth", |_| depth(subject));
+    report.group("trace 11, depth, and refusal 8", |_| depth(subject));
     report.group("trace 11, names", |_| check_trace(subject, &last_name()));
     for (name, steps, listing) in REFUSALS {
         report.group(name, |_| on_two_rows(subject, steps, listing));
     }
     report.group("refusal 1", |_| disordered(subject));
     report.group("refusal 2", |_| misspelt(subject));
-    report.group("refusal 8", |_| depth(subject));
     report.group("refusal 9", |_| check_trace(subject, &names_spent()));
     report.group("refusal 11", |_| short_buffer(subject));
     report.group("capcheck's example", |_| capcheck(subject));

@@ -52,6 +52,9 @@ fn main() -> ExitCode {
     lines::groups(&mut report, subject);
     listings::groups(&mut report, subject);
     runs::groups(&mut report, subject);
+    report.group("every answer of an event was met", |_| {
+        agree::every_answer_met()
+    });
     match report.finish() {
         true => ExitCode::SUCCESS,
         false => ExitCode::FAILURE,
