@@ -25,7 +25,7 @@ pub fn groups(report: &mut Report, subject: Subject) {
         })
     });
     report.group("events on deep tables", |random| {
-        on_tables(random, subject, 400, 8, |random| {
+        on_tables(random, subject, 1_600, 2, |random| {
             let live = random.between(60, 140);
             let rows = live + random.index(3);
             let deep = true;

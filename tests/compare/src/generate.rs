@@ -110,7 +110,7 @@ fn parent(random: &mut Random, rows: &[Row], deep: bool) -> Option<Row> {
     if rows.is_empty() || random.one_in(rarely_a_root) {
         return None;
     }
-    let candidate = match deep && !random.one_in(8) {
+    let candidate = match deep && !random.one_in(400) {
         true => rows[rows.len() - 1],
         false => random.pick(rows),
     };
@@ -126,7 +126,7 @@ fn row(random: &mut Random, name: u32, parent: Option<Row>, area: Span) -> Row {
         parent: parent.map_or(0, |parent| parent.name),
         start: span.start,
         length: span.length,
-        right: if random.one_in(4) { 1 } else { highest },
+        right: if random.one_in(10) { 1 } else { highest },
         depth: parent.map_or(0, |parent| parent.depth) + 1,
     }
 }
@@ -194,7 +194,11 @@ fn near(random: &mut Random, number: u32) -> u32 {
 /// because nobody may look at them.
 pub fn event(random: &mut Random, lent: &Lent, area: Span) -> Event {
     let live = oracle::live_rows(&lent.rows);
-    let user = (!live.is_empty() && !random.one_in(6)).then(|| random.pick(live));
+    let user = match random.below(6) {
+        0 => None,
+        1 => live.iter().max_by_key(|row| row.depth).copied(),
+        _ => live.get(random.index(live.len().max(1))).copied(),
+    };
     let outer = user.map_or(area, |user| user.span());
     let span = match random.below(10) {
         0 => Span {
