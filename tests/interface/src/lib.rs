@@ -4,6 +4,7 @@
 pub use baseline::{Cap, Event, Tally};
 
 #[cfg(library)]
+#[allow(unsafe_code)]
 #[path = "../../../bindings/rust/src/ffi.rs"]
 mod ffi;
 #[cfg(library)]
