@@ -76,16 +76,14 @@ fn value(answer: u64) -> Result<u32, Refusal> {
 /// [`Refusal::Disordered`] changes nothing; any other refusal adds one to the refused count and
 /// changes nothing else.
 pub fn apply(table: &mut [Cap], tally: &mut Tally, event: Event) -> Answer {
-    let Fields {
-        kind,
-        name,
-        start,
-        length,
-        right,
-    } = Fields::of(event);
+    let e = Fields::of(event);
     let rows = table.len();
     let table = table.as_mut_ptr();
-    let answer = unsafe { ffi::kz_apply(table, rows, tally, kind, name, start, length, right) };
+    let answer = unsafe {
+        ffi::kz_apply(
+            table, rows, tally, e.kind, e.name, e.start, e.length, e.right,
+        )
+    };
     match value(answer) {
         Ok(0) => Answer::Allowed(None),
         Ok(name) => Answer::Allowed(Some(Name(name))),
@@ -113,16 +111,11 @@ pub fn run(table: &mut [Cap], tally: &mut Tally, text: &[u8]) -> RunAnswer {
 ///
 /// [`Refusal::BufferTooShort`], with the buffer untouched.
 pub fn write_event(event: Event, out: &mut [u8]) -> Result<usize, Refusal> {
-    let Fields {
-        kind,
-        name,
-        start,
-        length,
-        right,
-    } = Fields::of(event);
+    let e = Fields::of(event);
     let size = out.len();
     let out = out.as_mut_ptr();
-    let answer = unsafe { ffi::kz_write_event(kind, name, start, length, right, out, size) };
+    let answer =
+        unsafe { ffi::kz_write_event(e.kind, e.name, e.start, e.length, e.right, out, size) };
     value(answer).map(|length| length as usize)
 }
 

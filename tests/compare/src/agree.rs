@@ -65,12 +65,18 @@ pub fn same_answer(expected: u64, found: u64) -> Agreed {
     same("answer (number, value)", parts(expected), parts(found))
 }
 
-pub fn same_lent(expected: &Lent, found: &Lent) -> Agreed {
-    let pairs = expected.rows.iter().zip(&found.rows).enumerate();
-    for (at, (expected, found)) in pairs {
-        same(&format!("row {at}"), expected, found)?;
+/// The table and tally that a call left.
+pub struct Found {
+    table: Vec<Cap>,
+    tally: interface::Tally,
+}
+
+/// Whether a call left what it should.
+fn same_lent(expected: &Lent, found: &Found) -> Agreed {
+    for (at, (row, cap)) in expected.rows.iter().zip(&found.table).enumerate() {
+        same(&format!("row {at}"), cap_of(row), *cap)?;
     }
-    same("tally", &expected.tally, &found.tally)
+    same("tally", interface_tally(expected.tally), found.tally)
 }
 
 /// A row that stands after the lent ones and is not the call's to write.
@@ -94,17 +100,6 @@ fn cap_of(row: &Row) -> Cap {
     }
 }
 
-fn row_of(cap: &Cap) -> Row {
-    Row {
-        name: cap.name,
-        parent: cap.parent,
-        start: cap.start,
-        length: cap.length,
-        right: cap.right,
-        depth: cap.depth,
-    }
-}
-
 fn interface_tally(tally: Tally) -> interface::Tally {
     interface::Tally {
         issued: tally.issued,
@@ -117,33 +112,17 @@ fn interface_tally(tally: Tally) -> interface::Tally {
     }
 }
 
-fn oracle_tally(tally: interface::Tally) -> Tally {
-    Tally {
-        issued: tally.issued,
-        creates: tally.creates,
-        borrows: tally.borrows,
-        reads: tally.reads,
-        writes: tally.writes,
-        drops: tally.drops,
-        refused: tally.refused,
-    }
-}
-
 /// Calls with a copy of what is lent; gives the answer and the copy as the call left it.
-pub fn lend(
+fn lend(
     lent: &Lent,
     call: impl FnOnce(&mut [Cap], &mut interface::Tally) -> u64,
-) -> Result<(u64, Lent), String> {
+) -> Result<(u64, Found), String> {
     let mut table: Vec<Cap> = lent.rows.iter().map(cap_of).collect();
     table.push(GUARD_ROW);
     let mut tally = interface_tally(lent.tally);
     let answer = call(&mut table[..lent.rows.len()], &mut tally);
     same("the row after the table", table.pop(), Some(GUARD_ROW))?;
-    let after = Lent {
-        rows: table.iter().map(row_of).collect(),
-        tally: oracle_tally(tally),
-    };
-    Ok((answer, after))
+    Ok((answer, Found { table, tally }))
 }
 
 /// How often events were allowed, and refused by each number.

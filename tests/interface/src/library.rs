@@ -13,17 +13,14 @@ impl Interface for Library {
         "C library"
     }
 
-    fn apply(&self, table: &mut [Cap], tally: &mut Tally, event: Event) -> u64 {
-        let Event {
-            kind,
-            name,
-            start,
-            length,
-            right,
-        } = event;
+    fn apply(&self, table: &mut [Cap], tally: &mut Tally, e: Event) -> u64 {
         let rows = table.len();
         let table = table.as_mut_ptr();
-        unsafe { ffi::kz_apply(table, rows, tally, kind, name, start, length, right) }
+        unsafe {
+            ffi::kz_apply(
+                table, rows, tally, e.kind, e.name, e.start, e.length, e.right,
+            )
+        }
     }
 
     fn run(&self, table: &mut [Cap], tally: &mut Tally, text: &[u8]) -> u64 {
@@ -31,17 +28,10 @@ impl Interface for Library {
         unsafe { ffi::kz_run(table.as_mut_ptr(), rows, tally, text.as_ptr(), text.len()) }
     }
 
-    fn write_event(&self, event: Event, out: &mut [u8]) -> u64 {
-        let Event {
-            kind,
-            name,
-            start,
-            length,
-            right,
-        } = event;
+    fn write_event(&self, e: Event, out: &mut [u8]) -> u64 {
         let size = out.len();
         let out = out.as_mut_ptr();
-        unsafe { ffi::kz_write_event(kind, name, start, length, right, out, size) }
+        unsafe { ffi::kz_write_event(e.kind, e.name, e.start, e.length, e.right, out, size) }
     }
 
     fn read_event(&self, line: &[u8], fields: &mut [u32; 5]) -> u64 {

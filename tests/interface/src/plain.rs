@@ -34,15 +34,8 @@ impl Interface for Baseline {
     }
 
     fn read_event(&self, line: &[u8], fields: &mut [u32; 5]) -> u64 {
-        packed(baseline::read_event(line).map(|event| {
-            let Event {
-                kind,
-                name,
-                start,
-                length,
-                right,
-            } = event;
-            *fields = [kind.into(), name, start, length, right.into()];
+        packed(baseline::read_event(line).map(|e| {
+            *fields = [e.kind.into(), e.name, e.start, e.length, e.right.into()];
             0
         }))
     }

@@ -3,25 +3,11 @@
 use crate::table::{Row, refusal};
 use crate::values::{Event, READ_ONLY, READ_WRITE, Refused, Span};
 
+/// An allowed event. A create or borrow is noted with the name that it made, the others with 0.
 #[derive(Clone, Copy, Debug)]
-enum Note {
-    New {
-        name: u32,
-        parent: u32,
-        span: Span,
-        right: u8,
-    },
-    Read {
-        name: u32,
-        span: Span,
-    },
-    Write {
-        name: u32,
-        span: Span,
-    },
-    Drop {
-        name: u32,
-    },
+struct Note {
+    made: u32,
+    event: Event,
 }
 
 /// What the note that made a name says of it, and where it stands.
@@ -59,41 +45,18 @@ impl History {
         if let Some(number) = refusal(&self.table(), self.count, event) {
             return Err(number);
         }
-        if event.makes() {
-            self.count += 1;
-        }
-        let name = self.count;
-        self.notes.extend(match event {
-            Event::Create { span, right } => Some(Note::New {
-                name,
-                parent: 0,
-                span,
-                right,
-            }),
-            Event::Borrow {
-                parent,
-                span,
-                right,
-            } => Some(Note::New {
-                name,
-                parent,
-                span,
-                right,
-            }),
-            Event::Read { name, span } => Some(Note::Read { name, span }),
-            Event::Write { name, span } => Some(Note::Write { name, span }),
-            Event::Drop { name } => Some(Note::Drop { name }),
-            Event::Unknown => None,
-        });
-        Ok(if event.makes() { name } else { 0 })
+        let made = match event.makes() {
+            true => self.count + 1,
+            false => 0,
+        };
+        self.count = self.count.max(made);
+        self.notes.push(Note { made, event });
+        Ok(made)
     }
 
     /// The history's table: a row for each living name, rising, then zeros.
     pub fn table(&self) -> Vec<Row> {
-        let names = self.notes.iter().filter_map(|note| match note {
-            Note::New { name, .. } => Some(*name),
-            _ => None,
-        });
+        let names = self.notes.iter().map(|note| note.made);
         let living = names.filter(|name| self.lives(*name));
         let mut rows: Vec<Row> = living.filter_map(|name| self.row(name)).collect();
         rows.resize(self.rows, Row::default());
@@ -116,21 +79,15 @@ impl History {
         })
     }
 
-    fn made(&self, wanted: u32) -> Option<Made> {
-        let mut notes = self.notes.iter().enumerate();
-        notes.find_map(|(at, note)| match *note {
-            Note::New {
-                name,
-                parent,
-                span,
-                right,
-            } if name == wanted => Some(Made {
-                at,
-                parent,
-                span,
-                right,
-            }),
-            _ => None,
+    fn made(&self, name: u32) -> Option<Made> {
+        let made_it = |note: &Note| name != 0 && note.made == name;
+        let at = self.notes.iter().position(made_it)?;
+        let event = self.notes[at].event;
+        Some(Made {
+            at,
+            parent: event.user().unwrap_or(0),
+            span: event.span()?,
+            right: event.right()?,
         })
     }
 
@@ -155,31 +112,32 @@ impl History {
         names.iter().any(|name| self.strikes(user, span, *name))
     }
 
+    /// Whether an event noted after the name was made is one of those that take something from it.
+    fn any_later(&self, made: Made, takes: impl Fn(Event) -> bool) -> bool {
+        let later = &self.notes[made.at + 1..];
+        later.iter().any(|note| takes(note.event))
+    }
+
     pub fn lives(&self, name: u32) -> bool {
-        let Some(made) = self.made(name) else {
-            return false;
-        };
         let path = self.ancestry(name);
-        let mut later = self.notes[made.at + 1..].iter();
-        !later.any(|note| match *note {
-            Note::Drop { name } => path.contains(&name),
-            Note::Write { name, span } => self.strikes_any(name, span, &path),
-            Note::New { .. } | Note::Read { .. } => false,
-        })
+        let ends = |event| match event {
+            Event::Drop { name } => path.contains(&name),
+            Event::Write { name, span } => self.strikes_any(name, span, &path),
+            _ => false,
+        };
+        self.made(name)
+            .is_some_and(|made| !self.any_later(made, ends))
     }
 
     /// Whether the name was made writable and no later read took that away.
     pub fn is_read_write(&self, name: u32) -> bool {
-        let Some(made) = self.made(name) else {
-            return false;
-        };
         let path = self.ancestry(name);
-        let mut later = self.notes[made.at + 1..].iter();
-        let lowered = later.any(|note| match *note {
-            Note::Read { name, span } => self.strikes_any(name, span, &path),
+        let lowers = |event| match event {
+            Event::Read { name, span } => self.strikes_any(name, span, &path),
             _ => false,
-        });
-        made.right == READ_WRITE && !lowered
+        };
+        self.made(name)
+            .is_some_and(|made| made.right == READ_WRITE && !self.any_later(made, lowers))
     }
 
     /// Demand 3 of a read: the capability was made, the span is legal and within its own, and it
