@@ -81,14 +81,7 @@ pub fn groups(report: &mut Report, subject: Subject) {
 }
 
 fn noise(random: &mut Random) -> Lent {
-    let rows = (0..random.between(1, 3)).map(|_| Row {
-        name: random.number(),
-        parent: random.number(),
-        start: random.number(),
-        length: random.number(),
-        right: random.number(),
-        depth: random.number(),
-    });
+    let rows = (0..random.between(1, 3)).map(|_| generate::noise_row(random));
     let rows = rows.collect();
     let mut tally = generate::tally(random);
     tally.issued = random.number();

@@ -140,6 +140,18 @@ fn issued(random: &mut Random, last_name: u32) -> u32 {
     highest.clamp(last_name, MAX_NAME)
 }
 
+/// A row of any numbers.
+pub fn noise_row(random: &mut Random) -> Row {
+    Row {
+        name: random.number(),
+        parent: random.number(),
+        start: random.number(),
+        length: random.number(),
+        right: random.number(),
+        depth: random.number(),
+    }
+}
+
 /// Changes something of a lent table or of its issued number. It may still be in order then.
 pub fn disturb(random: &mut Random, lent: &mut Lent) {
     if lent.rows.is_empty() || random.one_in(8) {

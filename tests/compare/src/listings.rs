@@ -1,6 +1,6 @@
 //! Listings, written and read.
 
-use oracle::{MAX_DEPTH, MAX_NAME, MAX_ROWS, Row};
+use oracle::{MAX_DEPTH, MAX_NAME, MAX_ROWS};
 
 use crate::agree::{self, Agreed, Lent, Subject};
 use crate::generate::{self, Shape};
@@ -87,14 +87,7 @@ fn lent_for(random: &mut Random, listed: &Lent) -> Lent {
         3 => random.pick(&[0, MAX_ROWS, MAX_ROWS + 1, 3_000]),
         _ => listed.rows.len(),
     };
-    let old_row = Row {
-        name: random.number(),
-        parent: random.number(),
-        start: random.number(),
-        length: random.number(),
-        right: random.number(),
-        depth: random.number(),
-    };
+    let old_row = generate::noise_row(random);
     let mut tally = generate::tally(random);
     tally.issued = random.number();
     Lent {
