@@ -1,5 +1,7 @@
 //! Events as the C interface passes them, and refusals.
 
+use crate::order::Span;
+
 #[derive(Clone, Copy, Debug, PartialEq, Eq)]
 pub enum Kind {
     Create = 1,
@@ -45,6 +47,10 @@ pub struct Event {
 }
 
 impl Event {
+    pub(crate) fn span(&self) -> Span {
+        Span::new(self.start, self.length)
+    }
+
     /// The kind of an event that has a spelling: a known kind, and a known right if it has one.
     pub(crate) fn spelt_kind(&self) -> Option<Kind> {
         let kind = Kind::from_number(self.kind)?;

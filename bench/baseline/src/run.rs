@@ -4,32 +4,38 @@ use crate::event::Refusal;
 use crate::lines::next_event;
 use crate::listing::write_after;
 use crate::order::{Cap, EMPTY, Index, MAX_ROWS};
-use crate::step::{Tally, step};
+use crate::step::{Ordered, Tally};
 use crate::text::{Reader, Writer};
 
 /// The longest input that `check` runs, in bytes.
 const MAX_INPUT: usize = 65_536;
 
-/// Takes lines until one is refused: how many were allowed, or the refusal and its line.
-pub fn run(table: &mut [Cap], tally: &mut Tally, text: &[u8]) -> Result<u32, (Refusal, u32)> {
+/// How many lines were allowed, or the refusal and its line.
+type Answer = Result<u32, (Refusal, u32)>;
+
+/// Takes lines until one is refused.
+pub fn run(table: &mut [Cap], tally: &mut Tally, text: &[u8]) -> Answer {
     let mut index = Index::of(table, tally.issued).ok_or((Refusal::Disordered, 0))?;
-    run_lines(table, &mut index, tally, text)
+    let index = &mut index;
+    run_lines(
+        Ordered {
+            table,
+            index,
+            tally,
+        },
+        text,
+    )
 }
 
-fn run_lines(
-    table: &mut [Cap],
-    index: &mut Index,
-    tally: &mut Tally,
-    text: &[u8],
-) -> Result<u32, (Refusal, u32)> {
+fn run_lines(mut ordered: Ordered, text: &[u8]) -> Answer {
     let mut reader = Reader::new(text);
     let mut allowed = 0;
     while !reader.is_at_end() {
-        let Some(event) = next_event(&mut reader) else {
-            tally.count_refused();
-            return Err((Refusal::Misspelt, allowed + 1));
+        let outcome = match next_event(&mut reader) {
+            Some(event) => ordered.step(event),
+            None => Err(ordered.refuse(Refusal::Misspelt)),
         };
-        step(table, index, tally, event).map_err(|refusal| (refusal, allowed + 1))?;
+        outcome.map_err(|refusal| (refusal, allowed + 1))?;
         allowed += 1;
     }
     Ok(allowed)
@@ -46,13 +52,18 @@ pub fn check(input: &[u8], out: &mut [u8]) -> Result<u32, Refusal> {
     let mut table = [EMPTY; MAX_ROWS];
     let mut index = Index::EMPTY;
     let mut tally = Tally::default();
-    let answer = run_lines(&mut table, &mut index, &mut tally, input);
+    let ordered = Ordered {
+        table: &mut table,
+        index: &mut index,
+        tally: &mut tally,
+    };
+    let answer = run_lines(ordered, input);
     let mut line = [0; 32];
     let length = put_verdict(&mut Writer::new(&mut line), answer);
     write_after(&line[..length], &table, &index, tally.issued, out)
 }
 
-fn put_verdict(writer: &mut Writer, answer: Result<u32, (Refusal, u32)>) -> usize {
+fn put_verdict(writer: &mut Writer, answer: Answer) -> usize {
     match answer {
         Ok(lines) => {
             writer.put(b"(allowed");

@@ -17,6 +17,12 @@ pub fn groups(report: &mut Report, subject: Subject) {
             generate::ordered(random, &shape)
         })
     });
+    report.group("events on tables of any size", |random| {
+        on_tables(random, subject, 300, 2, |random| {
+            let shape = Shape::partly_full(random, MAX_ROWS);
+            generate::ordered(random, &shape)
+        })
+    });
     report.group("events on full tables", |random| {
         on_tables(random, subject, 4_000, 4, |random| {
             let rows = random.between(1, 40);
