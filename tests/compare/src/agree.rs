@@ -121,7 +121,7 @@ fn lend(
     table.push(GUARD_ROW);
     let mut tally = interface_tally(lent.tally);
     let answer = call(&mut table[..lent.rows.len()], &mut tally);
-    same("the row after the table", table.pop(), Some(GUARD_ROW))?;
+    same("the row after the table", Some(GUARD_ROW), table.pop())?;
     Ok((answer, Found { table, tally }))
 }
 
