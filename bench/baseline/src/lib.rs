@@ -1,0 +1,20 @@
+//! The library's promises kept by plain Rust, without `unsafe` and without allocation.
+//!
+//! It is the yardstick of the benchmarks, so it is written to be fast: one pass checks the order of
+//! a table and finds every parent's row, one more pass carries an event out, and a run checks the
+//! order once.
+
+mod event;
+mod lines;
+mod listing;
+mod order;
+mod run;
+mod step;
+mod text;
+
+pub use event::{Event, Kind, Refusal};
+pub use lines::{read_event, write_event};
+pub use listing::{read_listing, write_listing};
+pub use order::{Cap, MAX_DEPTH, MAX_NAME, MAX_ROWS};
+pub use run::{check, run};
+pub use step::{Tally, apply};

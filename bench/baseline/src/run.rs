@@ -1,0 +1,80 @@
+//! Runs of lines, and what `capcheck` prints.
+
+use crate::event::Refusal;
+use crate::lines::next_event;
+use crate::listing::write_after;
+use crate::order::{Cap, EMPTY, Index, MAX_ROWS};
+use crate::step::{Ordered, Tally};
+use crate::text::{Reader, Writer};
+
+/// The longest input that `check` runs, in bytes.
+const MAX_INPUT: usize = 65_536;
+
+/// How many lines were allowed, or the refusal and its line.
+type Answer = Result<u32, (Refusal, u32)>;
+
+/// Takes lines until one is refused.
+pub fn run(table: &mut [Cap], tally: &mut Tally, text: &[u8]) -> Answer {
+    let mut index = Index::of(table, tally.issued).ok_or((Refusal::Disordered, 0))?;
+    let index = &mut index;
+    run_lines(
+        Ordered {
+            table,
+            index,
+            tally,
+        },
+        text,
+    )
+}
+
+fn run_lines(mut ordered: Ordered, text: &[u8]) -> Answer {
+    let mut reader = Reader::new(text);
+    let mut allowed = 0;
+    while !reader.is_at_end() {
+        let outcome = match next_event(&mut reader) {
+            Some(event) => ordered.step(event),
+            None => Err(ordered.refuse(Refusal::Misspelt)),
+        };
+        outcome.map_err(|refusal| (refusal, allowed + 1))?;
+        allowed += 1;
+    }
+    Ok(allowed)
+}
+
+/// Writes what `capcheck` prints for an input: its length, or the refusal.
+pub fn check(input: &[u8], out: &mut [u8]) -> Result<u32, Refusal> {
+    if input.len() > MAX_INPUT {
+        let text = b"(long)\n";
+        let target = out.get_mut(..text.len()).ok_or(Refusal::BufferTooShort)?;
+        target.copy_from_slice(text);
+        return Ok(text.len() as u32);
+    }
+    let mut table = [EMPTY; MAX_ROWS];
+    let mut index = Index::EMPTY;
+    let mut tally = Tally::default();
+    let ordered = Ordered {
+        table: &mut table,
+        index: &mut index,
+        tally: &mut tally,
+    };
+    let answer = run_lines(ordered, input);
+    let mut line = [0; 32];
+    let length = put_verdict(&mut Writer::new(&mut line), answer);
+    write_after(&line[..length], &table, &index, tally.issued, out)
+}
+
+fn put_verdict(writer: &mut Writer, answer: Answer) -> usize {
+    match answer {
+        Ok(lines) => {
+            writer.put(b"(allowed");
+            writer.next_number(lines);
+        }
+        Err((refusal, line)) => {
+            writer.put(b"(refused");
+            writer.next_number(refusal as u32);
+            writer.next_number(line);
+        }
+    }
+    writer.put(b")\n");
+    writer.length()
+}

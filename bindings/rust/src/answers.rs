@@ -1,0 +1,131 @@
+//! What is answered.
+
+use core::error::Error;
+use core::fmt;
+
+use crate::Name;
+
+/// Why something was refused. Where several reasons apply, the one with the lowest number is given.
+#[derive(Clone, Copy, Debug, PartialEq, Eq, Hash)]
+#[repr(u8)]
+pub enum Refusal {
+    /// The table is not in order, or has more than [`MAX_ROWS`](crate::MAX_ROWS) rows.
+    Disordered = 1,
+    /// A line or listing is not in the one spelling.
+    Misspelt = 2,
+    /// A length is 0, or an end is above 4,294,967,296.
+    IllegalSpan = 3,
+    /// A name is 0 or above the issued number.
+    Unissued = 4,
+    /// A name was issued, and its capability has ended.
+    Ended = 5,
+    /// A span is not inside the capability's.
+    OutsideSpan = 6,
+    /// A write through a read-only capability, or a read-write borrow from it.
+    ReadOnly = 7,
+    /// A borrow from depth [`MAX_DEPTH`](crate::MAX_DEPTH).
+    TooDeep = 8,
+    /// A create or borrow when [`MAX_NAME`](crate::MAX_NAME) names are issued.
+    NamesSpent = 9,
+    /// A create or borrow when no row is empty, or a listing with more capabilities than rows.
+    TableFull = 10,
+    /// A text is longer than the output buffer.
+    BufferTooShort = 11,
+}
+
+impl Refusal {
+    /// The refusal's number, 1 to 11.
+    pub const fn number(self) -> u8 {
+        self as u8
+    }
+
+    /// The refusal with this number, if there is one.
+    pub const fn from_number(number: u32) -> Option<Refusal> {
+        Some(match number {
+            1 => Refusal::Disordered,
+            2 => Refusal::Misspelt,
+            3 => Refusal::IllegalSpan,
+            4 => Refusal::Unissued,
+            5 => Refusal::Ended,
+            6 => Refusal::OutsideSpan,
+            7 => Refusal::ReadOnly,
+            8 => Refusal::TooDeep,
+            9 => Refusal::NamesSpent,
+            10 => Refusal::TableFull,
+            11 => Refusal::BufferTooShort,
+            _ => return None,
+        })
+    }
+
+    const fn reason(self) -> &'static str {
+        match self {
+            Refusal::Disordered => "the table is not in order",
+            Refusal::Misspelt => "not in the one spelling",
+            Refusal::IllegalSpan => "the span is not legal",
+            Refusal::Unissued => "the name was never issued",
+            Refusal::Ended => "the capability has ended",
+            Refusal::OutsideSpan => "outside the capability's span",
+            Refusal::ReadOnly => "the capability is read-only",
+            Refusal::TooDeep => "borrowed too deep",
+            Refusal::NamesSpent => "all names are issued",
+            Refusal::TableFull => "no row is empty",
+            Refusal::BufferTooShort => "the output buffer is too short",
+        }
+    }
+}
+
+impl fmt::Display for Refusal {
+    fn fmt(&self, formatter: &mut fmt::Formatter<'_>) -> fmt::Result {
+        write!(formatter, "refusal {}, {}", self.number(), self.reason())
+    }
+}
+
+impl Error for Refusal {}
+
+/// The answer to an event.
+#[derive(Clone, Copy, Debug, PartialEq, Eq, Hash)]
+pub enum Answer {
+    /// Allowed, with the new name if the event made one.
+    Allowed(Option<Name>),
+    /// Refused.
+    Refused(Refusal),
+}
+
+/// The answer to a run.
+#[derive(Clone, Copy, Debug, PartialEq, Eq, Hash)]
+pub enum RunAnswer {
+    /// Every line was allowed.
+    Allowed {
+        /// How many lines there were.
+        lines: u32,
+    },
+    /// A line was refused, and no later one taken.
+    Refused {
+        /// Why.
+        refusal: Refusal,
+        /// The line, from 1; 0 for [`Refusal::Disordered`].
+        line: u32,
+    },
+}
+
+impl From<Answer> for Result<Option<Name>, Refusal> {
+    fn from(answer: Answer) -> Self {
+        match answer {
+            Answer::Allowed(name) => Ok(name),
+            Answer::Refused(refusal) => Err(refusal),
+        }
+    }
+}
+
+/// An answer of the C interface taken apart: its value, or its refusal with its value.
+pub(crate) fn split(answer: u64) -> Result<u32, (Refusal, u32)> {
+    let number = (answer >> 32) as u32;
+    let value = answer as u32;
+    match number {
+        0 => Ok(value),
+        _ => Err((
+            Refusal::from_number(number).expect("refusals are numbered 1 to 11"),
+            value,
+        )),
+    }
+}

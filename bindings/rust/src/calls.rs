@@ -1,0 +1,171 @@
+//! The calls of the C interface, made safe.
+//!
+//! Safety, of each call below: a slice is a pointer to as many elements as its length says, an
+//! exclusive one overlaps nothing else, `Cap` and `Tally` are laid out as the C records are, and the
+//! library follows no pointer whose length is 0.
+
+use crate::answers::split;
+use crate::{ffi, Addr, Answer, Cap, Event, Name, Refusal, Right, RunAnswer, Span, Tally};
+
+/// An event as the C interface passes it, with 0 for what its kind lacks.
+struct Fields {
+    kind: u8,
+    name: u32,
+    start: u32,
+    length: u32,
+    right: u8,
+}
+
+impl Fields {
+    fn of(event: Event) -> Fields {
+        let none = Span {
+            start: Addr(0),
+            length: 0,
+        };
+        let (kind, name, span, right) = match event {
+            Event::Create { span, right } => (1, Name(0), span, right as u8),
+            Event::Borrow {
+                parent,
+                span,
+                right,
+            } => (2, parent, span, right as u8),
+            Event::Read { name, span } => (3, name, span, 0),
+            Event::Write { name, span } => (4, name, span, 0),
+            Event::Drop { name } => (5, name, none, 0),
+        };
+        Fields {
+            kind,
+            name: name.0,
+            start: span.start.0,
+            length: span.length,
+            right,
+        }
+    }
+}
+
+fn event_of([kind, name, start, length, right]: [u32; 5]) -> Option<Event> {
+    let name = Name(name);
+    let span = Span {
+        start: Addr(start),
+        length,
+    };
+    Some(match kind {
+        1 => Event::Create {
+            span,
+            right: Right::from_number(right)?,
+        },
+        2 => Event::Borrow {
+            parent: name,
+            span,
+            right: Right::from_number(right)?,
+        },
+        3 => Event::Read { name, span },
+        4 => Event::Write { name, span },
+        5 => Event::Drop { name },
+        _ => return None,
+    })
+}
+
+/// The value of an answer, or its refusal.
+fn value(answer: u64) -> Result<u32, Refusal> {
+    split(answer).map_err(|(refusal, _)| refusal)
+}
+
+/// One event on a lent table and tally, which follow it.
+///
+/// [`Refusal::Disordered`] changes nothing; any other refusal adds one to the refused count and
+/// changes nothing else.
+pub fn apply(table: &mut [Cap], tally: &mut Tally, event: Event) -> Answer {
+    let e = Fields::of(event);
+    let rows = table.len();
+    let table = table.as_mut_ptr();
+    let answer = unsafe {
+        ffi::kz_apply(
+            table, rows, tally, e.kind, e.name, e.start, e.length, e.right,
+        )
+    };
+    match value(answer) {
+        Ok(0) => Answer::Allowed(None),
+        Ok(name) => Answer::Allowed(Some(Name(name))),
+        Err(refusal) => Answer::Refused(refusal),
+    }
+}
+
+/// A run of event lines on a lent table and tally, until one is refused.
+///
+/// The table is then as after the last allowed line. The refused line adds one to the refused
+/// count; [`Refusal::Disordered`] changes nothing.
+pub fn run(table: &mut [Cap], tally: &mut Tally, text: &[u8]) -> RunAnswer {
+    let rows = table.len();
+    let table = table.as_mut_ptr();
+    match split(unsafe { ffi::kz_run(table, rows, tally, text.as_ptr(), text.len()) }) {
+        Ok(lines) => RunAnswer::Allowed { lines },
+        Err((refusal, line)) => RunAnswer::Refused { refusal, line },
+    }
+}
+
+/// Writes the line of an event, its newline included, to the start of the buffer, and answers its
+/// length. The bytes after it stay.
+///
+/// # Errors
+///
+/// [`Refusal::BufferTooShort`], with the buffer untouched.
+pub fn write_event(event: Event, out: &mut [u8]) -> Result<usize, Refusal> {
+    let e = Fields::of(event);
+    let size = out.len();
+    let out = out.as_mut_ptr();
+    let answer =
+        unsafe { ffi::kz_write_event(e.kind, e.name, e.start, e.length, e.right, out, size) };
+    value(answer).map(|length| length as usize)
+}
+
+/// Reads exactly one line, its newline included.
+///
+/// # Errors
+///
+/// [`Refusal::Misspelt`].
+pub fn read_event(line: &[u8]) -> Result<Event, Refusal> {
+    let mut fields = [0; 5];
+    value(unsafe { ffi::kz_read_event(line.as_ptr(), line.len(), fields.as_mut_ptr()) })?;
+    Ok(event_of(fields).expect("a line that is read has a known kind and right"))
+}
+
+/// Writes the listing of a table and its issued number to the start of the buffer, and answers its
+/// length. The bytes after it stay.
+///
+/// # Errors
+///
+/// [`Refusal::Disordered`], else [`Refusal::BufferTooShort`], with the buffer untouched.
+pub fn write_listing(table: &[Cap], issued: u32, out: &mut [u8]) -> Result<usize, Refusal> {
+    let size = out.len();
+    let out = out.as_mut_ptr();
+    let answer = unsafe { ffi::kz_write_listing(table.as_ptr(), table.len(), issued, out, size) };
+    value(answer).map(|length| length as usize)
+}
+
+/// Reads a listing into a table, whose old contents are not judged, and into the tally's issued
+/// number. The tally's other counts stay.
+///
+/// # Errors
+///
+/// [`Refusal::Disordered`] for more than [`MAX_ROWS`](crate::MAX_ROWS) rows, else
+/// [`Refusal::Misspelt`] when no table in order has this listing, else [`Refusal::TableFull`] when
+/// it has more capabilities than rows. Nothing is changed then.
+pub fn read_listing(text: &[u8], table: &mut [Cap], tally: &mut Tally) -> Result<(), Refusal> {
+    let rows = table.len();
+    let table = table.as_mut_ptr();
+    value(unsafe { ffi::kz_read_listing(text.as_ptr(), text.len(), table, rows, tally) })?;
+    Ok(())
+}
+
+/// Writes what the program `capcheck` prints for an input to the start of the buffer, and answers
+/// its length. The bytes after it stay.
+///
+/// # Errors
+///
+/// [`Refusal::BufferTooShort`], with the buffer untouched.
+pub fn check(input: &[u8], out: &mut [u8]) -> Result<usize, Refusal> {
+    let size = out.len();
+    let answer = unsafe { ffi::kz_check(input.as_ptr(), input.len(), out.as_mut_ptr(), size) };
+    value(answer).map(|length| length as usize)
+}

@@ -1,0 +1,62 @@
+//! Run-time borrow checking with capabilities that are revoked on use.
+//!
+//! The caller lends a table of capabilities and a tally. Each event (create, borrow, read, write,
+//! drop) is allowed or refused, and the table follows the allowed ones: a read lowers to read-only,
+//! and a write ends, every capability that it touches and that is neither its user nor an ancestor
+//! of its user. Nothing is taken away when a borrow is made.
+//!
+//! ```
+//! use kelzoud::{apply, Addr, Answer, Cap, Event, Name, Refusal, Right, Span, Tally};
+//!
+//! let mut table = [Cap::EMPTY; 16];
+//! let mut tally = Tally::default();
+//! let span = Span { start: Addr(0), length: 64 };
+//!
+//! let create = Event::Create { span, right: Right::ReadWrite };
+//! assert_eq!(apply(&mut table, &mut tally, create), Answer::Allowed(Some(Name(1))));
+//!
+//! let borrow = Event::Borrow { parent: Name(1), span, right: Right::ReadWrite };
+//! assert_eq!(apply(&mut table, &mut tally, borrow), Answer::Allowed(Some(Name(2))));
+//!
+//! // A write through the parent ends the borrow.
+//! let write = Event::Write { name: Name(1), span };
+//! assert_eq!(apply(&mut table, &mut tally, write), Answer::Allowed(None));
+//! let read = Event::Read { name: Name(2), span };
+//! assert_eq!(apply(&mut table, &mut tally, read), Answer::Refused(Refusal::Ended));
+//! ```
+//!
+//! The calls are those of the C library `libkelzoud.a`, which the build script links from the
+//! directory in `KELZOUD_LIB`. They keep nothing between calls and allocate nothing.
+
+#![no_std]
+#![deny(missing_docs)]
+
+mod answers;
+mod calls;
+mod ffi;
+mod values;
+
+pub use answers::{Answer, Refusal, RunAnswer};
+pub use calls::{apply, check, read_event, read_listing, run, write_event, write_listing};
+pub use values::{Addr, Cap, Event, Name, Right, Span, Tally};
+
+/// The most rows of a table.
+pub const MAX_ROWS: usize = 1_024;
+
+/// The last name that is given out.
+pub const MAX_NAME: u32 = 1_000_000;
+
+/// The greatest depth of a capability.
+pub const MAX_DEPTH: u32 = 64;
+
+/// The most bytes of input that [`check`] runs.
+pub const MAX_INPUT: usize = 65_536;
+
+/// The most bytes of an event line, its newline included.
+pub const MAX_LINE: usize = 45;
+
+/// The most bytes of a listing.
+pub const MAX_LISTING: usize = 34_834;
+
+/// The most bytes that [`check`] writes.
+pub const MAX_CHECK: usize = 34_853;

@@ -1,0 +1,133 @@
+//! What is lent and what is asked.
+
+/// The name of a capability: 1 to [`MAX_NAME`](crate::MAX_NAME), given out in order, never twice.
+#[derive(Clone, Copy, Debug, PartialEq, Eq, PartialOrd, Ord, Hash)]
+pub struct Name(pub u32);
+
+/// An address.
+#[derive(Clone, Copy, Debug, PartialEq, Eq, PartialOrd, Ord, Hash)]
+pub struct Addr(pub u32);
+
+/// A run of addresses. Legal when the length is at least 1 and the end at most 4,294,967,296.
+#[derive(Clone, Copy, Debug, PartialEq, Eq, Hash)]
+pub struct Span {
+    /// The first address.
+    pub start: Addr,
+    /// How many addresses.
+    pub length: u32,
+}
+
+/// What a capability may be used for.
+#[derive(Clone, Copy, Debug, PartialEq, Eq, PartialOrd, Ord, Hash)]
+#[repr(u8)]
+pub enum Right {
+    /// `ro`
+    ReadOnly = 1,
+    /// `rw`
+    ReadWrite = 2,
+}
+
+impl Right {
+    /// The right with this number, if there is one.
+    pub const fn from_number(number: u32) -> Option<Right> {
+        match number {
+            1 => Some(Right::ReadOnly),
+            2 => Some(Right::ReadWrite),
+            _ => None,
+        }
+    }
+}
+
+/// An event. Names and spans may be any; those that are wrong are refused.
+#[derive(Clone, Copy, Debug, PartialEq, Eq, Hash)]
+pub enum Event {
+    /// Makes a new root.
+    Create {
+        /// The root's span.
+        span: Span,
+        /// The root's right.
+        right: Right,
+    },
+    /// Makes a new capability under a live one.
+    Borrow {
+        /// The capability borrowed from.
+        parent: Name,
+        /// The new capability's span, inside its parent's.
+        span: Span,
+        /// The new capability's right, not above its parent's.
+        right: Right,
+    },
+    /// Lowers to read-only every capability that is touched and is neither the reader nor an
+    /// ancestor of it, with its subtree.
+    Read {
+        /// The reader.
+        name: Name,
+        /// What it reads, inside its own span.
+        span: Span,
+    },
+    /// Ends the capabilities that a read would lower, with their subtrees.
+    Write {
+        /// The writer.
+        name: Name,
+        /// What it writes, inside its own span.
+        span: Span,
+    },
+    /// Ends a capability with its subtree.
+    Drop {
+        /// The capability.
+        name: Name,
+    },
+}
+
+/// A row of a table.
+///
+/// Live capabilities stand first, in rising order of name, and every later row is
+/// [empty](Cap::EMPTY).
+#[repr(C)]
+#[derive(Clone, Copy, Debug, Default, PartialEq, Eq, Hash)]
+pub struct Cap {
+    /// Its name.
+    pub name: u32,
+    /// The name that it was borrowed from, 0 for a created one.
+    pub parent: u32,
+    /// The first address of its span.
+    pub start: u32,
+    /// The number of addresses in its span.
+    pub length: u32,
+    /// The number of its [`Right`].
+    pub right: u32,
+    /// 1 for a created one, one more for each borrow.
+    pub depth: u32,
+}
+
+impl Cap {
+    /// A row that holds no capability.
+    pub const EMPTY: Cap = Cap {
+        name: 0,
+        parent: 0,
+        start: 0,
+        length: 0,
+        right: 0,
+        depth: 0,
+    };
+}
+
+/// The tally of a table. A count at `u32::MAX` stays there.
+#[repr(C)]
+#[derive(Clone, Copy, Debug, Default, PartialEq, Eq, Hash)]
+pub struct Tally {
+    /// Names issued.
+    pub issued: u32,
+    /// Allowed creates.
+    pub creates: u32,
+    /// Allowed borrows.
+    pub borrows: u32,
+    /// Allowed reads.
+    pub reads: u32,
+    /// Allowed writes.
+    pub writes: u32,
+    /// Allowed drops.
+    pub drops: u32,
+    /// Refused events.
+    pub refused: u32,
+}

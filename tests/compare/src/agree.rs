@@ -1,0 +1,261 @@
+//! One call of the implementation beside the oracle: the answer and everything lent must be equal.
+
+use std::fmt::Debug;
+use std::sync::atomic::{AtomicU64, Ordering};
+
+use interface::{Cap, Event, Interface};
+use oracle::{Refused, Row, Tally};
+
+/// The implementation under test.
+pub type Subject = &'static dyn Interface;
+
+/// Nothing, or what differs.
+pub type Agreed = Result<(), String>;
+
+/// What a caller lends.
+#[derive(Clone, Debug, PartialEq)]
+pub struct Lent {
+    pub rows: Vec<Row>,
+    pub tally: Tally,
+}
+
+impl Lent {
+    /// So many empty rows, and a tally of zeros.
+    pub fn empty(rows: usize) -> Lent {
+        Lent {
+            rows: vec![Row::default(); rows],
+            tally: Tally::default(),
+        }
+    }
+}
+
+pub fn packed(answer: Result<u32, Refused>) -> u64 {
+    match answer {
+        Ok(value) => u64::from(value),
+        Err(number) => u64::from(number) << 32,
+    }
+}
+
+pub fn packed_run(answer: oracle::Run) -> u64 {
+    match answer {
+        Ok(lines) => u64::from(lines),
+        Err((number, line)) => (u64::from(number) << 32) + u64::from(line),
+    }
+}
+
+pub fn oracle_event(event: Event) -> oracle::Event {
+    oracle::Event::from_fields(
+        event.kind,
+        event.name,
+        event.start,
+        event.length,
+        event.right,
+    )
+}
+
+fn same<T: PartialEq + Debug>(what: &str, expected: T, found: T) -> Agreed {
+    if expected == found {
+        return Ok(());
+    }
+    Err(format!("{what}: expected {expected:?}, found {found:?}"))
+}
+
+pub fn same_answer(expected: u64, found: u64) -> Agreed {
+    let parts = |answer: u64| (answer >> 32, answer as u32);
+    same("answer (number, value)", parts(expected), parts(found))
+}
+
+/// The table and tally that a call left.
+pub struct Found {
+    table: Vec<Cap>,
+    tally: interface::Tally,
+}
+
+/// Whether a call left what it should.
+fn same_lent(expected: &Lent, found: &Found) -> Agreed {
+    for (at, (row, cap)) in expected.rows.iter().zip(&found.table).enumerate() {
+        same(&format!("row {at}"), cap_of(row), *cap)?;
+    }
+    same("tally", interface_tally(expected.tally), found.tally)
+}
+
+/// A row that stands after the lent ones and is not the call's to write.
+const GUARD_ROW: Cap = Cap {
+    name: 0xA5A5_A5A5,
+    parent: 1,
+    start: 2,
+    length: 3,
+    right: 4,
+    depth: 5,
+};
+
+fn cap_of(row: &Row) -> Cap {
+    Cap {
+        name: row.name,
+        parent: row.parent,
+        start: row.start,
+        length: row.length,
+        right: row.right,
+        depth: row.depth,
+    }
+}
+
+fn interface_tally(tally: Tally) -> interface::Tally {
+    interface::Tally {
+        issued: tally.issued,
+        creates: tally.creates,
+        borrows: tally.borrows,
+        reads: tally.reads,
+        writes: tally.writes,
+        drops: tally.drops,
+        refused: tally.refused,
+    }
+}
+
+/// Calls with a copy of what is lent; gives the answer and the copy as the call left it.
+fn lend(
+    lent: &Lent,
+    call: impl FnOnce(&mut [Cap], &mut interface::Tally) -> u64,
+) -> Result<(u64, Found), String> {
+    let mut table: Vec<Cap> = lent.rows.iter().map(cap_of).collect();
+    table.push(GUARD_ROW);
+    let mut tally = interface_tally(lent.tally);
+    let answer = call(&mut table[..lent.rows.len()], &mut tally);
+    same("the row after the table", Some(GUARD_ROW), table.pop())?;
+    Ok((answer, Found { table, tally }))
+}
+
+/// How often events were allowed, and refused by each number.
+static MET: [AtomicU64; 11] = [const { AtomicU64::new(0) }; 11];
+
+/// Whether events have met every answer that an event can meet, and how often.
+pub fn every_answer_met() -> Result<u64, String> {
+    let met = MET.each_ref().map(|count| count.load(Ordering::Relaxed));
+    match met.iter().all(|count| *count > 0) {
+        true => Ok(met.iter().sum()),
+        false => Err(format!("allowed and refusals 1 to 10: {met:?}")),
+    }
+}
+
+/// One event on what is lent, which is then as the event leaves it.
+pub fn apply(subject: Subject, lent: &mut Lent, event: Event) -> Result<u64, String> {
+    let (answer, found) = lend(lent, |table, tally| subject.apply(table, tally, event))?;
+    let verdict = oracle::apply(&mut lent.rows, &mut lent.tally, oracle_event(event));
+    MET[usize::from(verdict.err().unwrap_or(0))].fetch_add(1, Ordering::Relaxed);
+    same_answer(packed(verdict), answer)?;
+    same_lent(lent, &found)?;
+    Ok(answer)
+}
+
+pub fn apply_all(subject: Subject, mut lent: Lent, events: &[Event]) -> Agreed {
+    for event in events {
+        apply(subject, &mut lent, *event)?;
+    }
+    Ok(())
+}
+
+/// A run on what is lent, which is then as the run leaves it.
+pub fn run(subject: Subject, lent: &mut Lent, text: &[u8]) -> Result<u64, String> {
+    let (answer, found) = lend(lent, |table, tally| subject.run(table, tally, text))?;
+    let verdict = oracle::run(&mut lent.rows, &mut lent.tally, text);
+    same_answer(packed_run(verdict), answer)?;
+    same_lent(lent, &found)?;
+    Ok(answer)
+}
+
+pub fn read_event(subject: Subject, line: &[u8]) -> Agreed {
+    let untouched = [0xA5A5_A5A5; 5];
+    let mut fields = untouched;
+    let answer = subject.read_event(line, &mut fields);
+    match oracle::read_event_line(line) {
+        Some(event) => {
+            same_answer(packed(Ok(0)), answer)?;
+            same("fields", event.fields(), fields)
+        }
+        None => {
+            same_answer(packed(Err(2)), answer)?;
+            same("fields", untouched, fields)
+        }
+    }
+}
+
+pub fn write_event(subject: Subject, event: Event) -> Agreed {
+    into_buffers(
+        |size| oracle::write_event(oracle_event(event), size),
+        |out| subject.write_event(event, out),
+    )
+}
+
+pub fn write_listing(subject: Subject, lent: &Lent) -> Agreed {
+    let issued = lent.tally.issued;
+    let table: Vec<Cap> = lent.rows.iter().map(cap_of).collect();
+    into_buffers(
+        |size| oracle::write_listing(&lent.rows, issued, size),
+        |out| subject.write_listing(&table, issued, out),
+    )
+}
+
+pub fn check(subject: Subject, input: &[u8]) -> Agreed {
+    into_buffers(
+        |size| oracle::check(input, size),
+        |out| subject.check(input, out),
+    )
+}
+
+pub fn read_listing(subject: Subject, text: &[u8], lent: &Lent) -> Agreed {
+    let (answer, found) = lend(lent, |table, tally| {
+        subject.read_listing(text, table, tally)
+    })?;
+    match oracle::read_listing(text, lent.rows.len()) {
+        Ok((issued, rows)) => {
+            let tally = Tally {
+                issued,
+                ..lent.tally
+            };
+            same_answer(packed(Ok(0)), answer)?;
+            same_lent(&Lent { rows, tally }, &found)
+        }
+        Err(number) => {
+            same_answer(packed(Err(number)), answer)?;
+            same_lent(lent, &found)
+        }
+    }
+}
+
+/// Bytes that stand after an output buffer and are not the call's to write.
+const GUARD_BYTES: usize = 32;
+
+/// Writes into output buffers that are too short, just long enough and longer.
+fn into_buffers(
+    expected: impl Fn(usize) -> Result<String, Refused>,
+    call: impl Fn(&mut [u8]) -> u64,
+) -> Agreed {
+    let needed = expected(usize::MAX).map_or(24, |text| text.len());
+    for size in [0, needed / 2, needed - 1, needed, needed + 1, needed + 50] {
+        into_buffer(size, expected(size), &call).map_err(|why| format!("buffer {size}: {why}"))?;
+    }
+    Ok(())
+}
+
+fn into_buffer(
+    size: usize,
+    expected: Result<String, Refused>,
+    call: impl Fn(&mut [u8]) -> u64,
+) -> Agreed {
+    let noise = |at: usize| (at * 37 + 11) as u8 ^ 0xA5;
+    let mut wanted: Vec<u8> = (0..size + GUARD_BYTES).map(noise).collect();
+    let mut found = wanted.clone();
+    let answer = call(&mut found[..size]);
+    if let Ok(text) = &expected {
+        wanted[..text.len()].copy_from_slice(text.as_bytes());
+    }
+    same_answer(packed(expected.map(|text| text.len() as u32)), answer)?;
+    let differing = wanted.iter().zip(&found).position(|(a, b)| a != b);
+    match differing {
+        None => Ok(()),
+        Some(at) => Err(format!(
+            "byte {at}: expected {}, found {}",
+            wanted[at], found[at]
+        )),
+    }
+}

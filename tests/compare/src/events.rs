@@ -1,0 +1,279 @@
+//! Random events on lent tables, and lists of events beside their history.
+
+use std::collections::BTreeSet;
+
+use interface::Event;
+use oracle::{History, MAX_DEPTH, MAX_NAME, MAX_ROWS, Row, Span};
+
+use crate::agree::{self, Agreed, Lent, Subject, oracle_event, packed, same_answer};
+use crate::generate::{self, Shape};
+use crate::random::Random;
+use crate::report::{Checked, Report, shrink};
+
+pub fn groups(report: &mut Report, subject: Subject) {
+    report.group("events on ordered tables", |random| {
+        on_tables(random, subject, 8_000, 8, |random| {
+            let shape = Shape::partly_full(random, 16);
+            generate::ordered(random, &shape)
+        })
+    });
+    report.group("events on tables of any size", |random| {
+        on_tables(random, subject, 300, 2, |random| {
+            let shape = Shape::partly_full(random, MAX_ROWS);
+            generate::ordered(random, &shape)
+        })
+    });
+    report.group("events on full tables", |random| {
+        on_tables(random, subject, 4_000, 4, |random| {
+            let rows = random.between(1, 40);
+            let shape = Shape::full(random, rows);
+            generate::ordered(random, &shape)
+        })
+    });
+    report.group("events on deep tables", |random| {
+        on_tables(random, subject, 1_600, 2, |random| {
+            let live = random.between(60, 140);
+            let rows = live + random.index(3);
+            let deep = true;
+            generate::ordered(random, &Shape { rows, live, deep })
+        })
+    });
+    report.group("events on large tables", |random| {
+        on_tables(random, subject, 120, 4, |random| {
+            let rows = random.between(900, MAX_ROWS);
+            let live = rows - random.index(3);
+            let deep = random.one_in(6);
+            generate::ordered(random, &Shape { rows, live, deep })
+        })
+    });
+    report.group("events on disordered tables", |random| {
+        on_tables(random, subject, 30_000, 2, |random| {
+            let shape = Shape::partly_full(random, 12);
+            let mut lent = generate::ordered(random, &shape);
+            for _ in 0..random.between(1, 2) {
+                generate::disturb(random, &mut lent);
+            }
+            lent
+        })
+    });
+    report.group("events on large disordered tables", |random| {
+        on_tables(random, subject, 600, 1, |random| {
+            let rows = random.between(1_000, MAX_ROWS);
+            let shape = Shape::full(random, rows);
+            let mut lent = generate::ordered(random, &shape);
+            generate::disturb(random, &mut lent);
+            lent
+        })
+    });
+    report.group("events on tables of noise", |random| {
+        on_tables(random, subject, 10_000, 1, noise)
+    });
+    report.group("events on more than 1,024 rows", |random| {
+        on_tables(random, subject, 60, 2, |random| {
+            let mut lent = Lent::empty(random.pick(&[1_025, 1_026, 2_048, 6_000]));
+            lent.tally = generate::tally(random);
+            lent
+        })
+    });
+    report.group("events on tables at their limits", |random| {
+        at_limits(random, subject)
+    });
+    report.group("lists of events and their history", |random| {
+        histories(random, subject, 1_600, 24)
+    });
+    report.group("long lists of events and their history", |random| {
+        histories(random, subject, 40, 90)
+    });
+}
+
+fn noise(random: &mut Random) -> Lent {
+    let rows = (0..random.between(1, 3)).map(|_| generate::noise_row(random));
+    let rows = rows.collect();
+    let mut tally = generate::tally(random);
+    tally.issued = random.number();
+    Lent { rows, tally }
+}
+
+/// A root and a chain of borrows below it, named from a number on.
+fn chain(first_name: u32, rows: usize) -> Vec<Row> {
+    let row = |depth: u32| Row {
+        name: first_name + depth - 1,
+        parent: if depth == 1 {
+            0
+        } else {
+            first_name + depth - 2
+        },
+        start: 0,
+        length: 8,
+        right: 2,
+        depth,
+    };
+    (1..=rows as u32).map(row).collect()
+}
+
+/// Tables in order but for one limit, and tables just within it.
+fn at_limits(random: &mut Random, subject: Subject) -> Checked {
+    let depth = MAX_DEPTH as usize;
+    let mut tables = Vec::new();
+    for rows in depth - 1..=depth + 2 {
+        tables.push((chain(1, rows), rows as u32));
+    }
+    for last_name in MAX_NAME - 1..=MAX_NAME + 1 {
+        for issued in MAX_NAME - 1..=MAX_NAME + 1 {
+            tables.push((chain(last_name - 3, 4), issued));
+        }
+    }
+    for rows in MAX_ROWS - 1..=MAX_ROWS + 1 {
+        let roots = (1..=rows as u32).map(|name| Row {
+            name,
+            ..chain(1, 1)[0]
+        });
+        tables.push((roots.collect(), rows as u32));
+    }
+    let mut cases = 0;
+    for (mut rows, issued) in tables {
+        for spare in 0..3 {
+            rows.extend((0..spare).map(|_| Row::default()));
+            let mut tally = generate::tally(random);
+            tally.issued = issued;
+            let rows = rows.clone();
+            cases += on_tables(random, subject, 2, 6, |_| Lent {
+                rows: rows.clone(),
+                tally,
+            })?;
+        }
+    }
+    Ok(cases)
+}
+
+/// Some events, one after the other, on each of many tables.
+fn on_tables(
+    random: &mut Random,
+    subject: Subject,
+    tables: u64,
+    events: usize,
+    table: impl Fn(&mut Random) -> Lent,
+) -> Checked {
+    for _ in 0..tables {
+        let lent = table(random);
+        let events = generate::events(random, lent.clone(), events);
+        agree::apply_all(subject, lent.clone(), &events)
+            .map_err(|_| smallest_table(subject, &lent, &events))?;
+    }
+    Ok(tables * events as u64)
+}
+
+/// A small table and few events that still fail.
+fn smallest_table(subject: Subject, lent: &Lent, events: &[Event]) -> String {
+    let outcome = |rows: &[Row], events: &[Event]| {
+        let tally = lent.tally;
+        let rows = rows.to_vec();
+        agree::apply_all(subject, Lent { rows, tally }, events)
+    };
+    let events = shrink(events, |fewer| outcome(&lent.rows, fewer).is_err());
+    let rows = shrink(&lent.rows, |fewer| outcome(fewer, &events).is_err());
+    let why = outcome(&rows, &events).expect_err("a smaller case fails too");
+    let tally = lent.tally;
+    format!("{why}\n  rows {rows:?}\n  tally {tally:?}\n  events {events:?}")
+}
+
+/// Lists of events from empty tables, beside the history of document 01.
+fn histories(random: &mut Random, subject: Subject, lists: u64, length: usize) -> Checked {
+    for _ in 0..lists {
+        let mut lent = Lent::empty(match random.below(20) {
+            0 => MAX_ROWS,
+            1 => MAX_ROWS + 1,
+            _ => random.between(0, 14),
+        });
+        lent.tally = generate::tally(random);
+        let events = generate::events(random, lent.clone(), length);
+        follow_history(subject, lent.clone(), &events)
+            .map_err(|_| smallest_list(subject, &lent, &events))?;
+    }
+    Ok(lists * length as u64)
+}
+
+fn smallest_list(subject: Subject, lent: &Lent, events: &[Event]) -> String {
+    let outcome = |events: &[Event]| follow_history(subject, lent.clone(), events);
+    let events = shrink(events, |fewer| outcome(fewer).is_err());
+    let why = outcome(&events).expect_err("a smaller case fails too");
+    let rows = lent.rows.len();
+    let tally = lent.tally;
+    format!("{why}\n  {rows} empty rows\n  tally {tally:?}\n  events {events:?}")
+}
+
+fn follow_history(subject: Subject, mut lent: Lent, events: &[Event]) -> Agreed {
+    let mut history = History::new(lent.rows.len());
+    let mut lost = Lost::default();
+    for event in events {
+        let expected = history.answer(oracle_event(*event));
+        let answer = agree::apply(subject, &mut lent, *event)?;
+        same_answer(packed(expected), answer).map_err(|why| format!("history: {why}"))?;
+        if history.table() != lent.rows || history.count() != lent.tally.issued {
+            return Err(format!("history: another table, {:?}", history.table()));
+        }
+        lost.check(&lent)?;
+    }
+    let spans = events.iter().rev().take(4).map(|event| Span {
+        start: event.start,
+        length: event.length,
+    });
+    demand_three(subject, &lent, &history, spans)
+}
+
+/// Names that have ended, and names that are not `rw`: neither ever changes back.
+#[derive(Default)]
+struct Lost {
+    ended: BTreeSet<u32>,
+    read_only: BTreeSet<u32>,
+}
+
+impl Lost {
+    fn check(&mut self, lent: &Lent) -> Agreed {
+        for name in 1..=lent.tally.issued {
+            let row = lent.rows.iter().find(|row| row.name == name);
+            let lives = row.is_some();
+            let writable = row.is_some_and(|row| row.right == 2);
+            if (lives && self.ended.contains(&name)) || (writable && self.read_only.contains(&name))
+            {
+                return Err(format!("name {name} has a right again that it lost"));
+            }
+            if !lives {
+                self.ended.insert(name);
+            }
+            if !writable {
+                self.read_only.insert(name);
+            }
+        }
+        Ok(())
+    }
+}
+
+/// Reads and writes through every name are allowed exactly when demand 3 says.
+fn demand_three(
+    subject: Subject,
+    lent: &Lent,
+    history: &History,
+    spans: impl Iterator<Item = Span>,
+) -> Agreed {
+    for span in spans {
+        for name in 0..=history.count() + 1 {
+            let may_read = history.may_read(name, span);
+            let may_write = history.may_write(name, span);
+            for (kind, expected) in [(3, may_read), (4, may_write)] {
+                let event = Event {
+                    kind,
+                    name,
+                    start: span.start,
+                    length: span.length,
+                    right: 0,
+                };
+                let answer = agree::apply(subject, &mut lent.clone(), event)?;
+                if (answer >> 32 == 0) != expected {
+                    return Err(format!("demand 3 on {event:?}: allowed is {expected}"));
+                }
+            }
+        }
+    }
+    Ok(())
+}

@@ -1,0 +1,382 @@
+//! Every trace and example of document 01, with the answers written out.
+
+use interface::Event;
+use oracle::{MAX_DEPTH, MAX_NAME, MAX_ROWS, Tally};
+
+use crate::agree::{self, Agreed, Lent, Subject, packed, same_answer};
+use crate::report::{Checked, Report};
+
+/// A line and its answer.
+type Step<'a> = (&'a str, Result<u32, u8>);
+
+/// Lines on a table, with their answers and the listing after them.
+struct Trace<'a> {
+    rows: usize,
+    issued: u32,
+    steps: &'a [Step<'a>],
+    listing: &'a str,
+}
+
+const ROOT: Step = ("(create 0 64 rw)", Ok(1));
+
+/// The starts of the traces with two borrows of the same span.
+const TWINS: [Step; 3] = [
+    ROOT,
+    ("(borrow 1 0 8 rw)", Ok(2)),
+    ("(borrow 1 0 8 rw)", Ok(3)),
+];
+
+/// Traces on a table with room and no name issued.
+const TRACES: [(&str, &[Step], &str); 10] = [
+    (
+        "trace 1",
+        &[
+            ROOT,
+            ("(borrow 1 0 64 rw)", Ok(2)),
+            ("(borrow 1 1 64 rw)", Err(6)),
+        ],
+        "(issued 2)\n(1 0 64 rw (2 0 64 rw))\n",
+    ),
+    (
+        "trace 2, beside the borrowed span",
+        &[ROOT, TWINS[1], ("(write 1 8 1)", Ok(0))],
+        "(issued 2)\n(1 0 64 rw (2 0 8 rw))\n",
+    ),
+    (
+        "trace 2, in the borrowed span",
+        &[ROOT, TWINS[1], ("(write 1 7 1)", Ok(0))],
+        "(issued 2)\n(1 0 64 rw)\n",
+    ),
+    (
+        "trace 3",
+        &[ROOT, TWINS[1], TWINS[2], ("(write 2 0 8)", Ok(0))],
+        "(issued 3)\n(1 0 64 rw (2 0 8 rw))\n",
+    ),
+    (
+        "trace 4",
+        &[
+            ROOT,
+            TWINS[1],
+            TWINS[2],
+            ("(read 2 0 1)", Ok(0)),
+            ("(read 3 0 1)", Ok(0)),
+        ],
+        "(issued 3)\n(1 0 64 rw (2 0 8 ro) (3 0 8 ro))\n",
+    ),
+    (
+        "trace 5",
+        &[
+            ROOT,
+            ("(borrow 1 0 32 rw)", Ok(2)),
+            ("(borrow 2 16 16 rw)", Ok(3)),
+            ("(write 1 0 1)", Ok(0)),
+        ],
+        "(issued 3)\n(1 0 64 rw)\n",
+    ),
+    (
+        "trace 6",
+        &[ROOT, ("(drop 1)", Ok(0)), ("(read 1 0 0)", Err(3))],
+        "(issued 1)\n",
+    ),
+    (
+        "trace 7, length 1",
+        &[("(create 4294967295 1 rw)", Ok(1))],
+        "(issued 1)\n(1 4294967295 1 rw)\n",
+    ),
+    (
+        "trace 7, length 2",
+        &[("(create 4294967295 2 rw)", Err(3))],
+        "(issued 0)\n",
+    ),
+    (
+        "trace 10",
+        &[
+            ("(create 4096 8 rw)", Ok(1)),
+            ("(borrow 1 4096 8 rw)", Ok(2)),
+            ("(borrow 2 4096 8 rw)", Ok(3)),
+            ("(write 2 4096 8)", Ok(0)),
+            ("(write 3 4096 8)", Err(5)),
+        ],
+        "(issued 3)\n(1 4096 8 rw (2 4096 8 rw))\n",
+    ),
+];
+
+/// The examples of refusals 3 to 7 and 10, on two rows after `(create 0 64 rw)`.
+const REFUSALS: [(&str, &[Step], &str); 6] = [
+    (
+        "refusal 3",
+        &[ROOT, ("(read 1 0 0)", Err(3))],
+        "(issued 1)\n(1 0 64 rw)\n",
+    ),
+    (
+        "refusal 4",
+        &[ROOT, ("(read 9 0 8)", Err(4))],
+        "(issued 1)\n(1 0 64 rw)\n",
+    ),
+    (
+        "refusal 5",
+        &[ROOT, ("(drop 1)", Ok(0)), ("(read 1 0 8)", Err(5))],
+        "(issued 1)\n",
+    ),
+    (
+        "refusal 6",
+        &[ROOT, ("(read 1 60 8)", Err(6))],
+        "(issued 1)\n(1 0 64 rw)\n",
+    ),
+    (
+        "refusal 7",
+        &[
+            ROOT,
+            ("(borrow 1 0 8 ro)", Ok(2)),
+            ("(write 2 0 8)", Err(7)),
+        ],
+        "(issued 2)\n(1 0 64 rw (2 0 8 ro))\n",
+    ),
+    (
+        "refusal 10",
+        &[
+            ROOT,
+            ("(borrow 1 0 8 ro)", Ok(2)),
+            ("(create 0 8 rw)", Err(10)),
+        ],
+        "(issued 2)\n(1 0 64 rw (2 0 8 ro))\n",
+    ),
+];
+
+const CAPCHECK_INPUT: &str = "\
+(create 0 64 rw)
+(borrow 1 0 16 rw)
+(borrow 1 16 16 rw)
+(write 2 0 8)
+(read 1 0 4)
+(write 2 0 8)
+";
+
+const CAPCHECK_OUTPUT: &str = "\
+(refused 7 6)
+(issued 3)
+(1 0 64 rw (2 0 16 ro) (3 16 16 rw))
+";
+
+pub fn groups(report: &mut Report, subject: Subject) {
+    for (name, steps, listing) in TRACES {
+        report.group(name, |_| in_many_sizes(subject, steps, listing));
+    }
+    report.group("trace 8", |_| check_trace(subject, &one_row()));
+    report.group("trace 9", |_| check_trace(subject, &no_rows()));
+    report.group("trace 11, depth, and refusal 8", |_| depth(subject));
+    report.group("trace 11, names", |_| check_trace(subject, &last_name()));
+    for (name, steps, listing) in REFUSALS {
+        report.group(name, |_| on_two_rows(subject, steps, listing));
+    }
+    report.group("refusal 1", |_| disordered(subject));
+    report.group("refusal 2", |_| misspelt(subject));
+    report.group("refusal 9", |_| check_trace(subject, &names_spent()));
+    report.group("refusal 11", |_| short_buffer(subject));
+    report.group("capcheck's example", |_| capcheck(subject));
+}
+
+fn one_row() -> Trace<'static> {
+    Trace {
+        rows: 1,
+        issued: 0,
+        steps: &[
+            ("(create 0 64 rw)", Ok(1)),
+            ("(borrow 1 0 64 rw)", Err(10)),
+            ("(drop 1)", Ok(0)),
+            ("(create 0 64 rw)", Ok(2)),
+        ],
+        listing: "(issued 2)\n(2 0 64 rw)\n",
+    }
+}
+
+fn no_rows() -> Trace<'static> {
+    Trace {
+        rows: 0,
+        issued: 0,
+        steps: &[("(create 0 64 rw)", Err(10))],
+        listing: "(issued 0)\n",
+    }
+}
+
+fn last_name() -> Trace<'static> {
+    Trace {
+        rows: 4,
+        issued: MAX_NAME - 1,
+        steps: &[
+            ("(create 0 8 rw)", Ok(1_000_000)),
+            ("(create 0 8 rw)", Err(9)),
+            ("(borrow 1000000 0 8 rw)", Err(9)),
+        ],
+        listing: "(issued 1000000)\n(1000000 0 8 rw)\n",
+    }
+}
+
+fn names_spent() -> Trace<'static> {
+    Trace {
+        rows: 2,
+        issued: MAX_NAME,
+        steps: &[("(create 0 8 rw)", Err(9))],
+        listing: "(issued 1000000)\n",
+    }
+}
+
+fn in_many_sizes(subject: Subject, steps: &[Step], listing: &str) -> Checked {
+    let mut cases = 0;
+    for rows in [3, 4, 16, MAX_ROWS] {
+        cases += check_trace(
+            subject,
+            &Trace {
+                rows,
+                issued: 0,
+                steps,
+                listing,
+            },
+        )?;
+    }
+    Ok(cases)
+}
+
+fn on_two_rows(subject: Subject, steps: &[Step], listing: &str) -> Checked {
+    check_trace(
+        subject,
+        &Trace {
+            rows: 2,
+            issued: 0,
+            steps,
+            listing,
+        },
+    )
+}
+
+/// Takes the steps one by one as events, and as a run up to each refusal.
+fn check_trace(subject: Subject, trace: &Trace) -> Checked {
+    let mut lent = Lent::empty(trace.rows);
+    lent.tally.issued = trace.issued;
+    for (line, expected) in trace.steps {
+        let before = lent.clone();
+        let event = read(subject, line)?;
+        let answer = agree::apply(subject, &mut lent, event)?;
+        same_answer(packed(*expected), answer).map_err(|why| format!("{line}: {why}"))?;
+        check_run(subject, before, line, *expected)?;
+    }
+    check_listing(subject, &lent, trace.listing)?;
+    Ok(trace.steps.len() as u64)
+}
+
+/// The line as a run of its own.
+fn check_run(subject: Subject, mut lent: Lent, line: &str, expected: Result<u32, u8>) -> Agreed {
+    let answer = agree::run(subject, &mut lent, format!("{line}\n").as_bytes())?;
+    let as_run = expected.map(|_| 1).map_err(|number| (number, 1));
+    same_answer(agree::packed_run(as_run), answer).map_err(|why| format!("run of {line}: {why}"))
+}
+
+fn check_listing(subject: Subject, lent: &Lent, expected: &str) -> Agreed {
+    agree::write_listing(subject, lent)?;
+    agree::read_listing(subject, expected.as_bytes(), lent)?;
+    let written = oracle::listing(&lent.rows, lent.tally.issued);
+    match written == expected {
+        true => Ok(()),
+        false => Err(format!("expected {expected}found {written}")),
+    }
+}
+
+/// The event of a line, as the implementation reads it.
+fn read(subject: Subject, line: &str) -> Result<Event, String> {
+    let line = format!("{line}\n");
+    agree::read_event(subject, line.as_bytes())?;
+    let mut fields = [0; 5];
+    same_answer(0, subject.read_event(line.as_bytes(), &mut fields))?;
+    let [kind, name, start, length, right] = fields;
+    Ok(Event {
+        kind: kind as u8,
+        name,
+        start,
+        length,
+        right: right as u8,
+    })
+}
+
+/// A chain of borrows down to depth 64; one more is refused.
+fn depth(subject: Subject) -> Checked {
+    let mut lent = Lent::empty(MAX_ROWS);
+    let mut step = |line: String, expected| {
+        let event = read(subject, &line)?;
+        let answer = agree::apply(subject, &mut lent, event)?;
+        same_answer(packed(expected), answer).map_err(|why| format!("{line}: {why}"))
+    };
+    step("(create 0 64 rw)".to_string(), Ok(1))?;
+    for newest in 1..MAX_DEPTH {
+        step(format!("(borrow {newest} 0 8 rw)"), Ok(newest + 1))?;
+    }
+    step("(borrow 64 0 8 rw)".to_string(), Err(8))?;
+    Ok(u64::from(MAX_DEPTH) + 1)
+}
+
+/// Rows both named 3: every call that judges the table refuses with 1 and leaves everything.
+fn disordered(subject: Subject) -> Checked {
+    let mut lent = Lent::empty(2);
+    lent.tally.issued = 3;
+    for row in &mut lent.rows {
+        row.name = 3;
+        row.length = 64;
+        row.right = 2;
+        row.depth = 1;
+    }
+    let lines = ["(create 0 8 rw)", "(borrow 3 0 8 rw)", "(read 3 0 8)"];
+    for line in lines {
+        let event = read(subject, line)?;
+        same_answer(1 << 32, agree::apply(subject, &mut lent, event)?)?;
+    }
+    for text in ["", "(drop 3)\n", "\n", "(drop 3", "?"] {
+        same_answer(1 << 32, agree::run(subject, &mut lent, text.as_bytes())?)?;
+    }
+    agree::write_listing(subject, &lent)?;
+    Ok(9)
+}
+
+fn misspelt(subject: Subject) -> Checked {
+    let line = b"(read 01 0 8)\n";
+    let mut fields = [0; 5];
+    same_answer(2 << 32, subject.read_event(line, &mut fields))?;
+    let mut lent = Lent::empty(2);
+    let create = read(subject, "(create 0 64 rw)")?;
+    agree::apply(subject, &mut lent, create)?;
+    same_answer((2 << 32) + 1, agree::run(subject, &mut lent, line)?)?;
+    let expected = Tally {
+        issued: 1,
+        creates: 1,
+        refused: 1,
+        ..Tally::default()
+    };
+    match lent.tally == expected {
+        true => Ok(2),
+        false => Err(format!("tally {:?}", lent.tally)),
+    }
+}
+
+fn short_buffer(subject: Subject) -> Checked {
+    let drop = read(subject, "(drop 1)")?;
+    let mut out = *b"????????";
+    same_answer(11 << 32, subject.write_event(drop, &mut out))?;
+    if out != *b"????????" {
+        return Err("the buffer was touched".to_string());
+    }
+    let mut out = *b"??????????";
+    same_answer(9, subject.write_event(drop, &mut out))?;
+    match &out {
+        b"(drop 1)\n?" => Ok(2),
+        _ => Err(format!("the buffer has {out:?}")),
+    }
+}
+
+fn capcheck(subject: Subject) -> Checked {
+    let mut out = [0; 256];
+    let answer = subject.check(CAPCHECK_INPUT.as_bytes(), &mut out);
+    same_answer(CAPCHECK_OUTPUT.len() as u64, answer)?;
+    if !out.starts_with(CAPCHECK_OUTPUT.as_bytes()) {
+        return Err(String::from_utf8_lossy(&out).into_owned());
+    }
+    agree::check(subject, CAPCHECK_INPUT.as_bytes())?;
+    Ok(7)
+}

@@ -1,0 +1,338 @@
+//! Random tables, tallies, events and texts.
+
+use interface::Event;
+use oracle::{MAX_DEPTH, MAX_NAME, Row, Span, Tally};
+
+use crate::agree::{Lent, oracle_event};
+use crate::random::Random;
+
+/// The shape of a table in order.
+pub struct Shape {
+    pub rows: usize,
+    pub live: usize,
+    /// Whether most capabilities are borrowed from the newest.
+    pub deep: bool,
+}
+
+impl Shape {
+    /// A table of any number of rows up to so many, some of them empty.
+    pub fn partly_full(random: &mut Random, most_rows: usize) -> Shape {
+        let rows = random.between(0, most_rows);
+        Shape {
+            rows,
+            live: random.between(0, rows),
+            deep: random.one_in(4),
+        }
+    }
+
+    pub fn full(random: &mut Random, rows: usize) -> Shape {
+        Shape {
+            rows,
+            live: rows,
+            deep: random.one_in(4),
+        }
+    }
+}
+
+/// A part of the addresses, small in most cases so that spans touch.
+pub fn area(random: &mut Random) -> Span {
+    let span = |start, length| Span { start, length };
+    random.pick(&[
+        span(0, 12),
+        span(0, 64),
+        span(4_096, 40),
+        span(u32::MAX - 15, 16),
+        span(1, u32::MAX),
+    ])
+}
+
+/// A legal span inside another.
+fn inside(random: &mut Random, outer: Span) -> Span {
+    if random.one_in(3) {
+        return outer;
+    }
+    let offset = random.below(outer.length.into()) as u32;
+    let most = match random.one_in(2) {
+        true => outer.length - offset,
+        false => (outer.length - offset).min(4),
+    };
+    Span {
+        start: outer.start + offset,
+        length: 1 + random.below(most.into()) as u32,
+    }
+}
+
+/// Counts at their ceiling, near it, and anywhere.
+pub fn tally(random: &mut Random) -> Tally {
+    let mut count = || match random.below(3) {
+        0 => u32::MAX - random.below(3) as u32,
+        1 => random.below(3) as u32,
+        _ => random.number(),
+    };
+    Tally {
+        issued: 0,
+        creates: count(),
+        borrows: count(),
+        reads: count(),
+        writes: count(),
+        drops: count(),
+        refused: count(),
+    }
+}
+
+/// A table in order, with an issued number that fits it.
+pub fn ordered(random: &mut Random, shape: &Shape) -> Lent {
+    let area = area(random);
+    let widest_gap = random.between(1, 4) as u32;
+    let spare = MAX_NAME - widest_gap * shape.live as u32;
+    let mut last_name = match random.below(4) {
+        0 => spare,
+        1 => random.below(spare.into()) as u32,
+        _ => 0,
+    };
+    let mut rows: Vec<Row> = Vec::with_capacity(shape.rows);
+    for _ in 0..shape.live {
+        last_name += 1 + random.below(widest_gap.into()) as u32;
+        let parent = parent(random, &rows, shape.deep);
+        rows.push(row(random, last_name, parent, area));
+    }
+    let last_name = rows.last().map_or(0, |row| row.name);
+    rows.resize(shape.rows, Row::default());
+    let tally = Tally {
+        issued: issued(random, last_name),
+        ..tally(random)
+    };
+    Lent { rows, tally }
+}
+
+fn parent(random: &mut Random, rows: &[Row], deep: bool) -> Option<Row> {
+    let rarely_a_root = if deep { 200 } else { 3 };
+    if rows.is_empty() || random.one_in(rarely_a_root) {
+        return None;
+    }
+    let candidate = match deep && !random.one_in(400) {
+        true => rows[rows.len() - 1],
+        false => random.pick(rows),
+    };
+    (candidate.depth < MAX_DEPTH).then_some(candidate)
+}
+
+fn row(random: &mut Random, name: u32, parent: Option<Row>, area: Span) -> Row {
+    let outer = parent.map_or(area, |parent| parent.span());
+    let span = inside(random, outer);
+    let highest = parent.map_or(2, |parent| parent.right);
+    Row {
+        name,
+        parent: parent.map_or(0, |parent| parent.name),
+        start: span.start,
+        length: span.length,
+        right: if random.one_in(10) { 1 } else { highest },
+        depth: parent.map_or(0, |parent| parent.depth) + 1,
+    }
+}
+
+fn issued(random: &mut Random, last_name: u32) -> u32 {
+    let highest = match random.below(4) {
+        0 => MAX_NAME - random.below(3) as u32,
+        1 => last_name + random.below(3) as u32,
+        _ => last_name,
+    };
+    highest.clamp(last_name, MAX_NAME)
+}
+
+/// A row of any numbers.
+pub fn noise_row(random: &mut Random) -> Row {
+    Row {
+        name: random.number(),
+        parent: random.number(),
+        start: random.number(),
+        length: random.number(),
+        right: random.number(),
+        depth: random.number(),
+    }
+}
+
+/// Changes something of a lent table or of its issued number. It may still be in order then.
+pub fn disturb(random: &mut Random, lent: &mut Lent) {
+    if lent.rows.is_empty() || random.one_in(8) {
+        let last_name = oracle::live_rows(&lent.rows)
+            .last()
+            .map_or(0, |row| row.name);
+        let edges = [
+            0,
+            last_name.wrapping_sub(1),
+            MAX_NAME,
+            MAX_NAME + 1,
+            u32::MAX,
+        ];
+        lent.tally.issued = random.pick(&edges);
+        return;
+    }
+    let (one, other) = (random.index(lent.rows.len()), random.index(lent.rows.len()));
+    match random.below(12) {
+        0 => lent.rows.swap(one, other),
+        1 => lent.rows[one] = lent.rows[other],
+        2 => lent.rows[one] = Row::default(),
+        3 => lent.rows[one].parent = lent.rows[other].name,
+        4 => lent
+            .rows
+            .resize(random.between(1_024, 1_026), Row::default()),
+        _ => disturb_field(random, &mut lent.rows[one]),
+    }
+}
+
+fn disturb_field(random: &mut Random, row: &mut Row) {
+    let field = match random.below(6) {
+        0 => &mut row.name,
+        1 => &mut row.parent,
+        2 => &mut row.start,
+        3 => &mut row.length,
+        4 => &mut row.right,
+        _ => &mut row.depth,
+    };
+    *field = near(random, *field);
+}
+
+/// One more, one less, or another number altogether.
+fn near(random: &mut Random, number: u32) -> u32 {
+    match random.below(3) {
+        0 => number.wrapping_add(1),
+        1 => number.wrapping_sub(1),
+        _ => random.number(),
+    }
+}
+
+/// An event that has something to do with the table. Values that its kind lacks are filled too,
+/// because nobody may look at them.
+pub fn event(random: &mut Random, lent: &Lent, area: Span) -> Event {
+    let live = oracle::live_rows(&lent.rows);
+    let user = match random.below(6) {
+        0 => None,
+        1 => live.iter().max_by_key(|row| row.depth).copied(),
+        _ => live.get(random.index(live.len().max(1))).copied(),
+    };
+    let outer = user.map_or(area, |user| user.span());
+    let span = match random.below(10) {
+        0 => Span {
+            start: near(random, outer.start),
+            length: outer.length,
+        },
+        1 => Span {
+            start: outer.start,
+            length: near(random, outer.length),
+        },
+        2 if random.one_in(3) => Span {
+            start: random.number(),
+            length: random.number(),
+        },
+        _ if outer.is_legal() => inside(random, outer),
+        _ => outer,
+    };
+    Event {
+        kind: match random.one_in(50) {
+            true => random.pick(&[0, 6, 7, 128, 255]),
+            false => random.pick(&[1, 2, 2, 2, 3, 3, 4, 4, 5]),
+        },
+        name: user.map_or_else(|| stray_name(random, lent.tally.issued), |user| user.name),
+        start: span.start,
+        length: span.length,
+        right: match random.one_in(25) {
+            true => random.pick(&[0, 3, 4, 128, 254, 255]),
+            false => random.pick(&[1, 2, 2, 2]),
+        },
+    }
+}
+
+/// A name that may have ended or not been issued.
+fn stray_name(random: &mut Random, issued: u32) -> u32 {
+    match random.below(4) {
+        0 => random.pick(&[0, issued, issued.wrapping_add(1), u32::MAX]),
+        1 => random.number(),
+        _ => random.below(u64::from(issued) + 1) as u32,
+    }
+}
+
+/// Events made one after the other on what the last left, most of them allowed.
+pub fn events(random: &mut Random, mut lent: Lent, count: usize) -> Vec<Event> {
+    let area = area(random);
+    let mut events = Vec::with_capacity(count);
+    for _ in 0..count {
+        let mut event = self::event(random, &lent, area);
+        let mut tries = random.below(6);
+        while tries > 0 && !is_allowed(&lent, event) {
+            event = self::event(random, &lent, area);
+            tries -= 1;
+        }
+        let _ = oracle::apply(&mut lent.rows, &mut lent.tally, oracle_event(event));
+        events.push(event);
+    }
+    events
+}
+
+fn is_allowed(lent: &Lent, event: Event) -> bool {
+    let mut copy = lent.clone();
+    oracle::apply(&mut copy.rows, &mut copy.tally, oracle_event(event)).is_ok()
+}
+
+/// The lines of the events that have a spelling.
+pub fn trace(events: &[Event]) -> Vec<u8> {
+    let lines = events
+        .iter()
+        .filter_map(|event| oracle::event_line(oracle_event(*event)));
+    lines.collect::<String>().into_bytes()
+}
+
+/// Bytes that mean something somewhere in a text, and some that mean nothing.
+const BYTES: &[u8] = b"0123456789abcdeoprstuw ()\n\t\r-+.,\0\x7f\x80\xffRWA";
+
+/// Cuts, inserts or changes bytes.
+pub fn damage(random: &mut Random, text: &mut Vec<u8>) {
+    let at = random.index(text.len() + 1);
+    let rest = text.len() - at;
+    match random.below(8) {
+        0 => text.truncate(at),
+        1 => drop(text.drain(..at)),
+        2 => text.insert(at, random.pick(BYTES)),
+        3 | 4 if rest > 0 => text[at] = random.pick(BYTES),
+        5 if rest > 0 => drop(text.remove(at)),
+        6 if rest > 1 => text.swap(at, at + 1),
+        _ => {
+            let end = at + random.index(rest.min(24) + 1);
+            let part = text[at..end].to_vec();
+            let target = random.index(text.len() + 1);
+            text.splice(target..target, part);
+        }
+    }
+}
+
+/// The text of a listing with some values changed, written row by row and not judged.
+pub fn disturbed_listing(random: &mut Random, lent: &Lent) -> Vec<u8> {
+    let mut rows = oracle::live_rows(&lent.rows).to_vec();
+    let parents: Vec<u32> = rows.iter().map(|row| row.parent).collect();
+    let names: Vec<u32> = rows.iter().map(|row| row.name).collect();
+    for _ in 0..random.between(0, 2) {
+        if !rows.is_empty() {
+            let at = random.index(rows.len());
+            disturb_field(random, &mut rows[at]);
+        }
+    }
+    let issued = match random.one_in(3) {
+        true => near(random, lent.tally.issued),
+        false => lent.tally.issued,
+    };
+    let mut text = format!("(issued {issued})\n");
+    put_forms(&mut text, &rows, &names, &parents, 0);
+    text.into_bytes()
+}
+
+/// The forms below a parent, by the names and parents that the rows had at first.
+fn put_forms(text: &mut String, rows: &[Row], names: &[u32], parents: &[u32], parent: u32) {
+    for at in (0..rows.len()).filter(|at| parents[*at] == parent) {
+        let row = &rows[at];
+        let right = if row.right == 1 { "ro" } else { "rw" };
+        let opening = if parent == 0 { "(" } else { " (" };
+        *text += &format!("{opening}{} {} {} {right}", row.name, row.start, row.length);
+        put_forms(text, rows, names, parents, names[at]);
+        *text += if parent == 0 { ")\n" } else { ")" };
+    }
+}

@@ -1,0 +1,174 @@
+//! Event lines, written and read.
+
+use interface::Event;
+
+use crate::agree::{self, Agreed, Subject, oracle_event};
+use crate::generate;
+use crate::random::Random;
+use crate::report::{Checked, Report, shrink};
+
+/// One line of each kind and some that are nearly lines.
+const SAMPLES: [&str; 12] = [
+    "(create 0 64 rw)\n",
+    "(create 4294967295 1 ro)\n",
+    "(borrow 1 10 8 rw)\n",
+    "(borrow 1000000 4294967295 4294967295 ro)\n",
+    "(read 1 0 8)\n",
+    "(read 20 4096 4294967290)\n",
+    "(write 7 100 1)\n",
+    "(drop 1)\n",
+    "(drop 4294967295)\n",
+    "(read 01 0 8)\n",
+    "(drop )\n",
+    "\n",
+];
+
+/// Words in the place of a number, most of them not one.
+const NUMBERS: [&str; 21] = [
+    "",
+    "0",
+    "00",
+    "01",
+    "1",
+    "9",
+    "10",
+    "4294967295",
+    "4294967296",
+    "4294967300",
+    "9999999999",
+    "04294967295",
+    "42949672950",
+    "18446744073709551615",
+    "18446744073709551616",
+    "18446744073709551617",
+    "340282366920938463463374607431768211457",
+    "-1",
+    "+1",
+    "1 ",
+    "0x1",
+];
+
+const RIGHTS: [&str; 8] = ["ro", "rw", "", "r", "rww", "RW", "1", "wr"];
+
+pub fn groups(report: &mut Report, subject: Subject) {
+    report.group("event lines written", |random| written(random, subject));
+    report.group("event lines read", |random| read_whole(random, subject));
+    report.group("event lines damaged", |random| damaged(random, subject));
+    report.group("every change of one byte of a line", |_| {
+        each_byte(&SAMPLES, |line| agree::read_event(subject, line))
+    });
+    report.group("numbers and rights in a line", |_| words(subject));
+}
+
+fn random_event(random: &mut Random) -> Event {
+    Event {
+        kind: match random.one_in(20) {
+            true => random.next() as u8,
+            false => random.between(1, 5) as u8,
+        },
+        name: random.number(),
+        start: random.number(),
+        length: random.number(),
+        right: match random.one_in(20) {
+            true => random.next() as u8,
+            false => random.between(1, 2) as u8,
+        },
+    }
+}
+
+fn written(random: &mut Random, subject: Subject) -> Checked {
+    let events = 20_000;
+    for _ in 0..events {
+        let event = random_event(random);
+        agree::write_event(subject, event).map_err(|why| format!("{why}\n  {event:?}"))?;
+    }
+    Ok(events)
+}
+
+/// The lines of a few random events, at least one of which has a spelling.
+fn random_lines(random: &mut Random, most: usize) -> Vec<u8> {
+    let count = random.between(1, most);
+    let mut events: Vec<Event> = (0..count).map(|_| random_event(random)).collect();
+    let spelt = |event: &Event| oracle::event_line(oracle_event(*event)).is_some();
+    if !events.iter().any(spelt) {
+        events[0].kind = 5;
+    }
+    generate::trace(&events)
+}
+
+/// Checks a text; on failure gives a short text that still fails.
+pub fn check_text(text: &[u8], check: impl Fn(&[u8]) -> Agreed) -> Agreed {
+    if check(text).is_ok() {
+        return Ok(());
+    }
+    let small = shrink(text, |fewer| check(fewer).is_err());
+    let why = check(&small).expect_err("a smaller case fails too");
+    Err(format!("{why}\n  text \"{}\"", small.escape_ascii()))
+}
+
+fn read_whole(random: &mut Random, subject: Subject) -> Checked {
+    let lines = 20_000;
+    for _ in 0..lines {
+        let line = random_lines(random, 1);
+        check_text(&line, |text| agree::read_event(subject, text))?;
+    }
+    Ok(lines)
+}
+
+fn damaged(random: &mut Random, subject: Subject) -> Checked {
+    let lines = 60_000;
+    for _ in 0..lines {
+        let mut line = random_lines(random, 2);
+        for _ in 0..random.between(1, 2) {
+            generate::damage(random, &mut line);
+        }
+        check_text(&line, |text| agree::read_event(subject, text))?;
+    }
+    Ok(lines)
+}
+
+/// Each text with each byte left out, each byte changed to every other, and every byte put in at
+/// each place.
+pub fn each_byte(texts: &[&str], check: impl Fn(&[u8]) -> Agreed) -> Checked {
+    let mut cases = 0;
+    let mut one = |text: Vec<u8>| {
+        cases += 1;
+        check_text(&text, &check)
+    };
+    for text in texts {
+        let text = text.as_bytes();
+        for at in 0..=text.len() {
+            for byte in 0..=u8::MAX {
+                one([&text[..at], &[byte], &text[at..]].concat())?;
+            }
+        }
+        for at in 0..text.len() {
+            one([&text[..at], &text[at + 1..]].concat())?;
+            for byte in 0..=u8::MAX {
+                one([&text[..at], &[byte], &text[at + 1..]].concat())?;
+            }
+        }
+    }
+    Ok(cases)
+}
+
+/// Every kind with strange words in the place of its values.
+fn words(subject: Subject) -> Checked {
+    let mut cases = 0;
+    let mut one = |line: String| {
+        cases += 1;
+        check_text(line.as_bytes(), |text| agree::read_event(subject, text))
+    };
+    for first in NUMBERS {
+        one(format!("(drop {first})\n"))?;
+        for second in NUMBERS {
+            one(format!("(read {first} 0 {second})\n"))?;
+            one(format!("(write 1 {first} {second})\n"))?;
+            for right in RIGHTS {
+                one(format!("(create {first} {second} {right})\n"))?;
+                one(format!("(borrow 3 {first} {second} {right})\n"))?;
+            }
+        }
+    }
+    Ok(cases)
+}

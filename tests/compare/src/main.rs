@@ -1,0 +1,62 @@
+//! Compares an implementation behind the C interface with the oracle.
+//!
+//! `compare [library | baseline] [SEED]`: without a word it takes the library where it was built
+//! with `KELZOUD_LIB` set, else the baseline. The exit status is 0 when every group passed.
+
+mod agree;
+mod events;
+mod examples;
+mod generate;
+mod lines;
+mod listings;
+mod random;
+mod report;
+mod runs;
+
+use std::env;
+use std::process::ExitCode;
+
+use agree::Subject;
+use report::Report;
+
+const DEFAULT_SEED: u64 = 1;
+
+struct Options {
+    subject: Subject,
+    seed: u64,
+}
+
+fn options() -> Option<Options> {
+    let mut subject = interface::library().unwrap_or(interface::baseline());
+    let mut seed = DEFAULT_SEED;
+    for word in env::args().skip(1) {
+        match word.as_str() {
+            "library" => subject = interface::library()?,
+            "baseline" => subject = interface::baseline(),
+            number => seed = number.parse().ok()?,
+        }
+    }
+    Some(Options { subject, seed })
+}
+
+fn main() -> ExitCode {
+    let Some(Options { subject, seed }) = options() else {
+        eprintln!("usage: compare [library | baseline] [SEED]");
+        eprintln!("'library' needs a build with KELZOUD_LIB set");
+        return ExitCode::from(2);
+    };
+    println!("{} against the oracle, seed {seed}", subject.name());
+    let mut report = Report::new(seed);
+    examples::groups(&mut report, subject);
+    events::groups(&mut report, subject);
+    lines::groups(&mut report, subject);
+    listings::groups(&mut report, subject);
+    runs::groups(&mut report, subject);
+    report.group("every answer of an event was met", |_| {
+        agree::every_answer_met()
+    });
+    match report.finish() {
+        true => ExitCode::SUCCESS,
+        false => ExitCode::FAILURE,
+    }
+}

@@ -1,0 +1,124 @@
+/*
+ * The header as C and as C++: the layout of the records, each helper, each call, and pointers that
+ * are NULL where their length is 0. Prints each check that fails; the exit status is 0 when none
+ * does.
+ */
+#include <stdio.h>
+#include <string.h>
+
+#include "kelzoud.h"
+
+static int failures = 0;
+
+static void check_at(int line, const char *what, int holds) {
+    if (!holds) {
+        printf("header.c:%d: %s\n", line, what);
+        failures++;
+    }
+}
+
+#define CHECK(condition) check_at(__LINE__, #condition, condition)
+
+static uint64_t refused(enum kz_refusal number, uint32_t value) {
+    return ((uint64_t)number << 32) + value;
+}
+
+static void check_layout(void) {
+    CHECK(sizeof(kz_cap) == 24);
+    CHECK(sizeof(kz_tally) == 28);
+    CHECK(offsetof(kz_cap, depth) == 20);
+    CHECK(offsetof(kz_tally, refused) == 24);
+    CHECK(kz_number(refused(KZ_BUFFER_TOO_SHORT, 7)) == 11);
+    CHECK(kz_value(refused(KZ_BUFFER_TOO_SHORT, 7)) == 7);
+    CHECK(kz_value(refused(KZ_DISORDERED, 4294967295u)) == 4294967295u);
+}
+
+static void check_events(void) {
+    kz_cap table[3];
+    kz_tally tally;
+    memset(table, 0, sizeof table);
+    memset(&tally, 0, sizeof tally);
+    CHECK(kz_create(table, 3, &tally, 0, 64, KZ_RW) == 1);
+    CHECK(kz_borrow(table, 3, &tally, 1, 0, 16, KZ_RW) == 2);
+    CHECK(kz_borrow(table, 3, &tally, 1, 0, 16, KZ_RO) == 3);
+    CHECK(kz_borrow(table, 3, &tally, 1, 0, 16, KZ_RO) == refused(KZ_TABLE_FULL, 0));
+    CHECK(kz_read(table, 3, &tally, 1, 8, 1) == 0);
+    CHECK(table[1].right == KZ_RO);
+    CHECK(kz_write(table, 3, &tally, 2, 0, 1) == refused(KZ_READ_ONLY, 0));
+    CHECK(kz_write(table, 3, &tally, 1, 0, 1) == 0);
+    CHECK(table[0].name == 1 && table[1].name == 0);
+    CHECK(kz_drop(table, 3, &tally, 1) == 0);
+    CHECK(kz_drop(table, 3, &tally, 1) == refused(KZ_ENDED, 0));
+    CHECK(kz_apply(table, 3, &tally, 6, 1, 0, 1, KZ_RW) == refused(KZ_MISSPELT, 0));
+    CHECK(tally.issued == 3 && tally.creates == 1 && tally.borrows == 2);
+    CHECK(tally.reads == 1 && tally.writes == 1 && tally.drops == 1 && tally.refused == 4);
+}
+
+static void check_text(void) {
+    static const uint8_t trace[] = "(create 0 8 rw)\n(read 1 0 9)\n";
+    static const char listing[] = "(issued 1)\n(1 0 8 rw)\n";
+    const size_t length = sizeof trace - 1;
+    uint32_t fields[5];
+    uint8_t out[64];
+    kz_cap table[2];
+    kz_tally tally;
+    memset(table, 0, sizeof table);
+    memset(&tally, 0, sizeof tally);
+    CHECK(kz_read_event(trace, 16, fields) == 0);
+    CHECK(fields[0] == KZ_CREATE && fields[3] == 8 && fields[4] == KZ_RW);
+    CHECK(kz_write_event(KZ_CREATE, 0, 0, 8, KZ_RW, out, sizeof out) == 16);
+    CHECK(memcmp(out, trace, 16) == 0);
+    CHECK(kz_run(table, 2, &tally, trace, length) == refused(KZ_OUTSIDE_SPAN, 2));
+    CHECK(kz_write_listing(table, 2, tally.issued, out, sizeof out) == sizeof listing - 1);
+    CHECK(memcmp(out, listing, sizeof listing - 1) == 0);
+    memset(table, 255, sizeof table);
+    CHECK(kz_read_listing(out, sizeof listing - 1, table, 2, &tally) == 0);
+    CHECK(table[0].length == 8 && table[1].name == 0);
+    CHECK(kz_check(trace, length, out, sizeof out) == sizeof listing - 1 + 14);
+    CHECK(memcmp(out, "(refused 6 2)\n", 14) == 0);
+}
+
+static void check_null(void) {
+    static const char listing[] = "(issued 0)\n";
+    const uint8_t *text = (const uint8_t *)listing;
+    uint32_t fields[5];
+    uint8_t out[64];
+    kz_tally tally;
+    memset(&tally, 0, sizeof tally);
+    CHECK(kz_create(NULL, 0, &tally, 0, 64, KZ_RW) == refused(KZ_TABLE_FULL, 0));
+    CHECK(kz_run(NULL, 0, &tally, NULL, 0) == 0);
+    CHECK(kz_write_event(KZ_DROP, 1, 0, 0, 0, NULL, 0) == refused(KZ_BUFFER_TOO_SHORT, 0));
+    CHECK(kz_read_event(NULL, 0, fields) == refused(KZ_MISSPELT, 0));
+    CHECK(kz_write_listing(NULL, 0, 0, out, sizeof out) == sizeof listing - 1);
+    CHECK(kz_write_listing(NULL, 0, 0, NULL, 0) == refused(KZ_BUFFER_TOO_SHORT, 0));
+    CHECK(kz_read_listing(NULL, 0, NULL, 0, &tally) == refused(KZ_MISSPELT, 0));
+    CHECK(kz_read_listing(text, sizeof listing - 1, NULL, 0, &tally) == 0);
+    CHECK(kz_check(NULL, 0, NULL, 0) == refused(KZ_BUFFER_TOO_SHORT, 0));
+    CHECK(kz_check(NULL, 0, out, sizeof out) == sizeof listing - 1 + 12);
+}
+
+/* A table whose listing is as long as a listing can be. */
+static void check_longest(void) {
+    static kz_cap table[KZ_MAX_ROWS];
+    static uint8_t out[KZ_MAX_LISTING];
+    uint32_t i;
+    for (i = 0; i < KZ_MAX_ROWS; i++) {
+        table[i].name = KZ_MAX_NAME - KZ_MAX_ROWS + 1 + i;
+        table[i].start = 1000000000;
+        table[i].length = 1000000000;
+        table[i].right = KZ_RW;
+        table[i].depth = 1;
+    }
+    CHECK(kz_write_listing(table, KZ_MAX_ROWS, KZ_MAX_NAME, out, sizeof out) == sizeof out);
+    CHECK(kz_write_event(KZ_BORROW, 4294967295u, 4294967295u, 4294967295u, KZ_RW, out,
+                         KZ_MAX_LINE) == KZ_MAX_LINE);
+}
+
+int main(void) {
+    check_layout();
+    check_events();
+    check_text();
+    check_null();
+    check_longest();
+    return failures != 0;
+}

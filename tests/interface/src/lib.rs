@@ -1,0 +1,43 @@
+//! The C interface as a trait, over the library or over the baseline, so that whatever tests or
+//! measures the one can test or measure the other.
+
+pub use baseline::{Cap, Event, Tally};
+
+#[cfg(library)]
+#[allow(unsafe_code)]
+#[path = "../../../bindings/rust/src/ffi.rs"]
+mod ffi;
+#[cfg(library)]
+mod library;
+mod plain;
+
+/// The calls of the C interface. Each answers the refusal's number times 2^32 plus a value.
+pub trait Interface {
+    fn name(&self) -> &'static str;
+
+    fn apply(&self, table: &mut [Cap], tally: &mut Tally, event: Event) -> u64;
+
+    fn run(&self, table: &mut [Cap], tally: &mut Tally, text: &[u8]) -> u64;
+
+    fn write_event(&self, event: Event, out: &mut [u8]) -> u64;
+
+    fn read_event(&self, line: &[u8], fields: &mut [u32; 5]) -> u64;
+
+    fn write_listing(&self, table: &[Cap], issued: u32, out: &mut [u8]) -> u64;
+
+    fn read_listing(&self, text: &[u8], table: &mut [Cap], tally: &mut Tally) -> u64;
+
+    fn check(&self, input: &[u8], out: &mut [u8]) -> u64;
+}
+
+pub fn baseline() -> &'static dyn Interface {
+    &plain::Baseline
+}
+
+/// The library, where this was built with `KELZOUD_LIB` set.
+pub fn library() -> Option<&'static dyn Interface> {
+    #[cfg(library)]
+    return Some(&library::Library);
+    #[cfg(not(library))]
+    return None;
+}

@@ -1,0 +1,54 @@
+//! The baseline behind the C interface.
+
+use baseline::{Cap, Event, Refusal, Tally};
+
+use crate::Interface;
+
+pub struct Baseline;
+
+fn packed(answer: Result<u32, Refusal>) -> u64 {
+    match answer {
+        Ok(value) => u64::from(value),
+        Err(refusal) => (refusal as u64) << 32,
+    }
+}
+
+impl Interface for Baseline {
+    fn name(&self) -> &'static str {
+        "baseline"
+    }
+
+    fn apply(&self, table: &mut [Cap], tally: &mut Tally, event: Event) -> u64 {
+        packed(baseline::apply(table, tally, event))
+    }
+
+    fn run(&self, table: &mut [Cap], tally: &mut Tally, text: &[u8]) -> u64 {
+        match baseline::run(table, tally, text) {
+            Ok(lines) => u64::from(lines),
+            Err((refusal, line)) => packed(Err(refusal)) + u64::from(line),
+        }
+    }
+
+    fn write_event(&self, event: Event, out: &mut [u8]) -> u64 {
+        packed(baseline::write_event(event, out))
+    }
+
+    fn read_event(&self, line: &[u8], fields: &mut [u32; 5]) -> u64 {
+        packed(baseline::read_event(line).map(|e| {
+            *fields = [e.kind.into(), e.name, e.start, e.length, e.right.into()];
+            0
+        }))
+    }
+
+    fn write_listing(&self, table: &[Cap], issued: u32, out: &mut [u8]) -> u64 {
+        packed(baseline::write_listing(table, issued, out))
+    }
+
+    fn read_listing(&self, text: &[u8], table: &mut [Cap], tally: &mut Tally) -> u64 {
+        packed(baseline::read_listing(text, table, tally).map(|()| 0))
+    }
+
+    fn check(&self, input: &[u8], out: &mut [u8]) -> u64 {
+        packed(baseline::check(input, out))
+    }
+}

@@ -1,0 +1,154 @@
+//! The history: notes, and all that follows from them, worked out from the notes each time.
+
+use crate::table::{Row, refusal};
+use crate::values::{Event, READ_ONLY, READ_WRITE, Refused, Span};
+
+/// An allowed event. A create or borrow is noted with the name that it made, the others with 0.
+#[derive(Clone, Copy, Debug)]
+struct Note {
+    made: u32,
+    event: Event,
+}
+
+/// What the note that made a name says of it, and where it stands.
+#[derive(Clone, Copy)]
+struct Made {
+    at: usize,
+    parent: u32,
+    span: Span,
+    right: u8,
+}
+
+#[derive(Clone, Debug)]
+pub struct History {
+    rows: usize,
+    notes: Vec<Note>,
+    count: u32,
+}
+
+impl History {
+    pub fn new(rows: usize) -> History {
+        History {
+            rows,
+            notes: Vec::new(),
+            count: 0,
+        }
+    }
+
+    /// The count of names.
+    pub fn count(&self) -> u32 {
+        self.count
+    }
+
+    /// The answer to the next event: the new name (0 where none is made), or the refusal.
+    pub fn answer(&mut self, event: Event) -> Result<u32, Refused> {
+        if let Some(number) = refusal(&self.table(), self.count, event) {
+            return Err(number);
+        }
+        let made = match event.makes() {
+            true => self.count + 1,
+            false => 0,
+        };
+        self.count = self.count.max(made);
+        self.notes.push(Note { made, event });
+        Ok(made)
+    }
+
+    /// The history's table: a row for each living name, rising, then zeros.
+    pub fn table(&self) -> Vec<Row> {
+        let names = self.notes.iter().map(|note| note.made);
+        let living = names.filter(|name| self.lives(*name));
+        let mut rows: Vec<Row> = living.filter_map(|name| self.row(name)).collect();
+        rows.resize(self.rows, Row::default());
+        rows
+    }
+
+    fn row(&self, name: u32) -> Option<Row> {
+        let made = self.made(name)?;
+        let right = match self.is_read_write(name) {
+            true => READ_WRITE,
+            false => READ_ONLY,
+        };
+        Some(Row {
+            name,
+            parent: made.parent,
+            start: made.span.start,
+            length: made.span.length,
+            right: right.into(),
+            depth: self.ancestry(name).len() as u32,
+        })
+    }
+
+    fn made(&self, name: u32) -> Option<Made> {
+        let made_it = |note: &Note| name != 0 && note.made == name;
+        let at = self.notes.iter().position(made_it)?;
+        let event = self.notes[at].event;
+        Some(Made {
+            at,
+            parent: event.user().unwrap_or(0),
+            span: event.span()?,
+            right: event.right()?,
+        })
+    }
+
+    /// The name, its noted parent, and so on up to its root.
+    fn ancestry(&self, name: u32) -> Vec<u32> {
+        let mut path = Vec::new();
+        let mut at = name;
+        while let Some(made) = self.made(at) {
+            path.push(at);
+            at = made.parent;
+        }
+        path
+    }
+
+    /// Whether an access through `user` touches the name's span from outside the name's subtree.
+    fn strikes(&self, user: u32, span: Span, name: u32) -> bool {
+        let touches = self.made(name).is_some_and(|made| made.span.touches(span));
+        touches && !self.ancestry(user).contains(&name)
+    }
+
+    fn strikes_any(&self, user: u32, span: Span, names: &[u32]) -> bool {
+        names.iter().any(|name| self.strikes(user, span, *name))
+    }
+
+    /// Whether an event noted after the name was made is one of those that take something from it.
+    fn any_later(&self, made: Made, takes: impl Fn(Event) -> bool) -> bool {
+        let later = &self.notes[made.at + 1..];
+        later.iter().any(|note| takes(note.event))
+    }
+
+    pub fn lives(&self, name: u32) -> bool {
+        let path = self.ancestry(name);
+        let ends = |event| match event {
+            Event::Drop { name } => path.contains(&name),
+            Event::Write { name, span } => self.strikes_any(name, span, &path),
+            _ => false,
+        };
+        self.made(name)
+            .is_some_and(|made| !self.any_later(made, ends))
+    }
+
+    /// Whether the name was made writable and no later read took that away.
+    pub fn is_read_write(&self, name: u32) -> bool {
+        let path = self.ancestry(name);
+        let lowers = |event| match event {
+            Event::Read { name, span } => self.strikes_any(name, span, &path),
+            _ => false,
+        };
+        self.made(name)
+            .is_some_and(|made| made.right == READ_WRITE && !self.any_later(made, lowers))
+    }
+
+    /// Demand 3 of a read: the capability was made, the span is legal and within its own, and it
+    /// lives.
+    pub fn may_read(&self, name: u32, span: Span) -> bool {
+        let within = |made: Made| span.is_legal() && span.is_inside(made.span);
+        self.made(name).is_some_and(within) && self.lives(name)
+    }
+
+    /// Demand 3 of a write: that of a read, and the capability is still writable.
+    pub fn may_write(&self, name: u32, span: Span) -> bool {
+        self.may_read(name, span) && self.is_read_write(name)
+    }
+}

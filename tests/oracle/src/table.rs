@@ -1,0 +1,240 @@
+//! The lent table and tally: when a table is in order, what refuses an event, what an event does.
+
+use crate::values::{Event, MAX_DEPTH, MAX_NAME, MAX_ROWS, READ_ONLY, READ_WRITE, Refused, Span};
+
+#[derive(Clone, Copy, Debug, Default, PartialEq, Eq)]
+pub struct Row {
+    pub name: u32,
+    pub parent: u32,
+    pub start: u32,
+    pub length: u32,
+    pub right: u32,
+    pub depth: u32,
+}
+
+impl Row {
+    pub fn span(&self) -> Span {
+        Span {
+            start: self.start,
+            length: self.length,
+        }
+    }
+}
+
+#[derive(Clone, Copy, Debug, Default, PartialEq, Eq)]
+pub struct Tally {
+    pub issued: u32,
+    pub creates: u32,
+    pub borrows: u32,
+    pub reads: u32,
+    pub writes: u32,
+    pub drops: u32,
+    pub refused: u32,
+}
+
+/// The rows up to the last that is not all zeros.
+pub fn live_rows(rows: &[Row]) -> &[Row] {
+    let last = rows.iter().rposition(|row| *row != Row::default());
+    &rows[..last.map_or(0, |last| last + 1)]
+}
+
+/// Document 01's sentence, 'A table is in order when', clause by clause.
+pub fn in_order(rows: &[Row], issued: u32) -> bool {
+    if rows.len() > MAX_ROWS || issued > MAX_NAME {
+        return false;
+    }
+    let live = live_rows(rows);
+    live.iter().all(|row| 1 <= row.name && row.name <= issued)
+        && live.windows(2).all(|pair| pair[0].name < pair[1].name)
+        && (0..live.len()).all(|at| row_is_in_order(&live[at], &live[..at]))
+}
+
+fn row_is_in_order(row: &Row, earlier: &[Row]) -> bool {
+    row.span().is_legal()
+        && (row.right == u32::from(READ_ONLY) || row.right == u32::from(READ_WRITE))
+        && if row.parent == 0 {
+            row.depth == 1
+        } else {
+            find(earlier, row.parent).is_some_and(|parent| row_fits_parent(row, parent))
+        }
+}
+
+fn row_fits_parent(row: &Row, parent: &Row) -> bool {
+    row.span().is_inside(parent.span())
+        && row.right <= parent.right
+        && row.depth == parent.depth + 1
+        && row.depth <= MAX_DEPTH
+}
+
+fn find(rows: &[Row], name: u32) -> Option<&Row> {
+    rows.iter().find(|row| row.name == name && name != 0)
+}
+
+/// The row, its parent, and so on up to its root.
+fn ancestry<'a>(live: &'a [Row], row: &'a Row) -> Vec<&'a Row> {
+    let mut path = vec![row];
+    let mut child = row;
+    while let Some(parent) = find(live, child.parent) {
+        path.push(parent);
+        child = parent;
+    }
+    path
+}
+
+/// The number that an event is refused with: the lowest whose condition holds.
+pub fn refusal(rows: &[Row], issued: u32, event: Event) -> Option<Refused> {
+    if !in_order(rows, issued) {
+        return Some(1);
+    }
+    let conditions = [
+        (2, has_no_spelling(event)),
+        (3, event.span().is_some_and(|span| !span.is_legal())),
+        (4, event.user().is_some_and(|name| !is_issued(name, issued))),
+        (
+            5,
+            event
+                .user()
+                .is_some_and(|name| has_ended(rows, name, issued)),
+        ),
+        (6, is_outside_its_capability(rows, event)),
+        (7, needs_more_than_read_only(rows, event)),
+        (8, borrows_too_deep(rows, event)),
+        (9, event.makes() && issued == MAX_NAME),
+        (10, event.makes() && live_rows(rows).len() == rows.len()),
+    ];
+    let holding = conditions.into_iter().filter(|(_, holds)| *holds);
+    holding.map(|(number, _)| number).min()
+}
+
+/// An unknown kind, or a right that is neither 1 nor 2.
+pub fn has_no_spelling(event: Event) -> bool {
+    event == Event::Unknown
+        || event
+            .right()
+            .is_some_and(|right| right != READ_ONLY && right != READ_WRITE)
+}
+
+fn is_issued(name: u32, issued: u32) -> bool {
+    1 <= name && name <= issued
+}
+
+fn has_ended(rows: &[Row], name: u32, issued: u32) -> bool {
+    is_issued(name, issued) && find(rows, name).is_none()
+}
+
+/// The live row that the event goes through.
+fn user_row(rows: &[Row], event: Event) -> Option<&Row> {
+    find(rows, event.user()?)
+}
+
+fn is_outside_its_capability(rows: &[Row], event: Event) -> bool {
+    match (user_row(rows, event), event.span()) {
+        (Some(user), Some(span)) => !span.is_inside(user.span()),
+        _ => false,
+    }
+}
+
+fn needs_more_than_read_only(rows: &[Row], event: Event) -> bool {
+    let through_read_only =
+        user_row(rows, event).is_some_and(|user| user.right == u32::from(READ_ONLY));
+    let needs_read_write = match event {
+        Event::Write { .. } => true,
+        Event::Borrow { right, .. } => right == READ_WRITE,
+        _ => false,
+    };
+    through_read_only && needs_read_write
+}
+
+fn borrows_too_deep(rows: &[Row], event: Event) -> bool {
+    matches!(event, Event::Borrow { .. })
+        && user_row(rows, event).is_some_and(|parent| parent.depth == MAX_DEPTH)
+}
+
+/// One event on a lent table and tally: the new name (0 where none is made), or the refusal.
+pub fn apply(rows: &mut [Row], tally: &mut Tally, event: Event) -> Result<u32, Refused> {
+    if let Some(number) = refusal(rows, tally.issued, event) {
+        if number != 1 {
+            tally.refused = tally.refused.saturating_add(1);
+        }
+        return Err(number);
+    }
+    let after = rows_after(live_rows(rows), event, tally.issued + 1);
+    rows.fill(Row::default());
+    rows[..after.len()].copy_from_slice(&after);
+    count_allowed(tally, event);
+    Ok(if event.makes() { tally.issued } else { 0 })
+}
+
+fn rows_after(live: &[Row], event: Event, new_name: u32) -> Vec<Row> {
+    match event {
+        Event::Create { span, right } => with_new(live, new_name, None, span, right),
+        Event::Borrow {
+            parent,
+            span,
+            right,
+        } => with_new(live, new_name, find(live, parent), span, right),
+        Event::Read { name, span } => {
+            let lowered = revoked(live, name, span);
+            let right_of = |row: &Row| match lowered.contains(&row.name) {
+                true => u32::from(READ_ONLY),
+                false => row.right,
+            };
+            let rows = live.iter().map(|row| Row {
+                right: right_of(row),
+                ..*row
+            });
+            rows.collect()
+        }
+        Event::Write { name, span } => without(live, &revoked(live, name, span)),
+        Event::Drop { name } => without(live, &subtree(live, name)),
+        Event::Unknown => live.to_vec(),
+    }
+}
+
+fn with_new(live: &[Row], name: u32, parent: Option<&Row>, span: Span, right: u8) -> Vec<Row> {
+    let mut rows = live.to_vec();
+    rows.push(Row {
+        name,
+        parent: parent.map_or(0, |parent| parent.name),
+        start: span.start,
+        length: span.length,
+        right: right.into(),
+        depth: parent.map_or(0, |parent| parent.depth) + 1,
+    });
+    rows
+}
+
+fn without(live: &[Row], ended: &[u32]) -> Vec<Row> {
+    let kept = live.iter().filter(|row| !ended.contains(&row.name));
+    kept.copied().collect()
+}
+
+fn subtree(live: &[Row], name: u32) -> Vec<u32> {
+    let below = |row: &&Row| ancestry(live, row).iter().any(|at| at.name == name);
+    live.iter().filter(below).map(|row| row.name).collect()
+}
+
+/// The names that an access takes something from: every one that it touches and that is neither
+/// the user nor an ancestor of it, and their subtrees.
+fn revoked(live: &[Row], user: u32, span: Span) -> Vec<u32> {
+    let spared = find(live, user).map_or(Vec::new(), |user| ancestry(live, user));
+    let struck = |row: &Row| row.span().touches(span) && !spared.contains(&row);
+    let below = |row: &&Row| ancestry(live, row).into_iter().any(struck);
+    live.iter().filter(below).map(|row| row.name).collect()
+}
+
+/// What an allowed event adds to the tally.
+pub fn count_allowed(tally: &mut Tally, event: Event) {
+    if event.makes() {
+        tally.issued += 1;
+    }
+    let count = match event {
+        Event::Create { .. } => &mut tally.creates,
+        Event::Borrow { .. } => &mut tally.borrows,
+        Event::Read { .. } => &mut tally.reads,
+        Event::Write { .. } => &mut tally.writes,
+        Event::Drop { .. } => &mut tally.drops,
+        Event::Unknown => return,
+    };
+    *count = count.saturating_add(1);
+}

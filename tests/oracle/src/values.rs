@@ -1,0 +1,134 @@
+//! The values of document 01: spans, rights, events and the numbers of refusals.
+
+pub const MAX_ROWS: usize = 1_024;
+pub const MAX_NAME: u32 = 1_000_000;
+pub const MAX_DEPTH: u32 = 64;
+/// The longest input that `capcheck` runs, in bytes.
+pub const MAX_INPUT: usize = 65_536;
+
+pub const READ_ONLY: u8 = 1;
+pub const READ_WRITE: u8 = 2;
+
+/// The number of a refusal, 1 to 11.
+pub type Refused = u8;
+
+#[derive(Clone, Copy, Debug, PartialEq, Eq)]
+pub struct Span {
+    pub start: u32,
+    pub length: u32,
+}
+
+impl Span {
+    pub fn end(self) -> u64 {
+        u64::from(self.start) + u64::from(self.length)
+    }
+
+    pub fn is_legal(self) -> bool {
+        self.length >= 1 && self.end() <= 1 << 32
+    }
+
+    /// Whether the two share an address.
+    pub fn touches(self, other: Span) -> bool {
+        let first_shared = u64::from(self.start.max(other.start));
+        first_shared < self.end().min(other.end())
+    }
+
+    pub fn is_inside(self, outer: Span) -> bool {
+        outer.start <= self.start && self.end() <= outer.end()
+    }
+}
+
+#[derive(Clone, Copy, Debug, PartialEq, Eq)]
+pub enum Event {
+    Create {
+        span: Span,
+        right: u8,
+    },
+    Borrow {
+        parent: u32,
+        span: Span,
+        right: u8,
+    },
+    Read {
+        name: u32,
+        span: Span,
+    },
+    Write {
+        name: u32,
+        span: Span,
+    },
+    Drop {
+        name: u32,
+    },
+    /// A kind that is none of the five. Only the C interface can be given one.
+    Unknown,
+}
+
+impl Event {
+    /// The event of the C interface's five values; those that its kind lacks are not looked at.
+    pub fn from_fields(kind: u8, name: u32, start: u32, length: u32, right: u8) -> Event {
+        let span = Span { start, length };
+        match kind {
+            1 => Event::Create { span, right },
+            2 => Event::Borrow {
+                parent: name,
+                span,
+                right,
+            },
+            3 => Event::Read { name, span },
+            4 => Event::Write { name, span },
+            5 => Event::Drop { name },
+            _ => Event::Unknown,
+        }
+    }
+
+    /// Kind, name, start, length and right as the C interface gives them, 0 for what a kind lacks.
+    pub fn fields(self) -> [u32; 5] {
+        match self {
+            Event::Create { span, right } => [1, 0, span.start, span.length, right.into()],
+            Event::Borrow {
+                parent,
+                span,
+                right,
+            } => [2, parent, span.start, span.length, right.into()],
+            Event::Read { name, span } => [3, name, span.start, span.length, 0],
+            Event::Write { name, span } => [4, name, span.start, span.length, 0],
+            Event::Drop { name } => [5, name, 0, 0, 0],
+            Event::Unknown => [0; 5],
+        }
+    }
+
+    /// The right that the event asks for, in the two kinds that have one.
+    pub fn right(self) -> Option<u8> {
+        match self {
+            Event::Create { right, .. } | Event::Borrow { right, .. } => Some(right),
+            _ => None,
+        }
+    }
+
+    pub fn span(self) -> Option<Span> {
+        match self {
+            Event::Create { span, .. }
+            | Event::Borrow { span, .. }
+            | Event::Read { span, .. }
+            | Event::Write { span, .. } => Some(span),
+            Event::Drop { .. } | Event::Unknown => None,
+        }
+    }
+
+    /// The capability that the event goes through, in the four kinds that have one.
+    pub fn user(self) -> Option<u32> {
+        match self {
+            Event::Borrow { parent, .. } => Some(parent),
+            Event::Read { name, .. } | Event::Write { name, .. } | Event::Drop { name } => {
+                Some(name)
+            }
+            Event::Create { .. } | Event::Unknown => None,
+        }
+    }
+
+    /// Whether the event makes a capability.
+    pub fn makes(self) -> bool {
+        matches!(self, Event::Create { .. } | Event::Borrow { .. })
+    }
+}
