@@ -105,21 +105,24 @@ fn read_form(text: &[u8], words: &mut [u32; 6144], count: usize, parent: u32, de
     }
 }
 
-// Reads a run of forms, each behind a space.
+// Reads a run of forms, each behind a space: one turn for each sibling, so that the two functions are never deeper in each
+// other than the forms are.
 fn read_run(text: &[u8], words: &mut [u32; 6144], count: usize, parent: u32, depth: u32) -> Place
     requires { ⌜ Stored (now words) count ⌝ }
     ensures { λ r. ⌜ (count ≤ r .count) × Stored (now (words .exit)) (r .count)
         × Reads (λ (k : ℕ). readRun k parent depth (record { rest = now (text .entry); rows = newest (now (words .entry)) count })) (2 * length (now (text .entry))) (now (text .entry)) (r .left) (newest (now (words .exit)) (r .count)) ⌝ }
 {
-    if child_follows(text, count, depth) {
-        let child = past(text, 1);
-        let read = read_form(child, words, count, parent, depth + 1);
-        let left = read.left;
-        return read_run(last(child, left), words, read.count, parent, depth);
+    let mut left = text.len();
+    let mut stored = count;
+    while child_follows(last(text, left), stored, depth) {
+        let child = past(last(text, left), 1);
+        let read = read_form(child, words, stored, parent, depth + 1);
+        left = read.left;
+        stored = read.count;
     }
     Place {
-        left: text.len(),
-        count,
+        left,
+        count: stored,
     }
 }
 

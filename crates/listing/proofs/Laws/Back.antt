@@ -23,6 +23,7 @@ use Rattle.text.proofs.Laws.Digits.{digits, digitAt, decimal-width}
 use Rattle.text.proofs.Laws.Number.{Stops, digit-class, digit-small}
 use Rattle.text.proofs.Laws.Words.{plain-decimal, next, number-is, rights}
 use Rattle.listing.proofs.Laws.Listing.{length-form, length-children}
+use Rattle.listing.proofs.Laws.Reading.{run-on, run-off}
 use Rattle.listing.proofs.Laws.Nested.{Fields, Deeper, Nested}
 
 -- ---- a form
@@ -85,14 +86,6 @@ unfolding form pieces
 form-spelled c inner t = simp append-assoc
 
 -- ---- a run
-
-run-on : (k p d : ℕ) (r : Reading) → childFollows d r ≡ true → readRun (suc k) p d r ≡ readRun k p d (readForm k p (d + 1) (record { rest = drop 1 (r .rest); rows = r .rows }))
-unfolding readForm
-run-on k p d r h = rw h
-
-run-off : (k p d : ℕ) (r : Reading) → childFollows d r ≡ false → readRun (suc k) p d r ≡ r
-unfolding readForm
-run-off k p d r h = rw h
 
 no-child : (u : List ℕ) (acc : List Cap) (d : ℕ) → (getD u 0 0 ≡ 32 → ⊥) → childFollows d (record { rest = u; rows = acc }) ≡ false
 no-child u acc d h = rw (ne-eqb (getD u 0 0) 32 h) (go (ltb d 64) (ltb (length acc) 1024))
