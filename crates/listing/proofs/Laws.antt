@@ -7,7 +7,7 @@ pub mod Forms
 pub mod Stored
 pub mod Reading
 pub mod Roots
-pub mod Sorting
+pub mod Merging
 pub mod Front
 pub mod ReadListing
 pub mod Nested

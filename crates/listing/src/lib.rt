@@ -1,4 +1,5 @@
 // Listings, document 01, "The bracket text": a table written as text, and read back.
+mod copying;
 mod forms;
 mod links;
 pub mod reading;

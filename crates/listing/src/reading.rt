@@ -1,5 +1,6 @@
 // Listings, read: the table that a text can be the listing of is guessed, and accepted when it is in order and writes back to
 // the same bytes.
+use crate::copying;
 use crate::forms;
 use crate::sort;
 use crate::writing;
@@ -49,17 +50,6 @@ fn is_listing(text: &[u8], words: &[u32; 6144], issued: u32) -> bool
     check::same(text, &buffer[..length])
 }
 
-fn copy(from: &[u32; 6144], to: &mut [u32; 6144])
-    requires { ⌜ (length (now from) ≡ 6144) × (length (now to) ≡ 6144) ⌝ }
-    ensures { λ _. ⌜ now (to .exit) ≡ now (from .entry) ⌝ }
-{
-    let mut i = 0;
-    while i < 6144 {
-        to[i] = from[i];
-        i += 1;
-    }
-}
-
 // Reads a listing into a table of n rows. A refusal changes nothing; a listing that is read fixes all the words.
 pub fn read_listing(text: &[u8], words: &mut [u32; 6144], n: usize) -> ListingRead
     requires { ⌜ (n ≤ 1024) × (length (now words) ≡ 6144) ⌝ }
@@ -74,6 +64,6 @@ pub fn read_listing(text: &[u8], words: &mut [u32; 6144], n: usize) -> ListingRe
     if n < find::live_count(&table, 1024) {
         return ListingRead::Refused(Refusal::TableFull);
     }
-    copy(&table, words);
+    copying::copy(&table, words);
     ListingRead::Issued(issued)
 }

@@ -2,7 +2,7 @@
 -- Assumes nothing.
 use mathlib.Core.Path.{_≡_, refl, sym, ap, ap₂, _∙_, subst}
 use mathlib.Core.Bool.{Bool, true, false, cond, not, _&&_}
-use mathlib.Core.List.{List, [], _∷_, reverse, reverse-reverse}
+use mathlib.Core.List.{List, [], reverse, reverse-reverse}
 use Prim.Native.Nat.{ℕ, suc, _^_, _≤_, _<_}
 use native.Mathlib.Omega.{arith}
 use lib.Dec.{leb}
@@ -18,11 +18,12 @@ use Rattle.model.proofs.Rows.{lent-live}
 use Rattle.text.specs.Result.{Result, value, refused}
 use Rattle.text.specs.Read.{same}
 use Rattle.listing.specs.Listing.{roots, listed, listing}
-use Rattle.listing.specs.Met.{met, insert, sorted}
+use Rattle.listing.specs.Met.{met, sorted}
 use Rattle.listing.specs.Forms.{readLines, guessRows, guessIssued}
 use Rattle.listing.specs.ReadListing.{isListing, guessTable, Listed, readListing}
 use Rattle.text.proofs.Laws.Read.{same-refl, same-true}
 use Rattle.listing.proofs.Laws.Sorted.{InOrder, sorted-met}
+use Rattle.listing.proofs.Laws.Merging.{length-sorted}
 use Rattle.listing.proofs.Laws.Live.{live-order}
 use Rattle.listing.proofs.Laws.Front.{Order, order, order-live}
 use Rattle.listing.proofs.Laws.Nested.{nested-reverse, roots-reverse, fields-reverse}
@@ -32,21 +33,6 @@ use Rattle.listing.proofs.Laws.Back.{lines-back, lines-behind, issued-b
 pub record Listable (table : List Cap) (issued : ℕ) : Type 0 where
   pub ordered : inOrder table issued ≡ true
   pub small : All (λ c. c .length < 2 ^ 32) (liveRows table)
-
--- as many rows are met as there are
-length-insert : (c : Cap) (l : List Cap) → length (insert c l) ≡ suc (length l)
-unfolding insert
-length-insert c [] = refl
-length-insert c (x ∷ xs) = go (lib.Dec.ltb (c .name .0) (x .name .0)) (length-insert c xs)
-  where
-    go : (t : Bool) → length (insert c xs) ≡ suc (length xs) → length (cond t (c ∷ x ∷ xs) (x ∷ insert c xs)) ≡ suc (suc (length xs))
-    go true e = refl
-    go false e = ap suc e
-
-length-sorted : (l : List Cap) → length (sorted l) ≡ length l
-unfolding sorted
-length-sorted [] = refl
-length-sorted (c ∷ l) = length-insert c (sorted l) ∙ ap suc (length-sorted l)
 
 -- the live rows in a table of another size
 module _ (n : ℕ) (table : List Cap) (issued : ℕ) (h : inOrder table issued ≡ true) (few : n ≤ 1024) (fits : length (liveRows table) ≤ n) where
