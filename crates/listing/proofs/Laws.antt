@@ -13,4 +13,4 @@ pub mod ReadListing
 pub mod Nested
 pub mod Back
 pub mod Theorems
-pub mod ListingExamples
+pub mod Examples

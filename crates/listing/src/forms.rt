@@ -1,5 +1,5 @@
-// The forms of a listing, read into rows by two functions that call each other. Nothing is refused here: what was read is
-// judged afterwards, by writing it back.
+// "A listing reads as a form holding a run of forms, to depth 64": two functions that call each other, and never deeper than
+// the forms are. Each byte is passed once. Nothing is refused here: what was read is judged afterwards, by writing it back.
 use model::Addr;
 use model::Cap;
 use model::Name;
@@ -11,7 +11,8 @@ ghost use mathlib.Core.Path.{_≡_};
 ghost use mathlib.Core.List.{[], _∷_};
 ghost use Prim.Native.Nat.{ℕ, suc, _+_, _-_, _*_, _≤_, _<_};
 ghost use lib.ListN.{length, drop};
-ghost use Rattle.listing.specs.Forms.{Reading, childrenText, rowOf, follows, readForm, readRun, readLines, Reads, newest, Stored};
+ghost use Rattle.listing.specs.Forms.{Reading, childrenText, rowOf, follows, readForm, readRun, readLines};
+ghost use Rattle.listing.specs.Stored.{Reads, newest, Stored};
 
 // How many bytes of the text are left, and how many rows were stored.
 pub struct Place {
@@ -105,8 +106,7 @@ fn read_form(text: &[u8], words: &mut [u32; 6144], count: usize, parent: u32, de
     }
 }
 
-// Reads a run of forms, each behind a space: one turn for each sibling, so that the two functions are never deeper in each
-// other than the forms are.
+// Reads a run of forms, each behind a space: a turn for each sibling, a call for each depth.
 fn read_run(text: &[u8], words: &mut [u32; 6144], count: usize, parent: u32, depth: u32) -> Place
     requires { ⌜ Stored (now words) count ⌝ }
     ensures { λ r. ⌜ (count ≤ r .count) × Stored (now (words .exit)) (r .count)
@@ -126,6 +126,7 @@ fn read_run(text: &[u8], words: &mut [u32; 6144], count: usize, parent: u32, dep
     }
 }
 
+// One byte fewer, where there is one.
 fn one_less(n: usize) -> usize
     ensures { λ r. ⌜ r ≡ n - 1 ⌝ }
 {

@@ -15,10 +15,10 @@ ghost use mathlib.Core.Path.{_≡_};
 ghost use Prim.Native.Nat.{_≤_};
 ghost use lib.ListN.{length};
 ghost use Rattle.rules.specs.Words.{rowsIn};
-ghost use Rattle.listing.specs.Forms.{Stored};
+ghost use Rattle.listing.specs.Stored.{Stored};
 ghost use Rattle.listing.specs.ReadListing.{isListing, guessTable, ReadsListing};
 
-// What reading answers: the issued number, or refusal 2 or 10.
+// What reading answers: the issued number, or refusal 2 or 10. `readingAnswer` of specs/ gives document 01's number and values.
 pub enum ListingRead {
     Issued(u32),
     Refused(Refusal),
@@ -50,7 +50,8 @@ fn is_listing(text: &[u8], words: &[u32; 6144], issued: u32) -> bool
     check::same(text, &buffer[..length])
 }
 
-// Reads a listing into a table of n rows. A refusal changes nothing; a listing that is read fixes all the words.
+// Reads a listing into a table of n rows. A refusal changes nothing; a listing that is read fixes all the words. Internal: a call
+// over records has no more than 1,024 of them to hand over, and gives refusal 1 itself.
 pub fn read_listing(text: &[u8], words: &mut [u32; 6144], n: usize) -> ListingRead
     requires { ⌜ (n ≤ 1024) × (length (now words) ≡ 6144) ⌝ }
     ensures { λ r. ⌜ ReadsListing (now (text .entry)) n (now (words .entry)) (now (words .exit)) r ⌝ }

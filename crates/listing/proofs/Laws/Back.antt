@@ -16,8 +16,8 @@ use Rattle.text.specs.Line.{through, afterSpace}
 use Rattle.text.specs.Decimal.{decimal, numberFrom}
 use Rattle.text.specs.Event.{bytes, spaced}
 use Rattle.text.specs.Read.{rightOf}
-use Rattle.listing.specs.Listing.{right, pieces, form, children, roots, issuedLine, listed}
-use Rattle.listing.specs.Met.{met, formLength, formsLength}
+use Rattle.listing.specs.Listing.{right, pieces, form, children, roots, issuedLine, listed, formLength, total, formsLength}
+use Rattle.listing.proofs.Laws.Sorted.{preorder}
 use Rattle.listing.specs.Forms.{Reading, childrenText, rowOf, childFollows, readForm, readRun, readLine, lineFollows, readLines, guessIssued}
 use Rattle.text.proofs.Laws.Digits.{digits, digitAt, decimal-width}
 use Rattle.text.proofs.Laws.Number.{Stops, digit-class, digit-small}
@@ -113,9 +113,9 @@ aux-append : (a b r : List Cap) → reverseAux (a ++ b) r ≡ reverseAux b (reve
 aux-append [] b r = refl
 aux-append (x ∷ a) b r = aux-append a b (x ∷ r)
 
-pub run-back : (rows : List Cap) → Nested rows → All Fields rows → (k p d : ℕ) (acc : List Cap) (u : List ℕ) → All (Deeper p d) rows → 1 + 2 * length (met p rows) ≤ k → length acc + length (met p rows) ≤ 1024
-    → (getD u 0 0 ≡ 32 → ⊥) → readRun k p d (record { rest = children p rows ++ u; rows = acc }) ≡ record { rest = u; rows = reverseAux (met p rows) acc }
-unfolding children met
+pub run-back : (rows : List Cap) → Nested rows → All Fields rows → (k p d : ℕ) (acc : List Cap) (u : List ℕ) → All (Deeper p d) rows → 1 + 2 * length (preorder p rows) ≤ k → length acc + length (preorder p rows) ≤ 1024
+    → (getD u 0 0 ≡ 32 → ⊥) → readRun k p d (record { rest = children p rows ++ u; rows = acc }) ≡ record { rest = u; rows = reverseAux (preorder p rows) acc }
+unfolding children preorder
 run-back [] ne fs zero p d acc u good h len end = absurd (omega arith)
 run-back [] ne fs (suc k) p d acc u good h len end = run-off k p d (record { rest = u; rows = acc }) (no-child u acc d end)
 run-back (c ∷ rows) ne fs k p d acc u good h len end =
@@ -125,17 +125,17 @@ run-back (c ∷ rows) ne fs k p d acc u good h len end =
     n = c .name .0
 
     a : List Cap
-    a = met n rows
+    a = preorder n rows
 
     b : List Cap
-    b = met p rows
+    b = preorder p rows
 
     count : length (c ∷ (a ++ b)) ≡ suc (length a + length b)
     count = ap suc (length-append a b)
 
     IH : Type 0
-    IH = (k p d : ℕ) (acc : List Cap) (u : List ℕ) → All (Deeper p d) rows → 1 + 2 * length (met p rows) ≤ k → length acc + length (met p rows) ≤ 1024
-        → (getD u 0 0 ≡ 32 → ⊥) → readRun k p d (record { rest = children p rows ++ u; rows = acc }) ≡ record { rest = u; rows = reverseAux (met p rows) acc }
+    IH = (k p d : ℕ) (acc : List Cap) (u : List ℕ) → All (Deeper p d) rows → 1 + 2 * length (preorder p rows) ≤ k → length acc + length (preorder p rows) ≤ 1024
+        → (getD u 0 0 ≡ 32 → ⊥) → readRun k p d (record { rest = children p rows ++ u; rows = acc }) ≡ record { rest = u; rows = reverseAux (preorder p rows) acc }
 
     yes : c .parent .0 ≡ p → (k : ℕ) → IH → 1 + 2 * length (c ∷ (a ++ b)) ≤ k → length acc + length (c ∷ (a ++ b)) ≤ 1024
         → readRun k p d (record { rest = (32 ∷ (form c (children n rows) ++ children p rows)) ++ u; rows = acc }) ≡ record { rest = u; rows = reverseAux (c ∷ (a ++ b)) acc }
@@ -160,7 +160,7 @@ run-back (c ∷ rows) ne fs k p d acc u good h len end =
 -- ---- the lines of the roots
 
 forms-long : (l : List Cap) → length l ≤ formsLength l
-unfolding formsLength formLength
+unfolding total formLength
 forms-long [] = omega arith
 forms-long (c ∷ l) = omega (arith, forms-long l)
 
@@ -188,9 +188,9 @@ line-back c acc mid inner after f ep ed one =
     ap (λ (r : Reading). record { rest = drop 1 (r .rest); rows = r .rows })
     ((λ i. readForm (fuel i) (sym ep i) (sym ed i) (record { rest = form-spelled c inner (10 ∷ after) i; rows = acc })) ∙ formed)
 
-pub lines-back : (rows : List Cap) → Nested rows → All Fields rows → All (λ x. x .parent .0 ≡ 0 → x .depth ≡ 1) rows → (k : ℕ) (acc : List Cap) → length (met 0 rows) ≤ k → length acc + length (met 0 rows) ≤ 1024
-    → readLines k (record { rest = roots rows; rows = acc }) ≡ reverseAux (met 0 rows) acc
-unfolding roots met
+pub lines-back : (rows : List Cap) → Nested rows → All Fields rows → All (λ x. x .parent .0 ≡ 0 → x .depth ≡ 1) rows → (k : ℕ) (acc : List Cap) → length (preorder 0 rows) ≤ k → length acc + length (preorder 0 rows) ≤ 1024
+    → readLines k (record { rest = roots rows; rows = acc }) ≡ reverseAux (preorder 0 rows) acc
+unfolding roots preorder
 lines-back [] ne fs ds k acc h len = no-line k acc
 lines-back (c ∷ rows) ne fs ds k acc h len = go (test (eqb (c .parent .0) 0)) k (λ k acc. lines-back rows (ne .1) (fs .1) (ds .1) k acc) h len
   where
@@ -198,16 +198,16 @@ lines-back (c ∷ rows) ne fs ds k acc h len = go (test (eqb (c .parent .0) 0)) 
     n = c .name .0
 
     a : List Cap
-    a = met n rows
+    a = preorder n rows
 
     b : List Cap
-    b = met 0 rows
+    b = preorder 0 rows
 
     count : length (c ∷ (a ++ b)) ≡ suc (length a + length b)
     count = ap suc (length-append a b)
 
     IH : Type 0
-    IH = (k : ℕ) (acc : List Cap) → length (met 0 rows) ≤ k → length acc + length (met 0 rows) ≤ 1024 → readLines k (record { rest = roots rows; rows = acc }) ≡ reverseAux (met 0 rows) acc
+    IH = (k : ℕ) (acc : List Cap) → length (preorder 0 rows) ≤ k → length acc + length (preorder 0 rows) ≤ 1024 → readLines k (record { rest = roots rows; rows = acc }) ≡ reverseAux (preorder 0 rows) acc
 
     yes : c .parent .0 ≡ 0 → (k : ℕ) → IH → length (c ∷ (a ++ b)) ≤ k → length acc + length (c ∷ (a ++ b)) ≤ 1024
         → readLines k (record { rest = form c (children n rows) ++ (10 ∷ roots rows); rows = acc }) ≡ reverseAux (c ∷ (a ++ b)) acc

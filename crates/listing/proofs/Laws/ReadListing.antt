@@ -19,7 +19,8 @@ use Rattle.rules.proofs.Laws.Words.{length-in, in-first}
 use Rattle.text.specs.Result.{Result, value, refused}
 use Rattle.text.specs.Read.{same}
 use Rattle.listing.specs.Listing.{listing}
-use Rattle.listing.specs.Forms.{guessIssued, Stored}
+use Rattle.listing.specs.Forms.{guessIssued}
+use Rattle.listing.specs.Stored.{Stored}
 use Rattle.listing.specs.ReadListing.{isListing, guessTable, Listed, readListing}
 use Rattle.listing.proofs.Laws.Front.{order, front-count}
 

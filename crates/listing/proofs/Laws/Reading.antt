@@ -13,7 +13,8 @@ use Rattle.model.proofs.Lists.{and-both}
 use Rattle.text.specs.Class.{space}
 use Rattle.text.specs.Line.{through}
 use Rattle.model.specs.declared.Cap.{Cap}
-use Rattle.listing.specs.Forms.{Reading, nameText, startText, lengthText, childrenText, rowOf, follows, childFollows, readForm, readRun, Reads}
+use Rattle.listing.specs.Forms.{Reading, nameText, startText, lengthText, childrenText, rowOf, follows, childFollows, readForm, readRun}
+use Rattle.listing.specs.Stored.{Reads}
 
 -- ---- a part of a text that reaches to its end, by how many bytes it has
 

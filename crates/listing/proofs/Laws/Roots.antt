@@ -9,7 +9,8 @@ use lib.Dec.{ltb}
 use lib.ListN.{length, drop, drop-of-length-le}
 use lib.Seq.{drop-drop}
 use borrow.Author.Tests.{lt-ltb, le-ltb}
-use Rattle.listing.specs.Forms.{Reading, readForm, readLine, lineFollows, readLines, Reads, newest, Stored}
+use Rattle.listing.specs.Forms.{Reading, readForm, readLine, lineFollows, readLines}
+use Rattle.listing.specs.Stored.{Reads, newest, Stored}
 use Rattle.listing.proofs.Laws.Reading.{last-last, tail, tail-length}
 use Rattle.listing.proofs.Laws.Stored.{length-newest}
 

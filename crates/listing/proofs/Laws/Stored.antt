@@ -11,7 +11,7 @@ use Rattle.model.specs.Table.{emptyRow, lentTable}
 use Rattle.rules.specs.Words.{rowsOf, rowsIn}
 use Rattle.rules.proofs.Laws.Words.{length-rows, length-in, in-first}
 use Rattle.model.proofs.Rows.{lent-new}
-use Rattle.listing.specs.Forms.{newest, Stored}
+use Rattle.listing.specs.Stored.{newest, Stored}
 
 snoc : (l r : List Cap) (x : Cap) → reverseAux (l ++ (x ∷ [])) r ≡ x ∷ reverseAux l r
 snoc [] r x = refl

@@ -18,12 +18,11 @@ use Rattle.model.proofs.Rows.{lent-live}
 use Rattle.text.specs.Result.{Result, value, refused}
 use Rattle.text.specs.Read.{same}
 use Rattle.listing.specs.Listing.{roots, listed, listing}
-use Rattle.listing.specs.Met.{met, sorted}
+use Rattle.listing.specs.Sort.{sorted}
 use Rattle.listing.specs.Forms.{readLines, guessRows, guessIssued}
 use Rattle.listing.specs.ReadListing.{isListing, guessTable, Listed, readListing}
 use Rattle.text.proofs.Laws.Read.{same-refl, same-true}
-use Rattle.listing.proofs.Laws.Sorted.{InOrder, sorted-met}
-use Rattle.listing.proofs.Laws.Merging.{length-sorted}
+use Rattle.listing.proofs.Laws.Sorted.{preorder, InOrder, sorted-preorder, length-sorted}
 use Rattle.listing.proofs.Laws.Live.{live-order}
 use Rattle.listing.proofs.Laws.Front.{Order, order, order-live}
 use Rattle.listing.proofs.Laws.Nested.{nested-reverse, roots-reverse, fields-reverse}
@@ -42,7 +41,7 @@ module _ (n : ℕ) (table : List Cap) (issued : ℕ) (h : inOrder table issued �
   resized-order : inOrder (lentTable n (liveRows table)) issued ≡ true
   unfolding inOrder
   resized-order =
-      let o = order h in
+      let o : Order table issued = order h in
       let short : length (lentTable n (liveRows table)) ≤ 1024 = omega (arith, length-lent n (liveRows table) fits) in
       rw (le-leb (length (lentTable n (liveRows table))) 1024 short, liveRowsFirst-lent n (liveRows table) (live-named table), le-leb issued 1000000 (o .names), same-live) (o .rises)
 
@@ -66,8 +65,8 @@ module _ (table : List Cap) (issued : ℕ) (t : Listable table issued) where
   count : length (liveRows table) ≤ 1024
   count = omega (arith, o .few, fits)
 
-  met-count : length (met 0 rows) ≡ length (liveRows table)
-  met-count = sym (length-sorted (met 0 rows)) ∙ ap length (sorted-met rows in-order) ∙ length-reverse (liveRows table)
+  preorder-count : length (preorder 0 rows) ≡ length (liveRows table)
+  preorder-count = sym (length-sorted (preorder 0 rows)) ∙ ap length (sorted-preorder rows in-order) ∙ length-reverse (liveRows table)
 
   -- what is guessed of a listing is its rows
   guess-back : guessRows (listing table issued) ≡ rows
@@ -77,9 +76,9 @@ module _ (table : List Cap) (issued : ℕ) (t : Listable table issued) where
       let fs = fields-reverse (liveRows table) (t .small) (suc issued) (omega (arith, o .names)) (o .rises) in
       let ds = roots-reverse (suc issued) (liveRows table) (o .rises) in
       ap (λ (s : List ℕ). sorted (reverse (readLines 1024 (record { rest = s; rows = [] })))) (lines-behind issued (roots rows))
-      ∙ ap (λ (l : List Cap). sorted (reverse l)) (lines-back rows ne fs ds 1024 [] (omega (arith, met-count, count)) (omega (arith, met-count, count)))
-      ∙ ap sorted (reverse-reverse (met 0 rows))
-      ∙ sorted-met rows in-order
+      ∙ ap (λ (l : List Cap). sorted (reverse l)) (lines-back rows ne fs ds 1024 [] (omega (arith, preorder-count, count)) (omega (arith, preorder-count, count)))
+      ∙ ap sorted (reverse-reverse (preorder 0 rows))
+      ∙ sorted-preorder rows in-order
 
   table-back : guessTable (listing table issued) ≡ lentTable 1024 (liveRows table)
   unfolding guessTable
@@ -140,7 +139,7 @@ listed-read s n l few h =
     go true false z p q r e = absurd (let z : _≡_ {A = ℕ} 0 1 = cc in omega arith)
     go false y z p q r e = absurd (let z : _≡_ {A = ℕ} 0 1 = cc in omega arith)
 
--- what refusal 2 is value to is the listing of no table in order
+-- a text that gets refusal 2 is the listing of no table in order
 pub unlisted : (s : List ℕ) (n : ℕ) → readListing s n ≡ refused 2 → (table : List Cap) (issued : ℕ) → Listable table issued → s ≡ listing table issued → ⊥
 unlisted s n h table issued t e = go (leb (length (liveRows table)) n) refl
   where

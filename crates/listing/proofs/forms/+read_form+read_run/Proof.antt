@@ -8,7 +8,8 @@ use Prim.Native.Nat.{ℕ, _+_, _-_, _*_, _≤_, _<_}
 use native.Mathlib.Omega.{arith}
 use lib.ListN.{length, drop, length-drop}
 use borrow.Author.Needs.{needs}
-use Rattle.listing.specs.Forms.{Stored, follows, childFollows, newest}
+use Rattle.listing.specs.Forms.{follows, childFollows}
+use Rattle.listing.specs.Stored.{Stored, newest}
 use Rattle.listing.proofs.Laws.Stored.{length-newest}
 use Rattle.listing.proofs.Laws.Reading.{RunLeft, tail, tail-length, children-short, follows-parts, form-reads, run-begins, run-more, run-ends}
 use borrow.Fn.Kinds.{In}
