@@ -1,5 +1,5 @@
 // "A listing reads as a form holding a run of forms, to depth 64": two functions that call each other, and never deeper than
-// the forms are. Each byte is passed once. Nothing is refused here: what was read is judged afterwards, by writing it back.
+// the forms are. The time is linear in the text. Nothing is refused here: what was read is judged afterwards, by writing it back.
 use model::Addr;
 use model::Cap;
 use model::Name;

@@ -95,7 +95,7 @@ pub +put-form-spec : {M : Type 1} → statement M
     let s = c .before .before .before .before .before .before .before .before .before .before in
     let is-t : s .args .n - s .args .i ≡ t = s .pre .0 in
     let less : s .args .n - l .loop .k < t = omega (arith, l .loop .inv .after, c .before .loop-test .taken) in
-    (less, (s .pre .1 .0, c .before .loop-test .taken, s .pre .1 .2, child-fits (rowsOf (s .args .words .now) (s .args .n)) (s .args .i) (l .loop .inv) (small (s .args .words .now) (s .args .n) (l .loop .k) (c .before .loop-test .taken)))))
+    (less, (s .pre .1 .0, c .before .loop-test .taken, s .pre .1 .2, simp length-set (child-fits (rowsOf (s .args .words .now) (s .args .n)) (s .args .i) (l .loop .inv) (small (s .args .words .now) (s .args .n) (l .loop .k) (c .before .loop-test .taken))))))
     (λ c. search needs)
     (λ c. search needs)
     (λ c.
