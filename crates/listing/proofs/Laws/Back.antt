@@ -18,12 +18,13 @@ use Rattle.text.specs.Event.{bytes, spaced}
 use Rattle.text.specs.Read.{rightOf}
 use Rattle.listing.specs.Listing.{right, pieces, form, children, roots, issuedLine, listed, formLength, total, formsLength}
 use Rattle.listing.proofs.Laws.Sorted.{preorder}
-use Rattle.listing.specs.Forms.{Reading, childrenText, rowOf, childFollows, readForm, readRun, readLine, lineFollows, readLines, guessIssued}
+use Rattle.listing.specs.Forms.{Reading, childrenText, rowOf, childFollows, readForm, readRun, readLine, readLines, guessIssued}
 use Rattle.text.proofs.Laws.Digits.{digits, digitAt, decimal-width}
 use Rattle.text.proofs.Laws.Number.{Stops, digit-class, digit-small}
 use Rattle.text.proofs.Laws.Words.{plain-decimal, next, number-is, rights}
 use Rattle.listing.proofs.Laws.Listing.{length-form, length-children}
 use Rattle.listing.proofs.Laws.Reading.{run-on, run-off}
+use Rattle.listing.proofs.Laws.Roots.{goes-on, line-more}
 use Rattle.listing.proofs.Laws.Nested.{Fields, Deeper, Nested}
 
 -- ---- a form
@@ -164,13 +165,6 @@ unfolding total formLength
 forms-long [] = omega arith
 forms-long (c ∷ l) = omega (arith, forms-long l)
 
-goes-on : (r : Reading) → 0 < length (r .rest) → length (r .rows) < 1024 → lineFollows r ≡ true
-goes-on r a b = rw (lt-ltb 0 (length (r .rest)) a, lt-ltb (length (r .rows)) 1024 b)
-
-line-more : (k : ℕ) (r after : Reading) → lineFollows r ≡ true → readLine r ≡ after → readLines (suc k) r ≡ readLines k after
-unfolding readLines
-line-more k r after h e = rw h (ap (readLines k) e)
-
 no-line : (k : ℕ) (acc : List Cap) → readLines k (record { rest = []; rows = acc }) ≡ acc
 unfolding readLines
 no-line zero acc = refl
@@ -217,8 +211,10 @@ lines-back (c ∷ rows) ne fs ds k acc h len = go (test (eqb (c .parent .0) 0)) 
         let long : length mid ≡ length a + suc (length acc) = length-reverseAux a (c ∷ acc) in
         let short : length a ≤ length (children n rows) = omega (arith, length-children n rows, forms-long a) in
         let one = line-back c acc mid (children n rows) (roots rows) (fs .0) e (ds .0 e) (λ j big. run-back rows (ne .1) (fs .1) j n (c .depth) (c ∷ acc) (41 ∷ (10 ∷ roots rows)) (ne .0) (omega arith) (omega (arith, count)) (eqb-false 41 32 refl)) in
+        let start : Reading = record { rest = form c (children n rows) ++ (10 ∷ roots rows); rows = acc } in
         let some : 0 < length (form c (children n rows) ++ (10 ∷ roots rows)) = omega (arith, length-append (form c (children n rows)) (10 ∷ roots rows)) in
-        line-more k _ (record { rest = roots rows; rows = mid }) (goes-on (record { rest = form c (children n rows) ++ (10 ∷ roots rows); rows = acc }) some (omega (arith, count))) one
+        line-more k start (goes-on start some (omega (arith, count)))
+        ∙ ap (readLines k) one
         ∙ ih k mid (omega (arith, count)) (omega (arith, count, long))
         ∙ sym (aux-append a b (c ∷ acc))
 

@@ -11,6 +11,7 @@ use lib.Seq.{drop-cons}
 use borrow.Author.Tests.{eq-eqb}
 use Rattle.model.specs.declared.Cap.{Cap}
 use Rattle.model.specs.Table.{emptyRow}
+use Rattle.rules.proofs.Laws.Words.{length-rows}
 use Rattle.rules.specs.Words.{rowAt, rowsOf}
 use Rattle.rules.specs.Engine.{nameAt, parentAt}
 use Rattle.text.specs.Event.{bytes, spaced}
@@ -69,6 +70,12 @@ pub roots-length : (rows : List Cap) → InOrder rows → length (roots rows) �
 roots-length rows h = length-roots rows ∙ sym (total-sorted formLength (preorder 0 rows)) ∙ ap formsLength (sorted-preorder rows h)
 
 -- ---- by place
+
+pub within : (ws : List ℕ) (n k : ℕ) → k < n → k < length (rowsOf ws n)
+within ws n k l = omega (arith, length-rows ws n)
+
+pub beyond : (ws : List ℕ) (n k : ℕ) → n ≤ k → length (rowsOf ws n) ≤ k
+beyond ws n k l = omega (arith, length-rows ws n)
 
 module _ (rows : List Cap) (k : ℕ) where
   pub form-text : (t : List ℕ) → formAt rows k ++ t ≡ 40 ∷ (pieces (getD rows k emptyRow) ++ (childrenFrom (nameAt rows k) rows (suc k) ++ (41 ∷ t)))

@@ -8,7 +8,7 @@ use Prim.Native.Nat.{ℕ, zero, suc, _+_, _-_, _*_, _≤_, _<_}
 use native.Mathlib.Omega.{arith}
 use native.Mathlib.Numerals.{add-one}
 use lib.ListN.{length, getD, take, replicate, length-reverse, length-replicate, replicate-append-replicate}
-use lib.Seq.{take-append-add, take-at, take-all}
+use lib.Seq.{take-append-add, take-at}
 use borrow.Author.Tests.{le-leb, lt-leb}
 use Rattle.model.specs.declared.Cap.{Cap}
 use Rattle.model.specs.Table.{emptyRow, liveRows, lentTable, liveRowsFirst, inOrder}
@@ -21,7 +21,7 @@ use Rattle.text.specs.Result.{Result, value, refused}
 use Rattle.listing.specs.Forms.{guessIssued}
 use Rattle.listing.specs.Stored.{Stored}
 use Rattle.listing.specs.ReadListing.{isListing, guessTable, Listed, readListing}
-use Rattle.listing.proofs.Laws.Front.{order, front-count}
+use Rattle.listing.proofs.Laws.Front.{all-rows, order, front-count}
 
 -- ---- a table of zeros
 
@@ -90,11 +90,8 @@ module _ (s : List ℕ) (n : ℕ) (few : n ≤ 1024) (ws : List ℕ) (issued : �
     arrange : liveRowsFirst (rowsIn ws) ≡ true
     arrange = order in-order .arrange
 
-    all-rows : take 1024 (rowsIn ws) ≡ rowsIn ws
-    all-rows = take-all 1024 (rowsIn ws) (omega (arith, length-in ws))
-
     count : length (liveRows (guessTable s)) ≡ k
-    count = ap (λ (t : List Cap). length (liveRows t)) (sym et ∙ sym all-rows) ∙ front-count ws 1024 k (omega arith) f (ap liveRowsFirst all-rows ∙ arrange)
+    count = ap (λ (t : List Cap). length (liveRows t)) (sym et ∙ sym (all-rows ws)) ∙ front-count ws 1024 k (omega arith) f (ap liveRowsFirst (all-rows ws) ∙ arrange)
 
     pub answers-10 : n < k → refused 10 ≡ readListing s n
     unfolding readListing

@@ -43,6 +43,10 @@ tail s left = drop (length s - left) s
 pub tail-length : (s : List ℕ) (left : ℕ) → left ≤ length s → length (tail s left) ≡ left
 tail-length s left h = omega (arith, length-drop (length s - left) s)
 
+-- behind one byte of them
+pub tail-behind : (s : List ℕ) (left : ℕ) → left ≤ length s → {rest child : List ℕ} → rest ≡ tail s left → child ≡ drop 1 rest → length child ≡ left - 1
+tail-behind s left inside {rest} e d = ap length d ∙ length-drop 1 rest ∙ ap (λ (t : List ℕ). length t - 1) e ∙ ap (λ (n : ℕ). n - 1) (tail-length s left inside)
+
 -- a further part is a part of the whole
 further : (s : List ℕ) {t : List ℕ} (m n : ℕ) → t ≡ drop m s → drop n t ≡ drop (m + n) s
 further s m n e = ap (drop n) e ∙ drop-drop n m s
@@ -141,7 +145,7 @@ module _ (s : List ℕ) (acc : List Cap) (p d : ℕ) where
         ec′ = ec ∙ ap (drop 1) er
 
         child-length : length child ≡ left - 1
-        child-length = ap length ec′ ∙ length-drop 1 (tail s left) ∙ ap (λ (n : ℕ). n - 1) (tail-length s left (l .inside))
+        child-length = tail-behind s left (l .inside) er ec
 
         part : child ≡ drop ((length s - left) + 1) s
         part = ec′ ∙ drop-drop 1 (length s - left) s

@@ -35,10 +35,10 @@ shorter text (suc left) h =
     let e : (length text - suc left) + 1 ≡ length text - (suc left - 1) = omega arith in
     drop-drop 1 (length text - suc left) text ∙ ap (λ (n : ℕ). drop n text) e
 
-goes-on : (r : Reading) → 0 < length (r .rest) → length (r .rows) < 1024 → lineFollows r ≡ true
+pub goes-on : (r : Reading) → 0 < length (r .rest) → length (r .rows) < 1024 → lineFollows r ≡ true
 goes-on r a b = rw (lt-ltb 0 (length (r .rest)) a, lt-ltb (length (r .rows)) 1024 b)
 
-line-more : (k : ℕ) (r : Reading) → lineFollows r ≡ true → readLines (suc k) r ≡ readLines k (readLine r)
+pub line-more : (k : ℕ) (r : Reading) → lineFollows r ≡ true → readLines (suc k) r ≡ readLines k (readLine r)
 unfolding readLines
 line-more k r h = rw h
 

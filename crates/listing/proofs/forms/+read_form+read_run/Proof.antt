@@ -4,14 +4,14 @@
 use mathlib.Core.Path.{_≡_, sym, ap, ap₂, _∙_}
 use mathlib.Core.Bool.{Bool, true}
 use mathlib.Core.List.{List}
-use Prim.Native.Nat.{ℕ, _+_, _-_, _*_, _≤_, _<_}
+use Prim.Native.Nat.{ℕ, _+_, _*_, _≤_, _<_}
 use native.Mathlib.Omega.{arith}
-use lib.ListN.{length, drop, length-drop}
+use lib.ListN.{length, drop}
 use borrow.Author.Needs.{needs}
 use Rattle.listing.specs.Forms.{follows, childFollows}
 use Rattle.listing.specs.Stored.{Stored, newest}
 use Rattle.listing.proofs.Laws.Stored.{length-newest}
-use Rattle.listing.proofs.Laws.Reading.{RunLeft, tail, tail-length, children-short, follows-parts, form-reads, run-begins, run-more, run-ends}
+use Rattle.listing.proofs.Laws.Reading.{RunLeft, tail, tail-length, tail-behind, children-short, follows-parts, form-reads, run-begins, run-more, run-ends}
 use borrow.Fn.Kinds.{In}
 use borrow.Fn.PlainCycle.{Measures, is, falls, and}
 use Rattle.listing.proofs.forms.read_form.Reads as read-form
@@ -38,9 +38,6 @@ module _ (s : List ℕ) (left : ℕ) where
   goes count depth inside {rest} e h t =
       let parts = follows-parts rest count depth (sym h ∙ t) in
       (parts .0, parts .1, omega (arith, parts .2, ap length e, tail-length s left inside))
-
-  child-length : left ≤ length s → {rest child : List ℕ} → rest ≡ tail s left → child ≡ drop 1 rest → length child ≡ left - 1
-  child-length inside {rest} e d = ap length d ∙ length-drop 1 rest ∙ ap (λ (t : List ℕ). length t - 1) e ∙ ap (λ (n : ℕ). n - 1) (tail-length s left inside)
 
 abbrev μ-read-form : Measures 2 read-form-kinds.ps ℕ
 μ-read-form κs a = 2 * length (a .0 .now) + 1
@@ -133,13 +130,13 @@ pub +read-form+read-run-spec : {M : Type 1} → statement M
     let s = l .before .before in
     let parts = goes (s .args .text .now) (l .loop .left) (l .loop .stored) (s .args .depth) (l .loop .inv .2 .inside) (c .before .before .before .before .before .last .ensures) (c .before .before .before .before .child-follows .ensures) (c .before .before .before .if1 .taken) in
     let is-t : 2 * length (s .args .text .now) ≡ t = s .pre .0 in
-    let less : 2 * length (c .before .past .result .now) + 1 < t = omega (arith, parts .2, l .loop .inv .2 .inside, child-length (s .args .text .now) (l .loop .left) (l .loop .inv .2 .inside) (c .before .before .last2 .ensures) (c .before .past .ensures)) in
+    let less : 2 * length (c .before .past .result .now) + 1 < t = omega (arith, parts .2, l .loop .inv .2 .inside, tail-behind (s .args .text .now) (l .loop .left) (l .loop .inv .2 .inside) (c .before .before .last2 .ensures) (c .before .past .ensures)) in
     (less, (l .loop .inv .1, parts .1)))
     (λ c.
     let l = c .before .before .before .before .before .before .before in
     let s = l .before .before in
     let parts = goes (s .args .text .now) (l .loop .left) (l .loop .stored) (s .args .depth) (l .loop .inv .2 .inside) (c .before .before .before .before .before .before .last .ensures) (c .before .before .before .before .before .child-follows .ensures) (c .before .before .before .before .if1 .taken) in
-    omega (arith, parts .2, c .read-form .ensures .2 .inside, child-length (s .args .text .now) (l .loop .left) (l .loop .inv .2 .inside) (c .before .before .before .last2 .ensures) (c .before .before .past .ensures)))
+    omega (arith, parts .2, c .read-form .ensures .2 .inside, tail-behind (s .args .text .now) (l .loop .left) (l .loop .inv .2 .inside) (c .before .before .before .last2 .ensures) (c .before .before .past .ensures)))
     (λ c.
     let l = c .before .before .before .before .before .before .before in
     let s = l .before .before in
