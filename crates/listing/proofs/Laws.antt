@@ -7,10 +7,10 @@ pub mod Forms
 pub mod Stored
 pub mod Reading
 pub mod Roots
-pub mod Sorting
+pub mod Merging
 pub mod Front
 pub mod ReadListing
 pub mod Nested
 pub mod Back
 pub mod Theorems
-pub mod ListingExamples
+pub mod Examples

@@ -1,19 +1,17 @@
--- How the forms of a listing are read, whatever the text is: a form holds a run of forms. What is read is judged afterwards, by writing it back.
+-- Document 01, "The bracket text": "A listing reads as a form holding a run of forms, to depth 64." This is what is guessed of any text.
+-- Nothing is judged here: the guess is accepted where it writes back to the same bytes (`ReadListing`).
 -- Assumes nothing.
-use mathlib.Core.Path.{_≡_}
 use mathlib.Core.Bool.{Bool, cond, _&&_}
 use mathlib.Core.List.{List, [], _∷_, reverse}
-use Prim.Native.Nat.{ℕ, zero, suc, _+_, _-_, _*_, _≤_, _<_}
+use Prim.Native.Nat.{ℕ, zero, suc, _+_, _*_}
 use lib.Dec.{ltb, eqb}
 use lib.ListN.{length, getD, drop}
 use Rattle.model.specs.declared.Cap.{Cap}
-use Rattle.model.specs.Table.{lentTable}
-use Rattle.rules.specs.Words.{rowsOf, rowsIn}
 use Rattle.text.specs.Class.{newline}
 use Rattle.text.specs.Line.{through, afterSpace}
 use Rattle.text.specs.Decimal.{numberOf}
 use Rattle.text.specs.Read.{rightOf}
-use Rattle.listing.specs.Met.{sorted}
+use Rattle.listing.specs.Sort.{sorted}
 
 -- what is left of the text, and the rows so far, the newest first
 pub record Reading : Type 0 where
@@ -48,16 +46,17 @@ rowOf s parent depth = record {
   depth = depth;
 }
 
--- a child follows: the depth and the table allow one, and the text goes on with a space
+-- a child follows: the depth ("to depth 64") and the table ("0 to 1,024 rows") allow one, and the text goes on with a space
 abbrev pub follows : List ℕ → ℕ → ℕ → Bool
 follows s count depth = ltb depth 64 && (ltb count 1024 && eqb (getD s 0 0) 32)
 
 abbrev pub childFollows : ℕ → Reading → Bool
 childFollows depth r = follows (r .rest) (length (r .rows)) depth
 
--- a form: its row, its run of children behind the right's two letters, and its closing bracket.
--- a run: a form behind a space, and a run behind that, as long as one follows.
--- k bounds how deep the two call each other.
+-- "A form holding a run of forms":
+-- a form is its row, the run of its children behind the right's two letters, and its closing bracket;
+-- a run is a form behind a space, and a run behind that, as long as one follows.
+-- k bounds the calls of the two: every k above twice the bytes that are left gives the same.
 unfoldable mutual
   pub readForm : ℕ → ℕ → ℕ → Reading → Reading
   readForm zero parent depth r = r
@@ -89,24 +88,9 @@ readLines (suc k) r =
     let more = readLines k (readLine r) in
     cond (lineFollows r) more (r .rows)
 
--- the rows of a listing, by rising name, and its issued number
+-- the rows of a listing by rising name, and its issued number
 unfoldable pub guessRows : List ℕ → List Cap
 guessRows s = sorted (reverse (readLines 1024 (record { rest = drop (through newline s) s; rows = [] })))
 
 abbrev pub guessIssued : List ℕ → ℕ
 guessIssued s = numberOf (afterSpace s)
-
--- f k, at every k above μ, reads the text s up to its last bytes, and then has these rows
-pub record Reads (f : ℕ → Reading) (μ : ℕ) (s : List ℕ) (left : ℕ) (rows : List Cap) : Type 0 where
-  pub inside : left ≤ length s
-  pub reads : (k : ℕ) → μ < k → f k ≡ record { rest = drop (length s - left) s; rows = rows }
-
--- the first count rows that words have, the newest first
-abbrev pub newest : List ℕ → ℕ → List Cap
-newest ws count = reverse (rowsOf ws count)
-
--- words hold a table of 1,024 rows, of which the first count were stored and the others are zeros
-pub record Stored (ws : List ℕ) (count : ℕ) : Type 0 where
-  pub few : count ≤ 1024
-  pub long : length ws ≡ 6144
-  pub table : rowsIn ws ≡ lentTable 1024 (newest ws count)

@@ -1,4 +1,4 @@
--- Where a writer of listings goes from a row: to the row of its first child, and to that of its next sibling.
+-- Where a writer of listings goes from a row: to the row of its first child, and to that of its next sibling. No public promise rests on it.
 -- Assumes nothing.
 use mathlib.Core.Path.{_≡_}
 use mathlib.Core.Bool.{true, not}

@@ -1,37 +1,38 @@
--- Document 01, "The bracket text": the listing of a table.
+-- Document 01, "The bracket text": "A listing is `(issued N)`, then one line for each root by rising name: name, start, length, right, then
+-- its children by rising name, each in the same form inside its parent's brackets."
 -- Assumes nothing.
-use Prim.Native.Nat.{ℕ, suc}
+use Prim.Native.Nat.{ℕ, suc, _+_}
 use mathlib.Core.Bool.{cond}
 use mathlib.Core.List.{List, [], _∷_, _++_, reverse}
 use lib.Dec.{eqb}
-use lib.ListN.{getD, drop}
+use lib.ListN.{length, getD, drop}
 use Rattle.model.specs.declared.Cap.{Cap}
 use Rattle.model.specs.Table.{emptyRow, liveRows}
 use Rattle.rules.specs.Engine.{nameAt}
 use Rattle.text.specs.Decimal.{decimal}
 use Rattle.text.specs.Event.{bytes, spaced, line}
 
--- a right with a space before it: 1 is ro, 2 is rw
+-- "Values", right, with a space before it: "1 (`ro`) or 2 (`rw`)"
 abbrev pub right : ℕ → List ℕ
 right r = cond (eqb r 1) (bytes " ro") (bytes " rw")
 
--- a capability's own pieces: name, start, length, right
+-- "name, start, length, right": a capability's own pieces
 unfoldable pub pieces : Cap → List ℕ
 pieces c = decimal (c .name .0) ++ (spaced (c .start .0 ∷ c .length ∷ []) ++ right (c .right))
 
--- a form: a capability's pieces, and then its children, in brackets
+-- a form: a capability's pieces and then its children, inside its brackets
 unfoldable pub form : Cap → List ℕ → List ℕ
 form c inner = 40 ∷ (pieces c ++ (inner ++ (41 ∷ [])))
 
--- Rows stand by rising name, so that a capability's children are among the later ones.
+-- Rows stand by rising name, and a parent in an earlier row than its children: so a capability's children are among the later rows.
 
--- the children of p, each with a space before its form
+-- the children of p by rising name, each with a space before its form
 unfoldable pub children : ℕ → List Cap → List ℕ
 children p [] = []
 children p (c ∷ later) =
     cond (eqb (c .parent .0) p) (32 ∷ (form c (children (c .name .0) later) ++ children p later)) (children p later)
 
--- a line for each root
+-- "one line for each root by rising name"
 unfoldable pub roots : List Cap → List ℕ
 roots [] = []
 roots (c ∷ later) =
@@ -47,6 +48,7 @@ childrenFrom p rows i = children p (drop i rows)
 abbrev pub rootsFrom : List Cap → ℕ → List ℕ
 rootsFrom rows i = roots (drop i rows)
 
+-- "`(issued N)`"
 abbrev pub issuedLine : ℕ → List ℕ
 issuedLine issued = line "(issued" (issued ∷ []) ")\n"
 
@@ -57,3 +59,17 @@ listed rows issued = issuedLine issued ++ roots rows
 -- the listing of a table: of its live rows
 abbrev pub listing : List Cap → ℕ → List ℕ
 listing table issued = listed (reverse (liveRows table)) issued
+
+-- ---- how long it is
+
+-- how many bytes a capability adds to a listing: its pieces, two brackets, and a space before a child or a newline behind a root
+unfoldable pub formLength : Cap → ℕ
+formLength c = 3 + length (pieces c)
+
+-- a number for each row, summed
+unfoldable pub total : (Cap → ℕ) → List Cap → ℕ
+total f [] = 0
+total f (c ∷ cs) = f c + total f cs
+
+abbrev pub formsLength : List Cap → ℕ
+formsLength rows = total formLength rows

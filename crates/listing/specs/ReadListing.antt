@@ -1,4 +1,5 @@
--- Document 01, "The bracket text": what a text reads as, the table whose listing it is.
+-- Document 01, "The bracket text": what reading a listing gives. (Refusal 1, "for a lent table above 1,024 rows", is the business of the call
+-- over records: here there are at most 1,024.)
 -- Assumes nothing.
 use Prim.Native.Nat.{ℕ}
 use mathlib.Core.Path.{_≡_}
@@ -7,6 +8,7 @@ use mathlib.Core.List.{List, reverse}
 use lib.Dec.{leb}
 use lib.ListN.{length}
 use Rattle.model.specs.declared.Cap.{Cap}
+use Rattle.model.specs.Answers.{number}
 use Rattle.model.specs.Table.{liveRows, lentTable, inOrder}
 use Rattle.rules.specs.Words.{rowsOf, rowsIn}
 use Rattle.text.specs.Result.{Result, value, refused}
@@ -14,7 +16,7 @@ use Rattle.text.specs.Read.{same}
 use Rattle.listing.specs.Listing.{listing}
 use Rattle.listing.specs.Forms.{guessRows, guessIssued}
 use Rattle.listing.specs.declared.reading.ListingRead.{ListingRead}
-use Rattle.listing.specs.declared.reading.ListingRead.the-variants.{Issued, Misspelt, Full}
+use Rattle.listing.specs.declared.reading.ListingRead.the-variants.{Issued, Refused}
 
 -- a text is the listing of a table in order
 unfoldable pub isListing : List ℕ → List Cap → ℕ → Bool
@@ -29,7 +31,7 @@ pub record Listed : Type 0 where
   pub table : List Cap
   pub issued : ℕ
 
--- reading into n rows: refusal 2 when no table in order has this listing, 10 when it holds more capabilities than rows
+-- reading into n rows: "2 when no table in order has this listing, 10 when it holds more capabilities than rows, in that order"
 unfoldable pub readListing : List ℕ → ℕ → Result Listed
 readListing s n =
     let rows = liveRows (guessTable s) in
@@ -40,15 +42,14 @@ readListing s n =
 -- the answer that each case of `ListingRead` stands for, where the words then have these rows
 abbrev pub readingAnswer : ListingRead → List Cap → Result Listed
 readingAnswer (Issued i) table = value (record { table = table; issued = i })
-readingAnswer Misspelt table = refused 2
-readingAnswer Full table = refused 10
+readingAnswer (Refused r) table = refused (number r)
 
--- the words after reading: all of them are fixed where a listing was read, and unchanged where not
+-- the words after reading: "A listing that is read fixes the whole lent table", "on refusal the lent table [is] unchanged"
 abbrev pub readingWords : ListingRead → List ℕ → List ℕ → List ℕ → Type 0
 readingWords (Issued i) s before after = rowsIn after ≡ guessTable s
-readingWords Misspelt s before after = after ≡ before
-readingWords Full s before after = after ≡ before
+readingWords (Refused r) s before after = after ≡ before
 
+-- reading s into the first n rows of words answers r
 pub record ReadsListing (s : List ℕ) (n : ℕ) (before after : List ℕ) (r : ListingRead) : Type 0 where
   pub answer : readingAnswer r (rowsOf after n) ≡ readListing s n
   pub words : readingWords r s before after

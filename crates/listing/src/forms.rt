@@ -1,17 +1,18 @@
-// The forms of a listing, read into rows by two functions that call each other. Nothing is refused here: what was read is
-// judged afterwards, by writing it back.
-use text::lines;
-use text::numbers;
-use text::read;
+// "A listing reads as a form holding a run of forms, to depth 64": two functions that call each other, and never deeper than
+// the forms are. The time is linear in the text. Nothing is refused here: what was read is judged afterwards, by writing it back.
 use model::Addr;
 use model::Cap;
 use model::Name;
 use rules::words;
+use text::lines;
+use text::numbers;
+use text::read;
 ghost use mathlib.Core.Path.{_≡_};
 ghost use mathlib.Core.List.{[], _∷_};
 ghost use Prim.Native.Nat.{ℕ, suc, _+_, _-_, _*_, _≤_, _<_};
 ghost use lib.ListN.{length, drop};
-ghost use Rattle.listing.specs.Forms.{Reading, childrenText, rowOf, follows, readForm, readRun, readLines, Reads, newest, Stored};
+ghost use Rattle.listing.specs.Forms.{Reading, childrenText, rowOf, follows, readForm, readRun, readLines};
+ghost use Rattle.listing.specs.Stored.{Reads, newest, Stored};
 
 // How many bytes of the text are left, and how many rows were stored.
 pub struct Place {
@@ -105,24 +106,27 @@ fn read_form(text: &[u8], words: &mut [u32; 6144], count: usize, parent: u32, de
     }
 }
 
-// Reads a run of forms, each behind a space.
+// Reads a run of forms, each behind a space: a turn for each sibling, a call for each depth.
 fn read_run(text: &[u8], words: &mut [u32; 6144], count: usize, parent: u32, depth: u32) -> Place
     requires { ⌜ Stored (now words) count ⌝ }
     ensures { λ r. ⌜ (count ≤ r .count) × Stored (now (words .exit)) (r .count)
         × Reads (λ (k : ℕ). readRun k parent depth (record { rest = now (text .entry); rows = newest (now (words .entry)) count })) (2 * length (now (text .entry))) (now (text .entry)) (r .left) (newest (now (words .exit)) (r .count)) ⌝ }
 {
-    if child_follows(text, count, depth) {
-        let child = past(text, 1);
-        let read = read_form(child, words, count, parent, depth + 1);
-        let left = read.left;
-        return read_run(last(child, left), words, read.count, parent, depth);
+    let mut left = text.len();
+    let mut stored = count;
+    while child_follows(last(text, left), stored, depth) {
+        let child = past(last(text, left), 1);
+        let read = read_form(child, words, stored, parent, depth + 1);
+        left = read.left;
+        stored = read.count;
     }
     Place {
-        left: text.len(),
-        count,
+        left,
+        count: stored,
     }
 }
 
+// One byte fewer, where there is one.
 fn one_less(n: usize) -> usize
     ensures { λ r. ⌜ r ≡ n - 1 ⌝ }
 {

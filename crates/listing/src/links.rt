@@ -1,4 +1,5 @@
-// Where to go from a row when a listing is written: to its first child, and to its next sibling.
+// Where to go from a row when a listing is written: to its first child, and to its next sibling. A row's parent is found by
+// binary search, so that the links of n rows take n log n, and writing goes to each row once.
 use rules::find;
 use rules::words;
 ghost use mathlib.Core.Path.{_≡_};
@@ -21,7 +22,7 @@ fn parent_row(words: &[u32; 6144], n: usize, i: usize) -> usize
 }
 
 // Fills in each row's first child and next sibling, and behind the last row the first root: one pass from the last row to
-// the first, in which each row comes to stand before the siblings that were met.
+// the first, in which each row comes to stand before its later siblings.
 pub fn link(words: &[u32; 6144], n: usize, first: &mut [usize; 1025], next: &mut [usize; 1025])
     requires { ⌜ (n ≤ 1024) × Live (rowsOf (now words) n) × (now first ≡ replicate 1025 n) × (now next ≡ replicate 1025 n) ⌝ }
     ensures { λ _. ⌜ Linked (rowsOf (now (words .entry)) n) (now (first .exit)) (now (next .exit)) ⌝ }

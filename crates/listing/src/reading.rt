@@ -1,26 +1,27 @@
 // Listings, read: the table that a text can be the listing of is guessed, and accepted when it is in order and writes back to
 // the same bytes.
-use text::classes;
+use crate::copying;
 use crate::forms;
-use text::lines;
-use crate::writing;
-use text::numbers;
 use crate::sort;
-use text::write::Written;
+use crate::writing;
+use model::Refusal;
 use rules::find;
 use rules::ordered;
+use text::classes;
+use text::lines;
+use text::numbers;
+use text::write::Written;
 ghost use mathlib.Core.Path.{_≡_};
 ghost use Prim.Native.Nat.{_≤_};
 ghost use lib.ListN.{length};
 ghost use Rattle.rules.specs.Words.{rowsIn};
-ghost use Rattle.listing.specs.Forms.{Stored};
+ghost use Rattle.listing.specs.Stored.{Stored};
 ghost use Rattle.listing.specs.ReadListing.{isListing, guessTable, ReadsListing};
 
-// What reading answers: the issued number, or refusal 2 or 10.
+// What reading answers: the issued number, or refusal 2 or 10. `readingAnswer` of specs/ gives document 01's number and values.
 pub enum ListingRead {
     Issued(u32),
-    Misspelt,
-    Full,
+    Refused(Refusal),
 }
 
 // Reads the rows of a text into a table of zeros, by rising name.
@@ -49,18 +50,8 @@ fn is_listing(text: &[u8], words: &[u32; 6144], issued: u32) -> bool
     check::same(text, &buffer[..length])
 }
 
-fn copy(from: &[u32; 6144], to: &mut [u32; 6144])
-    requires { ⌜ (length (now from) ≡ 6144) × (length (now to) ≡ 6144) ⌝ }
-    ensures { λ _. ⌜ now (to .exit) ≡ now (from .entry) ⌝ }
-{
-    let mut i = 0;
-    while i < 6144 {
-        to[i] = from[i];
-        i += 1;
-    }
-}
-
-// Reads a listing into a table of n rows. A refusal changes nothing; a listing that is read fixes all the words.
+// Reads a listing into a table of n rows. A refusal changes nothing; a listing that is read fixes all the words. Internal: a call
+// over records has no more than 1,024 of them to hand over, and gives refusal 1 itself.
 pub fn read_listing(text: &[u8], words: &mut [u32; 6144], n: usize) -> ListingRead
     requires { ⌜ (n ≤ 1024) × (length (now words) ≡ 6144) ⌝ }
     ensures { λ r. ⌜ ReadsListing (now (text .entry)) n (now (words .entry)) (now (words .exit)) r ⌝ }
@@ -69,11 +60,11 @@ pub fn read_listing(text: &[u8], words: &mut [u32; 6144], n: usize) -> ListingRe
     guess_table(text, &mut table);
     let issued = numbers::number(lines::after_space(text));
     if !is_listing(text, &table, issued) {
-        return ListingRead::Misspelt;
+        return ListingRead::Refused(Refusal::Misspelt);
     }
     if n < find::live_count(&table, 1024) {
-        return ListingRead::Full;
+        return ListingRead::Refused(Refusal::TableFull);
     }
-    copy(&table, words);
+    copying::copy(&table, words);
     ListingRead::Issued(issued)
 }

@@ -1,21 +1,20 @@
-// Listings, written.
+// Listings, written: measured first, so that a refusal leaves the buffer untouched, and then put piece by piece.
 use crate::links;
-use text::numbers;
-use text::pieces;
-use model::Refusal;
-use text::write::Written;
 use model::Cap;
+use model::Refusal;
 use rules::find;
 use rules::ordered;
 use rules::words;
+use text::numbers;
+use text::pieces;
+use text::write::Written;
 ghost use mathlib.Core.Path.{_≡_};
 ghost use mathlib.Core.Bool.{true};
 ghost use Prim.Native.Nat.{_+_, _*_, _<_, _≤_};
 ghost use lib.ListN.{length};
 ghost use Rattle.rules.specs.Words.{rowsOf};
 ghost use Rattle.text.specs.Put.{Room, Put};
-ghost use Rattle.listing.specs.Listing.{pieces, formAt, rootsFrom, issuedLine, listed};
-ghost use Rattle.listing.specs.Met.{formLength, formsLength};
+ghost use Rattle.listing.specs.Listing.{pieces, formAt, rootsFrom, issuedLine, listed, formLength, formsLength};
 ghost use Rattle.listing.specs.Links.{Live, Linked};
 ghost use Rattle.text.specs.Write.{Writes};
 ghost use Rattle.listing.specs.WriteListing.{WritesListing};
@@ -57,7 +56,7 @@ fn put_pieces(out: &mut [u8], at: usize, c: Cap) -> usize
     }
 }
 
-// Writes the form of row i, with its children, and returns the position behind it.
+// Writes the form of row i, with its children, and returns the position behind it. It calls itself for each depth, at most 64 deep.
 fn put_form(
     words: &[u32; 6144],
     n: usize,
@@ -137,7 +136,7 @@ fn listing_length(words: &[u32; 6144], n: usize, issued: u32) -> usize
     9 + pieces::spaced_length(&numbers) + forms_length(words, n)
 }
 
-// Writes the listing of the first n rows, all of them live, where it fits.
+// Writes the listing of the first n rows, all of them live, where it fits. Internal: it asks for rows in order.
 pub fn write_rows(words: &[u32; 6144], n: usize, issued: u32, out: &mut [u8]) -> Written
     requires { ⌜ (n ≤ 1024) × Live (rowsOf (now words) n) ⌝ }
     ensures { λ r. ⌜ Writes true (listed (rowsOf (now (words .entry)) n) issued) (now (out .entry)) (now (out .exit)) r × (length (listed (rowsOf (now (words .entry)) n) issued) ≤ 39936) ⌝ }
@@ -148,7 +147,8 @@ pub fn write_rows(words: &[u32; 6144], n: usize, issued: u32, out: &mut [u8]) ->
     Written::Length(put_listing(words, n, issued, out))
 }
 
-// Writes the listing of a table of n rows at the buffer's first bytes.
+// Writes the listing of a table of n rows at the buffer's first bytes. Internal: a call over records has no more than 1,024 of
+// them to hand over, and gives refusal 1 itself.
 pub fn write_listing(words: &[u32; 6144], n: usize, issued: u32, out: &mut [u8]) -> Written
     requires { ⌜ n ≤ 1024 ⌝ }
     ensures { λ r. ⌜ WritesListing (rowsOf (now (words .entry)) n) issued (now (out .entry)) (now (out .exit)) r ⌝ }

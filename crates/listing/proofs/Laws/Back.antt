@@ -16,13 +16,15 @@ use Rattle.text.specs.Line.{through, afterSpace}
 use Rattle.text.specs.Decimal.{decimal, numberFrom}
 use Rattle.text.specs.Event.{bytes, spaced}
 use Rattle.text.specs.Read.{rightOf}
-use Rattle.listing.specs.Listing.{right, pieces, form, children, roots, issuedLine, listed}
-use Rattle.listing.specs.Met.{met, formLength, formsLength}
-use Rattle.listing.specs.Forms.{Reading, childrenText, rowOf, childFollows, readForm, readRun, readLine, lineFollows, readLines, guessIssued}
+use Rattle.listing.specs.Listing.{right, pieces, form, children, roots, issuedLine, listed, formLength, total, formsLength}
+use Rattle.listing.proofs.Laws.Sorted.{preorder}
+use Rattle.listing.specs.Forms.{Reading, childrenText, rowOf, childFollows, readForm, readRun, readLine, readLines, guessIssued}
 use Rattle.text.proofs.Laws.Digits.{digits, digitAt, decimal-width}
 use Rattle.text.proofs.Laws.Number.{Stops, digit-class, digit-small}
 use Rattle.text.proofs.Laws.Words.{plain-decimal, next, number-is, rights}
 use Rattle.listing.proofs.Laws.Listing.{length-form, length-children}
+use Rattle.listing.proofs.Laws.Reading.{run-on, run-off}
+use Rattle.listing.proofs.Laws.Roots.{goes-on, line-more}
 use Rattle.listing.proofs.Laws.Nested.{Fields, Deeper, Nested}
 
 -- ---- a form
@@ -86,14 +88,6 @@ form-spelled c inner t = simp append-assoc
 
 -- ---- a run
 
-run-on : (k p d : ℕ) (r : Reading) → childFollows d r ≡ true → readRun (suc k) p d r ≡ readRun k p d (readForm k p (d + 1) (record { rest = drop 1 (r .rest); rows = r .rows }))
-unfolding readForm
-run-on k p d r h = rw h
-
-run-off : (k p d : ℕ) (r : Reading) → childFollows d r ≡ false → readRun (suc k) p d r ≡ r
-unfolding readForm
-run-off k p d r h = rw h
-
 no-child : (u : List ℕ) (acc : List Cap) (d : ℕ) → (getD u 0 0 ≡ 32 → ⊥) → childFollows d (record { rest = u; rows = acc }) ≡ false
 no-child u acc d h = rw (ne-eqb (getD u 0 0) 32 h) (go (ltb d 64) (ltb (length acc) 1024))
   where
@@ -120,9 +114,9 @@ aux-append : (a b r : List Cap) → reverseAux (a ++ b) r ≡ reverseAux b (reve
 aux-append [] b r = refl
 aux-append (x ∷ a) b r = aux-append a b (x ∷ r)
 
-pub run-back : (rows : List Cap) → Nested rows → All Fields rows → (k p d : ℕ) (acc : List Cap) (u : List ℕ) → All (Deeper p d) rows → 1 + 2 * length (met p rows) ≤ k → length acc + length (met p rows) ≤ 1024
-    → (getD u 0 0 ≡ 32 → ⊥) → readRun k p d (record { rest = children p rows ++ u; rows = acc }) ≡ record { rest = u; rows = reverseAux (met p rows) acc }
-unfolding children met
+pub run-back : (rows : List Cap) → Nested rows → All Fields rows → (k p d : ℕ) (acc : List Cap) (u : List ℕ) → All (Deeper p d) rows → 1 + 2 * length (preorder p rows) ≤ k → length acc + length (preorder p rows) ≤ 1024
+    → (getD u 0 0 ≡ 32 → ⊥) → readRun k p d (record { rest = children p rows ++ u; rows = acc }) ≡ record { rest = u; rows = reverseAux (preorder p rows) acc }
+unfolding children preorder
 run-back [] ne fs zero p d acc u good h len end = absurd (omega arith)
 run-back [] ne fs (suc k) p d acc u good h len end = run-off k p d (record { rest = u; rows = acc }) (no-child u acc d end)
 run-back (c ∷ rows) ne fs k p d acc u good h len end =
@@ -132,17 +126,17 @@ run-back (c ∷ rows) ne fs k p d acc u good h len end =
     n = c .name .0
 
     a : List Cap
-    a = met n rows
+    a = preorder n rows
 
     b : List Cap
-    b = met p rows
+    b = preorder p rows
 
     count : length (c ∷ (a ++ b)) ≡ suc (length a + length b)
     count = ap suc (length-append a b)
 
     IH : Type 0
-    IH = (k p d : ℕ) (acc : List Cap) (u : List ℕ) → All (Deeper p d) rows → 1 + 2 * length (met p rows) ≤ k → length acc + length (met p rows) ≤ 1024
-        → (getD u 0 0 ≡ 32 → ⊥) → readRun k p d (record { rest = children p rows ++ u; rows = acc }) ≡ record { rest = u; rows = reverseAux (met p rows) acc }
+    IH = (k p d : ℕ) (acc : List Cap) (u : List ℕ) → All (Deeper p d) rows → 1 + 2 * length (preorder p rows) ≤ k → length acc + length (preorder p rows) ≤ 1024
+        → (getD u 0 0 ≡ 32 → ⊥) → readRun k p d (record { rest = children p rows ++ u; rows = acc }) ≡ record { rest = u; rows = reverseAux (preorder p rows) acc }
 
     yes : c .parent .0 ≡ p → (k : ℕ) → IH → 1 + 2 * length (c ∷ (a ++ b)) ≤ k → length acc + length (c ∷ (a ++ b)) ≤ 1024
         → readRun k p d (record { rest = (32 ∷ (form c (children n rows) ++ children p rows)) ++ u; rows = acc }) ≡ record { rest = u; rows = reverseAux (c ∷ (a ++ b)) acc }
@@ -167,16 +161,9 @@ run-back (c ∷ rows) ne fs k p d acc u good h len end =
 -- ---- the lines of the roots
 
 forms-long : (l : List Cap) → length l ≤ formsLength l
-unfolding formsLength formLength
+unfolding total formLength
 forms-long [] = omega arith
 forms-long (c ∷ l) = omega (arith, forms-long l)
-
-goes-on : (r : Reading) → 0 < length (r .rest) → length (r .rows) < 1024 → lineFollows r ≡ true
-goes-on r a b = rw (lt-ltb 0 (length (r .rest)) a, lt-ltb (length (r .rows)) 1024 b)
-
-line-more : (k : ℕ) (r after : Reading) → lineFollows r ≡ true → readLine r ≡ after → readLines (suc k) r ≡ readLines k after
-unfolding readLines
-line-more k r after h e = rw h (ap (readLines k) e)
 
 no-line : (k : ℕ) (acc : List Cap) → readLines k (record { rest = []; rows = acc }) ≡ acc
 unfolding readLines
@@ -195,9 +182,9 @@ line-back c acc mid inner after f ep ed one =
     ap (λ (r : Reading). record { rest = drop 1 (r .rest); rows = r .rows })
     ((λ i. readForm (fuel i) (sym ep i) (sym ed i) (record { rest = form-spelled c inner (10 ∷ after) i; rows = acc })) ∙ formed)
 
-pub lines-back : (rows : List Cap) → Nested rows → All Fields rows → All (λ x. x .parent .0 ≡ 0 → x .depth ≡ 1) rows → (k : ℕ) (acc : List Cap) → length (met 0 rows) ≤ k → length acc + length (met 0 rows) ≤ 1024
-    → readLines k (record { rest = roots rows; rows = acc }) ≡ reverseAux (met 0 rows) acc
-unfolding roots met
+pub lines-back : (rows : List Cap) → Nested rows → All Fields rows → All (λ x. x .parent .0 ≡ 0 → x .depth ≡ 1) rows → (k : ℕ) (acc : List Cap) → length (preorder 0 rows) ≤ k → length acc + length (preorder 0 rows) ≤ 1024
+    → readLines k (record { rest = roots rows; rows = acc }) ≡ reverseAux (preorder 0 rows) acc
+unfolding roots preorder
 lines-back [] ne fs ds k acc h len = no-line k acc
 lines-back (c ∷ rows) ne fs ds k acc h len = go (test (eqb (c .parent .0) 0)) k (λ k acc. lines-back rows (ne .1) (fs .1) (ds .1) k acc) h len
   where
@@ -205,16 +192,16 @@ lines-back (c ∷ rows) ne fs ds k acc h len = go (test (eqb (c .parent .0) 0)) 
     n = c .name .0
 
     a : List Cap
-    a = met n rows
+    a = preorder n rows
 
     b : List Cap
-    b = met 0 rows
+    b = preorder 0 rows
 
     count : length (c ∷ (a ++ b)) ≡ suc (length a + length b)
     count = ap suc (length-append a b)
 
     IH : Type 0
-    IH = (k : ℕ) (acc : List Cap) → length (met 0 rows) ≤ k → length acc + length (met 0 rows) ≤ 1024 → readLines k (record { rest = roots rows; rows = acc }) ≡ reverseAux (met 0 rows) acc
+    IH = (k : ℕ) (acc : List Cap) → length (preorder 0 rows) ≤ k → length acc + length (preorder 0 rows) ≤ 1024 → readLines k (record { rest = roots rows; rows = acc }) ≡ reverseAux (preorder 0 rows) acc
 
     yes : c .parent .0 ≡ 0 → (k : ℕ) → IH → length (c ∷ (a ++ b)) ≤ k → length acc + length (c ∷ (a ++ b)) ≤ 1024
         → readLines k (record { rest = form c (children n rows) ++ (10 ∷ roots rows); rows = acc }) ≡ reverseAux (c ∷ (a ++ b)) acc
@@ -224,8 +211,10 @@ lines-back (c ∷ rows) ne fs ds k acc h len = go (test (eqb (c .parent .0) 0)) 
         let long : length mid ≡ length a + suc (length acc) = length-reverseAux a (c ∷ acc) in
         let short : length a ≤ length (children n rows) = omega (arith, length-children n rows, forms-long a) in
         let one = line-back c acc mid (children n rows) (roots rows) (fs .0) e (ds .0 e) (λ j big. run-back rows (ne .1) (fs .1) j n (c .depth) (c ∷ acc) (41 ∷ (10 ∷ roots rows)) (ne .0) (omega arith) (omega (arith, count)) (eqb-false 41 32 refl)) in
+        let start : Reading = record { rest = form c (children n rows) ++ (10 ∷ roots rows); rows = acc } in
         let some : 0 < length (form c (children n rows) ++ (10 ∷ roots rows)) = omega (arith, length-append (form c (children n rows)) (10 ∷ roots rows)) in
-        line-more k _ (record { rest = roots rows; rows = mid }) (goes-on (record { rest = form c (children n rows) ++ (10 ∷ roots rows); rows = acc }) some (omega (arith, count))) one
+        line-more k start (goes-on start some (omega (arith, count)))
+        ∙ ap (readLines k) one
         ∙ ih k mid (omega (arith, count)) (omega (arith, count, long))
         ∙ sym (aux-append a b (c ∷ acc))
 

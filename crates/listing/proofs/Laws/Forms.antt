@@ -4,7 +4,7 @@ use mathlib.Core.Path.{_≡_, refl, sym, ap, _∙_, subst}
 use mathlib.Core.List.{List, [], _∷_, _++_, append-nil}
 use Prim.Native.Nat.{ℕ, suc, _+_, _≤_, _<_}
 use native.Mathlib.Omega.{arith}
-use lib.ListN.{length, getD, set, List·getD-eq-default}
+use lib.ListN.{length, getD, set, length-set, List·getD-eq-default}
 use Rattle.model.specs.declared.Cap.{Cap}
 use Rattle.model.specs.Table.{emptyRow}
 use Rattle.rules.specs.Engine.{nameAt, parentAt}
@@ -48,8 +48,8 @@ module _ (rows : List Cap) (i : ℕ) where
     spaced : k < length rows → Writing out at (inner start) (set now here 32) (here + 1) (formAt rows k ++ inner (suc k))
     spaced l = byte (s .rest) 32 (left l)
 
-    pub child-fits : k < length rows → Room (set now here 32) (here + 1) (formAt rows k)
-    child-fits l = fits (spaced l) (formAt rows k) (inner (suc k)) refl (s .room)
+    pub child-fits : k < length rows → Room now (here + 1) (formAt rows k)
+    child-fits l = omega (arith, fits (spaced l) (formAt rows k) (inner (suc k)) refl (s .room), length-set now here 32)
 
     ending : length rows ≤ k → inner k ≡ 41 ∷ []
     ending l = ap (λ (t : List ℕ). t ++ (41 ∷ [])) (no-child rows k name l)

@@ -7,6 +7,7 @@ use Prim.Native.Nat.{ℕ, suc, _≤_}
 use native.Mathlib.Omega.{arith}
 use lib.Dec.{leb}
 use lib.ListN.{length, take, length-reverse}
+use lib.Seq.{take-all}
 use borrow.Author.Tests.{leb-true}
 use Rattle.model.specs.declared.Cap.{Cap}
 use Rattle.model.specs.Lists.{all}
@@ -35,6 +36,9 @@ order {table} {issued} h =
     let q = and-both (leb (length table) 1024 && liveRowsFirst table) (leb issued 1000000) (p .0) in
     let r = and-both (leb (length table) 1024) (liveRowsFirst table) (q .0) in
     record { few = leb-true (length table) 1024 (r .0); arrange = r .1; names = leb-true issued 1000000 (q .1); rises = p .1 }
+
+pub all-rows : (ws : List ℕ) → take 1024 (rowsIn ws) ≡ rowsIn ws
+all-rows ws = take-all 1024 (rowsIn ws) (omega (arith, length-in ws))
 
 all-named : (rows : List Cap) → Named rows → all (λ c. not (named 0 c)) rows ≡ true
 all-named [] h = refl

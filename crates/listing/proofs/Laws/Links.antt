@@ -33,6 +33,9 @@ filling-start rows first next few wide e = record {
   tails = λ k a b. absurd (omega arith);
 }
 
+apart : (k i : ℕ) → i ≤ k → (k ≡ i → ⊥) → suc i ≤ k
+apart k i a ne = omega arith
+
 -- a row that has the parent, and one that has not
 stops : (rows : List Cap) (p i : ℕ) {b : ℕ} → i < length rows → parentAt rows i ≡ p → b ≡ i → Next rows p i b
 stops rows p i l e is = record { from = omega arith; inside = omega arith; gap = λ k a b. absurd (omega arith); own = λ _. ap (parentAt rows) is ∙ e }
@@ -43,9 +46,6 @@ passes rows p i {b} other n = record { from = omega (arith, n .from); inside = n
     go : (k : ℕ) → i ≤ k → k < b → parentAt rows k ≡ p → (t : Bool) → eqb k i ≡ t → ⊥
     go k a l e true h = other (ap (parentAt rows) (sym (eqb-true k i h)) ∙ e)
     go k a l e false h = n .gap k (apart k i a (eqb-false k i h)) l e
-      where
-        apart : (k i : ℕ) → i ≤ k → (k ≡ i → ⊥) → suc i ≤ k
-        apart k i a ne = omega arith
 
 -- two names of rows, or of what is behind the last row, are two
 differ : (rows : List Cap) → InOrder rows → (j p : ℕ) → j ≤ length rows → p ≤ length rows → nameAt rows j ≡ nameAt rows p → j ≡ p
@@ -87,9 +87,6 @@ filling-step rows first next i p order few l hp same f = record {
     tail k a b false h =
         let ne = eqb-false k i h in
         subst (Next rows (parentAt rows k) (suc k)) (sym (getD-set-other next i k (getD first p 0) 0 ne)) (f .tails k (apart k i a ne) b)
-      where
-        apart : (k i : ℕ) → i ≤ k → (k ≡ i → ⊥) → suc i ≤ k
-        apart k i a ne = omega arith
 
 pub filling-end : (rows : List Cap) (first next : List ℕ) → InOrder rows → Filling rows first next 0 → Linked rows first next
 filling-end rows first next order f = record { children = f .heads; later = λ j l. later j l (ltb (getD first j 0) (length rows)) refl; siblings = λ i l. f .tails i (omega arith) l }

@@ -11,12 +11,12 @@ use lib.Seq.{drop-cons}
 use borrow.Author.Tests.{eq-eqb}
 use Rattle.model.specs.declared.Cap.{Cap}
 use Rattle.model.specs.Table.{emptyRow}
+use Rattle.rules.proofs.Laws.Words.{length-rows}
 use Rattle.rules.specs.Words.{rowAt, rowsOf}
 use Rattle.rules.specs.Engine.{nameAt, parentAt}
 use Rattle.text.specs.Event.{bytes, spaced}
-use Rattle.listing.specs.Listing.{right, pieces, form, children, roots, formAt, childrenFrom, rootsFrom, issuedLine, listed}
-use Rattle.listing.specs.Met.{met, formLength, formsLength}
-use Rattle.listing.proofs.Laws.Sorted.{InOrder, sorted-met, length-sorted}
+use Rattle.listing.specs.Listing.{right, pieces, form, children, roots, formAt, childrenFrom, rootsFrom, issuedLine, listed, formLength, total, formsLength}
+use Rattle.listing.proofs.Laws.Sorted.{preorder, InOrder, sorted-preorder, total-sorted}
 
 pub length-right : (r : ℕ) → length (right r) ≡ 3
 length-right r = go (eqb r 1)
@@ -34,42 +34,48 @@ unfolding form formLength
 length-form c inner = simp length-append (omega arith)
 
 forms-append : (a b : List Cap) → formsLength (a ++ b) ≡ formsLength a + formsLength b
-unfolding formsLength
+unfolding total
 forms-append [] b = omega arith
 forms-append (c ∷ a) b = omega (arith, forms-append a b)
 
 pub forms-more : (ws : List ℕ) (n : ℕ) → formsLength (rowsOf ws (suc n)) ≡ formsLength (rowsOf ws n) + formLength (rowAt ws n)
-unfolding rowsOf formsLength
+unfolding rowsOf total
 forms-more ws n = omega (arith, forms-append (rowsOf ws n) (rowAt ws n ∷ []))
 
--- the forms below p have the bytes of the rows met there
-pub length-children : (p : ℕ) (rows : List Cap) → length (children p rows) ≡ formsLength (met p rows)
-unfolding children met formsLength
+-- the forms below p have the bytes of their rows
+pub length-children : (p : ℕ) (rows : List Cap) → length (children p rows) ≡ formsLength (preorder p rows)
+unfolding children preorder total
 length-children p [] = refl
 length-children p (c ∷ rows) = go (eqb (c .parent .0) p) (length-children (c .name .0) rows) (length-children p rows)
   where
-    go : (t : Bool) → length (children (c .name .0) rows) ≡ formsLength (met (c .name .0) rows) → length (children p rows) ≡ formsLength (met p rows)
-        → length (cond t (32 ∷ (form c (children (c .name .0) rows) ++ children p rows)) (children p rows)) ≡ formsLength (cond t (c ∷ (met (c .name .0) rows ++ met p rows)) (met p rows))
+    go : (t : Bool) → length (children (c .name .0) rows) ≡ formsLength (preorder (c .name .0) rows) → length (children p rows) ≡ formsLength (preorder p rows)
+        → length (cond t (32 ∷ (form c (children (c .name .0) rows) ++ children p rows)) (children p rows)) ≡ formsLength (cond t (c ∷ (preorder (c .name .0) rows ++ preorder p rows)) (preorder p rows))
     go true e f =
-        omega (arith, length-append (form c (children (c .name .0) rows)) (children p rows), length-form c (children (c .name .0) rows), forms-append (met (c .name .0) rows) (met p rows))
+        omega (arith, length-append (form c (children (c .name .0) rows)) (children p rows), length-form c (children (c .name .0) rows), forms-append (preorder (c .name .0) rows) (preorder p rows))
     go false e f = f
 
-length-roots : (rows : List Cap) → length (roots rows) ≡ formsLength (met 0 rows)
-unfolding roots met formsLength
+length-roots : (rows : List Cap) → length (roots rows) ≡ formsLength (preorder 0 rows)
+unfolding roots preorder total
 length-roots [] = refl
 length-roots (c ∷ rows) = go (eqb (c .parent .0) 0) (length-children (c .name .0) rows) (length-roots rows)
   where
-    go : (t : Bool) → length (children (c .name .0) rows) ≡ formsLength (met (c .name .0) rows) → length (roots rows) ≡ formsLength (met 0 rows)
-        → length (cond t (form c (children (c .name .0) rows) ++ (10 ∷ roots rows)) (roots rows)) ≡ formsLength (cond t (c ∷ (met (c .name .0) rows ++ met 0 rows)) (met 0 rows))
+    go : (t : Bool) → length (children (c .name .0) rows) ≡ formsLength (preorder (c .name .0) rows) → length (roots rows) ≡ formsLength (preorder 0 rows)
+        → length (cond t (form c (children (c .name .0) rows) ++ (10 ∷ roots rows)) (roots rows)) ≡ formsLength (cond t (c ∷ (preorder (c .name .0) rows ++ preorder 0 rows)) (preorder 0 rows))
     go true e f =
-        omega (arith, length-append (form c (children (c .name .0) rows)) (10 ∷ roots rows), length-form c (children (c .name .0) rows), forms-append (met (c .name .0) rows) (met 0 rows))
+        omega (arith, length-append (form c (children (c .name .0) rows)) (10 ∷ roots rows), length-form c (children (c .name .0) rows), forms-append (preorder (c .name .0) rows) (preorder 0 rows))
     go false e f = f
 
 -- the lines of rows in order are as long as their rows
 pub roots-length : (rows : List Cap) → InOrder rows → length (roots rows) ≡ formsLength rows
-roots-length rows h = length-roots rows ∙ sym (length-sorted (met 0 rows)) ∙ ap formsLength (sorted-met rows h)
+roots-length rows h = length-roots rows ∙ sym (total-sorted formLength (preorder 0 rows)) ∙ ap formsLength (sorted-preorder rows h)
 
 -- ---- by place
+
+pub within : (ws : List ℕ) (n k : ℕ) → k < n → k < length (rowsOf ws n)
+within ws n k l = omega (arith, length-rows ws n)
+
+pub beyond : (ws : List ℕ) (n k : ℕ) → n ≤ k → length (rowsOf ws n) ≤ k
+beyond ws n k l = omega (arith, length-rows ws n)
 
 module _ (rows : List Cap) (k : ℕ) where
   pub form-text : (t : List ℕ) → formAt rows k ++ t ≡ 40 ∷ (pieces (getD rows k emptyRow) ++ (childrenFrom (nameAt rows k) rows (suc k) ++ (41 ∷ t)))

@@ -2,26 +2,26 @@
 -- Assumes nothing.
 use mathlib.Core.Path.{_≡_, refl, sym, ap, ap₂, _∙_}
 use mathlib.Core.Bool.{true, false}
+use mathlib.Core.Logic.{_⊎_, inl, inr}
 use mathlib.Core.List.{List, [], _∷_, _++_, reverse}
 use Prim.Native.Nat.{ℕ, zero, suc, _+_, _-_, _*_, _≤_, _<_}
 use native.Mathlib.Omega.{arith}
 use native.Mathlib.Numerals.{add-one}
 use lib.ListN.{length, getD, take, replicate, length-reverse, length-replicate, replicate-append-replicate}
-use lib.Seq.{take-append-add, take-at, take-all}
+use lib.Seq.{take-append-add, take-at}
 use borrow.Author.Tests.{le-leb, lt-leb}
 use Rattle.model.specs.declared.Cap.{Cap}
 use Rattle.model.specs.Table.{emptyRow, liveRows, lentTable, liveRowsFirst, inOrder}
 use Rattle.rules.specs.Words.{rowAt, rowsOf, rowsIn}
 use Rattle.rules.specs.Engine.{Front}
-use Rattle.model.proofs.Lists.{and-both}
+use Rattle.model.proofs.Lists.{test, clash}
 use Rattle.model.proofs.Rows.{lent-live}
 use Rattle.rules.proofs.Laws.Words.{length-in, in-first}
 use Rattle.text.specs.Result.{Result, value, refused}
-use Rattle.text.specs.Read.{same}
-use Rattle.listing.specs.Listing.{listing}
-use Rattle.listing.specs.Forms.{guessIssued, Stored}
+use Rattle.listing.specs.Forms.{guessIssued}
+use Rattle.listing.specs.Stored.{Stored}
 use Rattle.listing.specs.ReadListing.{isListing, guessTable, Listed, readListing}
-use Rattle.listing.proofs.Laws.Front.{order, front-count}
+use Rattle.listing.proofs.Laws.Front.{all-rows, order, front-count}
 
 -- ---- a table of zeros
 
@@ -81,16 +81,17 @@ module _ (s : List ℕ) (n : ℕ) (few : n ≤ 1024) (ws : List ℕ) (issued : �
   module _ (h : isListing s (rowsIn ws) issued ≡ true) (k : ℕ) (f : Front (rowsIn ws) 1024 k) where
     in-order : inOrder (rowsIn ws) issued ≡ true
     unfolding isListing
-    in-order = and-both (inOrder (rowsIn ws) issued) (same s (listing (rowsIn ws) issued)) h .0
+    in-order = go (test (inOrder (rowsIn ws) issued))
+      where
+        go : (inOrder (rowsIn ws) issued ≡ true) ⊎ (inOrder (rowsIn ws) issued ≡ false) → inOrder (rowsIn ws) issued ≡ true
+        go (inl t) = t
+        go (inr f) = clash h (rw f)
 
     arrange : liveRowsFirst (rowsIn ws) ≡ true
     arrange = order in-order .arrange
 
-    all-rows : take 1024 (rowsIn ws) ≡ rowsIn ws
-    all-rows = take-all 1024 (rowsIn ws) (omega (arith, length-in ws))
-
     count : length (liveRows (guessTable s)) ≡ k
-    count = ap (λ (t : List Cap). length (liveRows t)) (sym et ∙ sym all-rows) ∙ front-count ws 1024 k (omega arith) f (ap liveRowsFirst all-rows ∙ arrange)
+    count = ap (λ (t : List Cap). length (liveRows t)) (sym et ∙ sym (all-rows ws)) ∙ front-count ws 1024 k (omega arith) f (ap liveRowsFirst (all-rows ws) ∙ arrange)
 
     pub answers-10 : n < k → refused 10 ≡ readListing s n
     unfolding readListing

@@ -1,4 +1,4 @@
--- Laws of `readForm` and `readRun`, one for each way that `read_form` and `read_run` go: what the callee read is what the definition's call gives.
+-- Laws of `readForm` and `readRun`, one for `read_form`, and one for each way of the loop of `read_run`: what the callee read is what the definition's call gives.
 -- Assumes nothing.
 use mathlib.Core.Path.{_≡_, refl, sym, ap, ap₂, _∙_}
 use mathlib.Core.Bool.{Bool, true, false, _&&_}
@@ -13,7 +13,8 @@ use Rattle.model.proofs.Lists.{and-both}
 use Rattle.text.specs.Class.{space}
 use Rattle.text.specs.Line.{through}
 use Rattle.model.specs.declared.Cap.{Cap}
-use Rattle.listing.specs.Forms.{Reading, nameText, startText, lengthText, childrenText, rowOf, follows, childFollows, readForm, readRun, Reads}
+use Rattle.listing.specs.Forms.{Reading, nameText, startText, lengthText, childrenText, rowOf, follows, childFollows, readForm, readRun}
+use Rattle.listing.specs.Stored.{Reads}
 
 -- ---- a part of a text that reaches to its end, by how many bytes it has
 
@@ -34,6 +35,17 @@ last-last n k s h =
     let t = drop n s in
     let e : (length s - length t) + (length t - k) ≡ length s - k = omega (arith, length-drop n s) in
     ap (drop (length t - k)) (sym (last-drop n s)) ∙ drop-drop (length t - k) (length s - length t) s ∙ ap (λ (j : ℕ). drop j s) e
+
+-- the last bytes of a text
+abbrev pub tail : List ℕ → ℕ → List ℕ
+tail s left = drop (length s - left) s
+
+pub tail-length : (s : List ℕ) (left : ℕ) → left ≤ length s → length (tail s left) ≡ left
+tail-length s left h = omega (arith, length-drop (length s - left) s)
+
+-- behind one byte of them
+pub tail-behind : (s : List ℕ) (left : ℕ) → left ≤ length s → {rest child : List ℕ} → rest ≡ tail s left → child ≡ drop 1 rest → length child ≡ left - 1
+tail-behind s left inside {rest} e d = ap length d ∙ length-drop 1 rest ∙ ap (λ (t : List ℕ). length t - 1) e ∙ ap (λ (n : ℕ). n - 1) (tail-length s left inside)
 
 -- a further part is a part of the whole
 further : (s : List ℕ) {t : List ℕ} (m n : ℕ) → t ≡ drop m s → drop n t ≡ drop (m + n) s
@@ -99,52 +111,62 @@ form-reads s acc parent depth {children} {rest} {after} {row} {left} {stored} er
         ap (λ (st : Reading). record { rest = drop 1 (st .rest); rows = st .rows }) read
         ∙ (λ i. record { rest = (sym et ∙ back) i; rows = after })
 
--- a run that ends here
-pub run-ends : (s : List ℕ) (acc : List Cap) (parent depth : ℕ) → childFollows depth (record { rest = s; rows = acc }) ≡ false
-    → Reads (λ (k : ℕ). readRun k parent depth (record { rest = s; rows = acc })) (2 * length s) s (length s) acc
+-- a run goes on where a child follows, and else ends
+pub run-on : (k p d : ℕ) (r : Reading) → childFollows d r ≡ true → readRun (suc k) p d r ≡ readRun k p d (readForm k p (d + 1) (record { rest = drop 1 (r .rest); rows = r .rows }))
 unfolding readForm
-run-ends s acc parent depth none = record { inside = omega arith; reads = reads }
-  where
-    reads : (k : ℕ) → 2 * length s < k → readRun k parent depth (record { rest = s; rows = acc }) ≡ record { rest = drop (length s - length s) s; rows = acc }
-    reads zero h = absurd (omega arith)
-    reads (suc k) h =
-        let e : length s - length s ≡ 0 = omega arith in
-        rw (none, e)
+run-on k p d r h = rw h
 
--- a run that goes on: a form behind the space, and a run behind that
-pub run-more : (s : List ℕ) (acc : List Cap) (parent depth : ℕ) {child rest : List ℕ} {stored after : List Cap} {one more : ℕ}
-    → childFollows depth (record { rest = s; rows = acc }) ≡ true → 1 ≤ length s → child ≡ drop 1 s
-    → Reads (λ (k : ℕ). readForm k parent (depth + 1) (record { rest = child; rows = acc })) (2 * length child + 1) child one stored
-    → rest ≡ drop (length child - one) child
-    → Reads (λ (k : ℕ). readRun k parent depth (record { rest = rest; rows = stored })) (2 * length rest) rest more after
-    → Reads (λ (k : ℕ). readRun k parent depth (record { rest = s; rows = acc })) (2 * length s) s more after
+pub run-off : (k p d : ℕ) (r : Reading) → childFollows d r ≡ false → readRun (suc k) p d r ≡ r
 unfolding readForm
-run-more s acc parent depth {child} {rest} {stored} {after} {one} {more} follow some ec r1 er r2 = record { inside = inside; reads = reads }
-  where
-    n : ℕ
-    n = 1 + (length child - one)
+run-off k p d r h = rw h
 
-    is-part : rest ≡ drop n s
-    is-part = er ∙ further s 1 (length child - one) ec
+-- a run in front of the text s: the last bytes are left to read, where these rows were read
+pub record RunLeft (s : List ℕ) (acc : List Cap) (p d left : ℕ) (rows : List Cap) : Type 0 where
+  pub inside : left ≤ length s
+  pub same : (k : ℕ) → 2 * length s < k → (j : ℕ) × (2 * left < j) × (readRun j p d (record { rest = tail s left; rows = rows }) ≡ readRun k p d (record { rest = s; rows = acc }))
 
-    inside : more ≤ length s
-    inside = omega (arith, r2 .inside, ap length is-part, length-drop n s)
+module _ (s : List ℕ) (acc : List Cap) (p d : ℕ) where
+  pub run-begins : RunLeft s acc p d (length s) acc
+  run-begins =
+      let z : length s - length s ≡ 0 = omega arith in
+      record { inside = omega arith; same = λ k h. (k, h, ap (λ (n : ℕ). readRun k p d (record { rest = drop n s; rows = acc })) z) }
 
-    child-length : length child ≡ length s - 1
-    child-length = ap length ec ∙ length-drop 1 s
+  module _ {left : ℕ} {rows : List Cap} (l : RunLeft s acc p d left rows) where
+    abbrev here : Reading
+    here = record { rest = tail s left; rows = rows }
 
-    rest-length : length rest ≤ length child
-    rest-length = omega (arith, ap length er, length-drop (length child - one) child)
+    -- a form more behind a space
+    pub run-more : {rest child : List ℕ} {one : ℕ} {stored : List Cap} → childFollows d here ≡ true → 0 < left → rest ≡ tail s left → child ≡ drop 1 rest
+        → Reads (λ (k : ℕ). readForm k p (d + 1) (record { rest = child; rows = rows })) (2 * length child + 1) child one stored
+        → RunLeft s acc p d one stored
+    run-more {rest} {child} {one} {stored} follow some er ec r = record { inside = omega (arith, r .inside, l .inside, child-length); same = λ k h. step (l .same k h .0) k (l .same k h .1) (l .same k h .2) }
+      where
+        ec′ : child ≡ drop 1 (tail s left)
+        ec′ = ec ∙ ap (drop 1) er
 
-    left : drop (length rest - more) rest ≡ drop (length s - more) s
-    left = rw is-part (last-last n more s (omega (arith, r2 .inside, ap length is-part)))
+        child-length : length child ≡ left - 1
+        child-length = tail-behind s left (l .inside) er ec
 
-    reads : (k : ℕ) → 2 * length s < k → readRun k parent depth (record { rest = s; rows = acc }) ≡ record { rest = drop (length s - more) s; rows = after }
-    reads zero h = absurd (omega arith)
-    reads (suc k) h =
-        let formed : readForm k parent (depth + 1) (record { rest = drop 1 s; rows = acc }) ≡ record { rest = rest; rows = stored } =
-        ap (λ (l : List ℕ). readForm k parent (depth + 1) (record { rest = l; rows = acc })) (sym ec)
-        ∙ r1 .reads k (omega (arith, child-length))
-        ∙ (λ i. record { rest = sym er i; rows = stored }) in
-        rw follow
-        (ap (readRun k parent depth) formed ∙ r2 .reads k (omega (arith, child-length, rest-length)) ∙ (λ i. record { rest = left i; rows = after }))
+        part : child ≡ drop ((length s - left) + 1) s
+        part = ec′ ∙ drop-drop 1 (length s - left) s
+
+        back : drop (length child - one) child ≡ tail s one
+        back = ap (λ (t : List ℕ). drop (length t - one) t) part ∙ last-last ((length s - left) + 1) one s (omega (arith, r .inside, ap length part))
+
+        step : (j k : ℕ) → 2 * left < j → readRun j p d here ≡ readRun k p d (record { rest = s; rows = acc })
+            → (i : ℕ) × (2 * one < i) × (readRun i p d (record { rest = tail s one; rows = stored }) ≡ readRun k p d (record { rest = s; rows = acc }))
+        step zero k h e = absurd (omega arith)
+        step (suc j) k h e =
+            let formed : readForm j p (d + 1) (record { rest = drop 1 (tail s left); rows = rows }) ≡ record { rest = tail s one; rows = stored } =
+            ap (λ (t : List ℕ). readForm j p (d + 1) (record { rest = t; rows = rows })) (sym ec′)
+            ∙ r .reads j (omega (arith, child-length))
+            ∙ (λ i. record { rest = back i; rows = stored }) in
+            (j, omega (arith, r .inside, child-length), sym (run-on j p d here follow ∙ ap (readRun j p d) formed) ∙ e)
+
+    -- no form more
+    pub run-ends : childFollows d here ≡ false → Reads (λ (k : ℕ). readRun k p d (record { rest = s; rows = acc })) (2 * length s) s left rows
+    run-ends none = record { inside = l .inside; reads = λ k h. go (l .same k h .0) k (l .same k h .1) (l .same k h .2) }
+      where
+        go : (j k : ℕ) → 2 * left < j → readRun j p d here ≡ readRun k p d (record { rest = s; rows = acc }) → readRun k p d (record { rest = s; rows = acc }) ≡ here
+        go zero k h e = absurd (omega arith)
+        go (suc j) k h e = sym e ∙ run-off j p d here none

@@ -6,19 +6,13 @@ use mathlib.Core.List.{List, []}
 use Prim.Native.Nat.{ℕ, zero, suc, _+_, _-_, _*_, _≤_, _<_}
 use native.Mathlib.Omega.{arith}
 use lib.Dec.{ltb}
-use lib.ListN.{length, drop, length-drop, drop-of-length-le}
+use lib.ListN.{length, drop, drop-of-length-le}
 use lib.Seq.{drop-drop}
 use borrow.Author.Tests.{lt-ltb, le-ltb}
-use Rattle.listing.specs.Forms.{Reading, readForm, readLine, lineFollows, readLines, Reads, newest, Stored}
-use Rattle.listing.proofs.Laws.Reading.{last-last}
+use Rattle.listing.specs.Forms.{Reading, readForm, readLine, lineFollows, readLines}
+use Rattle.listing.specs.Stored.{Reads, newest, Stored}
+use Rattle.listing.proofs.Laws.Reading.{last-last, tail, tail-length}
 use Rattle.listing.proofs.Laws.Stored.{length-newest}
-
--- the last bytes of a text
-abbrev pub tail : List ℕ → ℕ → List ℕ
-tail text left = drop (length text - left) text
-
-pub tail-length : (text : List ℕ) (left : ℕ) → left ≤ length text → length (tail text left) ≡ left
-tail-length text left h = omega (arith, length-drop (length text - left) text)
 
 -- the lines of the last bytes are left to read, where count rows are stored
 pub record Left (text : List ℕ) (ws : List ℕ) (left count : ℕ) : Type 0 where
@@ -41,10 +35,10 @@ shorter text (suc left) h =
     let e : (length text - suc left) + 1 ≡ length text - (suc left - 1) = omega arith in
     drop-drop 1 (length text - suc left) text ∙ ap (λ (n : ℕ). drop n text) e
 
-goes-on : (r : Reading) → 0 < length (r .rest) → length (r .rows) < 1024 → lineFollows r ≡ true
+pub goes-on : (r : Reading) → 0 < length (r .rest) → length (r .rows) < 1024 → lineFollows r ≡ true
 goes-on r a b = rw (lt-ltb 0 (length (r .rest)) a, lt-ltb (length (r .rows)) 1024 b)
 
-line-more : (k : ℕ) (r : Reading) → lineFollows r ≡ true → readLines (suc k) r ≡ readLines k (readLine r)
+pub line-more : (k : ℕ) (r : Reading) → lineFollows r ≡ true → readLines (suc k) r ≡ readLines k (readLine r)
 unfolding readLines
 line-more k r h = rw h
 

@@ -4,14 +4,14 @@ use mathlib.Core.Path.{_≡_, refl, sym, ap, ap₂, _∙_}
 use mathlib.Core.List.{List, [], _∷_, _++_, reverse, reverseAux, reverse-reverse}
 use Prim.Native.Nat.{ℕ, suc, _-_, _<_}
 use native.Mathlib.Omega.{arith}
-use lib.ListN.{length, set, take, replicate, length-reverse}
-use lib.Seq.{set-append-left, take-suc-set, take-set-lt}
+use lib.ListN.{length, set, take, drop, take-append-drop, replicate, length-reverse}
+use lib.Seq.{drop-at, take-suc-set}
 use Rattle.model.specs.declared.Cap.{Cap}
 use Rattle.model.specs.Table.{emptyRow, lentTable}
 use Rattle.rules.specs.Words.{rowsOf, rowsIn}
 use Rattle.rules.proofs.Laws.Words.{length-rows, length-in, in-first}
 use Rattle.model.proofs.Rows.{lent-new}
-use Rattle.listing.specs.Forms.{newest, Stored}
+use Rattle.listing.specs.Stored.{newest, Stored}
 
 snoc : (l r : List Cap) (x : Cap) → reverseAux (l ++ (x ∷ [])) r ≡ x ∷ reverseAux l r
 snoc [] r x = refl
@@ -42,21 +42,16 @@ module _ {ws ws′ : List ℕ} {count : ℕ} {row : Cap} (s : Stored ws count) (
         ∙ ap (lentTable 1024) (sym added-newest);
   }
 
--- a row that is stored in the place of another
-module _ {ws ws′ : List ℕ} {count i : ℕ} {c : Cap} (s : Stored ws count) (l : i < count) (is : Set ws ws′ i c) where
-  pub changed-rows : rowsOf ws′ count ≡ set (rowsOf ws count) i c
-  changed-rows = sym (in-first ws′ count (s .few)) ∙ ap (take count) (is .rows) ∙ take-set-lt count (rowsIn ws) i c l ∙ ap (λ (t : List Cap). set t i c) (in-first ws count (s .few))
-
-  pub changed : Stored ws′ count
-  unfolding lentTable
-  changed = record {
-    few = s .few;
-    long = is .long;
-    table =
-        let small : i < length (rowsOf ws count) = omega (arith, length-rows ws count) in
-        let zeros : ℕ → List Cap = λ n. replicate (1024 - n) emptyRow in
-        is .rows
-        ∙ ap (λ (t : List Cap). set t i c) (s .table ∙ ap (λ (r : List Cap). r ++ zeros (length (newest ws count))) (reverse-reverse (rowsOf ws count)))
-        ∙ set-append-left (rowsOf ws count) (zeros (length (newest ws count))) i c small
-        ∙ ap₂ (λ (r : List Cap) (n : ℕ). r ++ zeros n) (sym changed-rows ∙ sym (reverse-reverse (rowsOf ws′ count))) (length-newest ws count ∙ sym (length-newest ws′ count));
-  }
+-- where the rows behind the first count are as they were, those are still the ones that were stored
+pub reordered : {ws : List ℕ} (ws′ : List ℕ) {count : ℕ} → Stored ws count → length ws′ ≡ 6144 → drop count (rowsIn ws′) ≡ drop count (rowsIn ws) → Stored ws′ count
+unfolding lentTable
+reordered {ws} ws′ {count} s long behind = record {
+  few = s .few;
+  long = long;
+  table =
+      let zeros : ℕ → List Cap = λ n. replicate (1024 - n) emptyRow in
+      let was : rowsIn ws ≡ rowsOf ws count ++ zeros count = s .table ∙ ap₂ (λ (r : List Cap) (n : ℕ). r ++ zeros n) (reverse-reverse (rowsOf ws count)) (length-newest ws count) in
+      sym (take-append-drop count (rowsIn ws′))
+      ∙ ap₂ (λ (a b : List Cap). a ++ b) (in-first ws′ count (s .few)) (behind ∙ ap (drop count) was ∙ drop-at (rowsOf ws count) (zeros count) count (length-rows ws count))
+      ∙ ap₂ (λ (r : List Cap) (n : ℕ). r ++ zeros n) (sym (reverse-reverse (rowsOf ws′ count))) (sym (length-newest ws′ count));
+}

@@ -2,7 +2,7 @@
 -- Assumes nothing.
 use mathlib.Core.Path.{_≡_, refl, sym, ap, ap₂, _∙_, subst}
 use mathlib.Core.Bool.{Bool, true, false, cond, not, _&&_}
-use mathlib.Core.List.{List, [], _∷_, reverse, reverse-reverse}
+use mathlib.Core.List.{List, [], reverse, reverse-reverse}
 use Prim.Native.Nat.{ℕ, suc, _^_, _≤_, _<_}
 use native.Mathlib.Omega.{arith}
 use lib.Dec.{leb}
@@ -18,11 +18,11 @@ use Rattle.model.proofs.Rows.{lent-live}
 use Rattle.text.specs.Result.{Result, value, refused}
 use Rattle.text.specs.Read.{same}
 use Rattle.listing.specs.Listing.{roots, listed, listing}
-use Rattle.listing.specs.Met.{met, insert, sorted}
+use Rattle.listing.specs.Sort.{sorted}
 use Rattle.listing.specs.Forms.{readLines, guessRows, guessIssued}
 use Rattle.listing.specs.ReadListing.{isListing, guessTable, Listed, readListing}
 use Rattle.text.proofs.Laws.Read.{same-refl, same-true}
-use Rattle.listing.proofs.Laws.Sorted.{InOrder, sorted-met}
+use Rattle.listing.proofs.Laws.Sorted.{preorder, InOrder, sorted-preorder, length-sorted}
 use Rattle.listing.proofs.Laws.Live.{live-order}
 use Rattle.listing.proofs.Laws.Front.{Order, order, order-live}
 use Rattle.listing.proofs.Laws.Nested.{nested-reverse, roots-reverse, fields-reverse}
@@ -33,21 +33,6 @@ pub record Listable (table : List Cap) (issued : ℕ) : Type 0 where
   pub ordered : inOrder table issued ≡ true
   pub small : All (λ c. c .length < 2 ^ 32) (liveRows table)
 
--- as many rows are met as there are
-length-insert : (c : Cap) (l : List Cap) → length (insert c l) ≡ suc (length l)
-unfolding insert
-length-insert c [] = refl
-length-insert c (x ∷ xs) = go (lib.Dec.ltb (c .name .0) (x .name .0)) (length-insert c xs)
-  where
-    go : (t : Bool) → length (insert c xs) ≡ suc (length xs) → length (cond t (c ∷ x ∷ xs) (x ∷ insert c xs)) ≡ suc (suc (length xs))
-    go true e = refl
-    go false e = ap suc e
-
-length-sorted : (l : List Cap) → length (sorted l) ≡ length l
-unfolding sorted
-length-sorted [] = refl
-length-sorted (c ∷ l) = length-insert c (sorted l) ∙ ap suc (length-sorted l)
-
 -- the live rows in a table of another size
 module _ (n : ℕ) (table : List Cap) (issued : ℕ) (h : inOrder table issued ≡ true) (few : n ≤ 1024) (fits : length (liveRows table) ≤ n) where
   same-live : liveRows (lentTable n (liveRows table)) ≡ liveRows table
@@ -56,7 +41,7 @@ module _ (n : ℕ) (table : List Cap) (issued : ℕ) (h : inOrder table issued �
   resized-order : inOrder (lentTable n (liveRows table)) issued ≡ true
   unfolding inOrder
   resized-order =
-      let o = order h in
+      let o : Order table issued = order h in
       let short : length (lentTable n (liveRows table)) ≤ 1024 = omega (arith, length-lent n (liveRows table) fits) in
       rw (le-leb (length (lentTable n (liveRows table))) 1024 short, liveRowsFirst-lent n (liveRows table) (live-named table), le-leb issued 1000000 (o .names), same-live) (o .rises)
 
@@ -80,8 +65,8 @@ module _ (table : List Cap) (issued : ℕ) (t : Listable table issued) where
   count : length (liveRows table) ≤ 1024
   count = omega (arith, o .few, fits)
 
-  met-count : length (met 0 rows) ≡ length (liveRows table)
-  met-count = sym (length-sorted (met 0 rows)) ∙ ap length (sorted-met rows in-order) ∙ length-reverse (liveRows table)
+  preorder-count : length (preorder 0 rows) ≡ length (liveRows table)
+  preorder-count = sym (length-sorted (preorder 0 rows)) ∙ ap length (sorted-preorder rows in-order) ∙ length-reverse (liveRows table)
 
   -- what is guessed of a listing is its rows
   guess-back : guessRows (listing table issued) ≡ rows
@@ -91,9 +76,9 @@ module _ (table : List Cap) (issued : ℕ) (t : Listable table issued) where
       let fs = fields-reverse (liveRows table) (t .small) (suc issued) (omega (arith, o .names)) (o .rises) in
       let ds = roots-reverse (suc issued) (liveRows table) (o .rises) in
       ap (λ (s : List ℕ). sorted (reverse (readLines 1024 (record { rest = s; rows = [] })))) (lines-behind issued (roots rows))
-      ∙ ap (λ (l : List Cap). sorted (reverse l)) (lines-back rows ne fs ds 1024 [] (omega (arith, met-count, count)) (omega (arith, met-count, count)))
-      ∙ ap sorted (reverse-reverse (met 0 rows))
-      ∙ sorted-met rows in-order
+      ∙ ap (λ (l : List Cap). sorted (reverse l)) (lines-back rows ne fs ds 1024 [] (omega (arith, preorder-count, count)) (omega (arith, preorder-count, count)))
+      ∙ ap sorted (reverse-reverse (preorder 0 rows))
+      ∙ sorted-preorder rows in-order
 
   table-back : guessTable (listing table issued) ≡ lentTable 1024 (liveRows table)
   unfolding guessTable
@@ -154,7 +139,7 @@ listed-read s n l few h =
     go true false z p q r e = absurd (let z : _≡_ {A = ℕ} 0 1 = cc in omega arith)
     go false y z p q r e = absurd (let z : _≡_ {A = ℕ} 0 1 = cc in omega arith)
 
--- what refusal 2 is value to is the listing of no table in order
+-- a text that gets refusal 2 is the listing of no table in order
 pub unlisted : (s : List ℕ) (n : ℕ) → readListing s n ≡ refused 2 → (table : List Cap) (issued : ℕ) → Listable table issued → s ≡ listing table issued → ⊥
 unlisted s n h table issued t e = go (leb (length (liveRows table)) n) refl
   where

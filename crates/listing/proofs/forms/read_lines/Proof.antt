@@ -5,7 +5,8 @@ use Prim.Native.Nat.{ℕ, _<_}
 use native.Mathlib.Omega.{arith}
 use lib.ListN.{length}
 use borrow.Author.Needs.{needs}
-use Rattle.listing.proofs.Laws.Roots.{Left, tail-length, all-left, line-read, ended, full}
+use Rattle.listing.proofs.Laws.Reading.{tail-length}
+use Rattle.listing.proofs.Laws.Roots.{Left, all-left, line-read, ended, full}
 use Rattle.listing.proofs.forms.read_lines.Statement.{statement}
 use Rattle.listing.proofs.forms.read_lines.Tie as tie
 

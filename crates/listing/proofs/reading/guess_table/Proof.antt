@@ -9,8 +9,9 @@ use Rattle.model.specs.Table.{lentTable}
 use Rattle.rules.specs.Words.{rowsOf, rowsIn}
 use Rattle.text.specs.Class.{newline}
 use Rattle.text.specs.Line.{through}
-use Rattle.listing.specs.Met.{sorted}
-use Rattle.listing.specs.Forms.{readLines, guessRows, newest, Stored}
+use Rattle.listing.specs.Sort.{sorted}
+use Rattle.listing.specs.Forms.{readLines, guessRows}
+use Rattle.listing.specs.Stored.{newest, Stored}
 use Rattle.listing.specs.ReadListing.{guessTable}
 use borrow.Author.Needs.{needs}
 use Rattle.listing.proofs.reading.guess_table.Statement.{statement}

@@ -6,18 +6,17 @@ use mathlib.Core.List.{List}
 use Prim.Native.Nat.{ℕ}
 use native.Mathlib.Omega.{arith}
 use lib.ListN.{take, length-replicate}
-use lib.Seq.{take-all, length-take-le}
+use lib.Seq.{length-take-le}
 use borrow.Author.Tests.{not-true, not-false}
 use Rattle.model.specs.declared.Cap.{Cap}
 use Rattle.model.specs.Table.{inOrder}
 use Rattle.rules.specs.Words.{rowsOf, rowsIn}
 use Rattle.rules.specs.Engine.{Front}
-use Rattle.rules.proofs.Laws.Words.{length-in}
 use Rattle.model.proofs.Lists.{clash}
 use Rattle.text.specs.Read.{same}
 use Rattle.listing.specs.Listing.{listed, listing}
 use Rattle.listing.specs.ReadListing.{isListing}
-use Rattle.listing.proofs.Laws.Front.{front-live, front-listing}
+use Rattle.listing.proofs.Laws.Front.{all-rows, front-live, front-listing}
 use Rattle.text.proofs.Laws.Write.{Wrote, wrote, wrote-none}
 use Rattle.text.proofs.Laws.Read.{same-is}
 use borrow.Author.Needs.{needs}
@@ -25,20 +24,17 @@ use Rattle.listing.proofs.reading.is_listing.Statement.{statement}
 use Rattle.listing.proofs.reading.is_listing.Tie as tie
 
 module _ (s ws : List ℕ) (issued : ℕ) where
-  all-rows : take 1024 (rowsIn ws) ≡ rowsIn ws
-  all-rows = take-all 1024 (rowsIn ws) (omega (arith, length-in ws))
-
   -- a table that is not in order, and one that is
   disordered : inOrder (take 1024 (rowsIn ws)) issued ≡ false → false ≡ isListing s (rowsIn ws) issued
   unfolding isListing
-  disordered h = sym (rw (ap (λ (t : List Cap). inOrder t issued) (sym all-rows) ∙ h))
+  disordered h = sym (rw (ap (λ (t : List Cap). inOrder t issued) (sym (all-rows ws)) ∙ h))
 
   module _ (k : ℕ) (f : Front (rowsIn ws) 1024 k) (h : inOrder (take 1024 (rowsIn ws)) issued ≡ true) where
     compared : isListing s (rowsIn ws) issued ≡ same s (listed (rowsOf ws k) issued)
     unfolding isListing
     compared =
-        rw (ap (λ (t : List Cap). inOrder t issued) (sym all-rows) ∙ h)
-        (ap (λ (t : List Cap). same s (listing t issued)) (sym all-rows) ∙ ap (same s) (front-listing ws 1024 k (omega arith) f issued h))
+        rw (ap (λ (t : List Cap). inOrder t issued) (sym (all-rows ws)) ∙ h)
+        (ap (λ (t : List Cap). same s (listing t issued)) (sym (all-rows ws)) ∙ ap (same s) (front-listing ws 1024 k (omega arith) f issued h))
 
 returns : tie.Need-returns
 returns c =

@@ -1,20 +1,21 @@
 -- `listing::writing::put_form` meets its contract. Each call is on a later row: the measure is how many rows are left.
 -- Assumes nothing.
 use mathlib.Core.Path.{_≡_, sym, _∙_, subst}
-use Prim.Native.Nat.{ℕ, _+_, _-_, _≤_, _<_}
+use Prim.Native.Nat.{ℕ, _+_, _-_, _<_}
 use mathlib.Core.List.{List}
 use native.Mathlib.Omega.{arith}
-use lib.ListN.{length, getD, set, length-set}
+use lib.ListN.{getD, set, length-set}
 use borrow.Author.Needs.{needs}
 use borrow.Fn.Kinds.{In}
 use borrow.Fn.PlainCycle.{Measures, is, falls, and}
 use Rattle.model.specs.declared.Cap.{Cap}
 use Rattle.rules.specs.Words.{rowAt, rowsOf}
-use Rattle.rules.proofs.Laws.Words.{length-rows, rows-at, in-at}
+use Rattle.rules.proofs.Laws.Words.{rows-at, in-at}
 use Rattle.model.specs.Table.{emptyRow}
 use Rattle.text.specs.Put.{Put, Room}
 use Rattle.listing.specs.Listing.{pieces}
 use Rattle.text.proofs.Laws.Put.{put-length}
+use Rattle.listing.proofs.Laws.Listing.{within, beyond}
 use Rattle.listing.proofs.Laws.Forms.{Inside, bracket-room, pieces-fit, entered, space-fits, child-fits, passed, bracket-fits, closed, formed}
 use Rattle.listing.proofs.writing.put_form.Reads as put-form
 use Rattle.listing.proofs.writing.put_form.Kinds as put-form-kinds
@@ -24,16 +25,9 @@ use Rattle.listing.proofs.writing.put_pieces.Reads as put-pieces-reads
 use Rattle.listing.proofs.writing.+put_form.{statement}
 use Rattle.listing.proofs.writing.+put_form.Tie.{close}
 
-module _ (ws : List ℕ) (n i : ℕ) (l : i < n) where
-  small : i < length (rowsOf ws n)
-  small = omega (arith, length-rows ws n)
-
-  -- the pieces that were put are those of row i
-  placed : {out a : List ℕ} {at h : ℕ} {c : Cap} → c ≡ rowAt ws i → Put out at (pieces c) a h → Put out at (pieces (getD (rowsOf ws n) i emptyRow)) a h
-  placed {out} {a} {at} {h} e p = subst (λ (d : Cap). Put out at (pieces d) a h) (e ∙ sym (rows-at ws n i l)) p
-
-past : (ws : List ℕ) (n k : ℕ) → n ≤ k → length (rowsOf ws n) ≤ k
-past ws n k l = omega (arith, length-rows ws n)
+-- the pieces that were put are those of row i
+placed : (ws : List ℕ) (n i : ℕ) → i < n → {out a : List ℕ} {at h : ℕ} {c : Cap} → c ≡ rowAt ws i → Put out at (pieces c) a h → Put out at (pieces (getD (rowsOf ws n) i emptyRow)) a h
+placed ws n i l {out} {a} {at} {h} e p = subst (λ (d : Cap). Put out at (pieces d) a h) (e ∙ sym (rows-at ws n i l)) p
 
 abbrev μ-put-form : Measures 4 put-form-kinds.ps ℕ
 μ-put-form κs a = a .1 .0 - a .1 .1 .1 .1 .0
@@ -79,15 +73,15 @@ pub +put-form-spec : {M : Type 1} → statement M
     (λ c. search needs)
     (λ c.
     let s = c .before .before .before .before .before .before .before in
-    entered (rowsOf (s .args .words .now) (s .args .n)) (s .args .i) (s .args .out .now) (s .args .at) (s .args .first .now) (s .args .next .now) (s .pre .1 .2) (small (s .args .words .now) (s .args .n) (s .args .i) (s .pre .1 .1)) (placed (s .args .words .now) (s .args .n) (s .args .i) (s .pre .1 .1) (c .before .before .before .before .row-at .ensures ∙ in-at (s .args .words .now) (s .args .i) (omega (arith, s .pre .1 .0, s .pre .1 .1))) (c .before .before .before .put-pieces .ensures)) (s .pre .1 .3))
+    entered (rowsOf (s .args .words .now) (s .args .n)) (s .args .i) (s .args .out .now) (s .args .at) (s .args .first .now) (s .args .next .now) (s .pre .1 .2) (within (s .args .words .now) (s .args .n) (s .args .i) (s .pre .1 .1)) (placed (s .args .words .now) (s .args .n) (s .args .i) (s .pre .1 .1) (c .before .before .before .before .row-at .ensures ∙ in-at (s .args .words .now) (s .args .i) (omega (arith, s .pre .1 .0, s .pre .1 .1))) (c .before .before .before .put-pieces .ensures)) (s .pre .1 .3))
     (λ c.
     let l = c .before in
     let s = c .before .before .before .before .before .before .before .before .before in
-    space-fits (rowsOf (s .args .words .now) (s .args .n)) (s .args .i) (l .loop .inv) (small (s .args .words .now) (s .args .n) (l .loop .k) (c .loop-test .taken)))
+    space-fits (rowsOf (s .args .words .now) (s .args .n)) (s .args .i) (l .loop .inv) (within (s .args .words .now) (s .args .n) (l .loop .k) (c .loop-test .taken)))
     (λ c.
     let l = c .before .before in
     let s = c .before .before .before .before .before .before .before .before .before .before in
-    let h = space-fits (rowsOf (s .args .words .now) (s .args .n)) (s .args .i) (l .loop .inv) (small (s .args .words .now) (s .args .n) (l .loop .k) (c .before .loop-test .taken)) in
+    let h = space-fits (rowsOf (s .args .words .now) (s .args .n)) (s .args .i) (l .loop .inv) (within (s .args .words .now) (s .args .n) (l .loop .k) (c .before .loop-test .taken)) in
     let same = l .loop .inv .rest .kept in
     omega (arith, s .good .1 .1 .1 .1 .1 .0 .0, put-length (c .before .before .before .before .before .before .put-pieces .ensures), length-set (s .args .out .now) (s .args .at) 40))
     (λ c κs.
@@ -95,34 +89,34 @@ pub +put-form-spec : {M : Type 1} → statement M
     let s = c .before .before .before .before .before .before .before .before .before .before in
     let is-t : s .args .n - s .args .i ≡ t = s .pre .0 in
     let less : s .args .n - l .loop .k < t = omega (arith, l .loop .inv .after, c .before .loop-test .taken) in
-    (less, (s .pre .1 .0, c .before .loop-test .taken, s .pre .1 .2, child-fits (rowsOf (s .args .words .now) (s .args .n)) (s .args .i) (l .loop .inv) (small (s .args .words .now) (s .args .n) (l .loop .k) (c .before .loop-test .taken)))))
+    (less, (s .pre .1 .0, c .before .loop-test .taken, s .pre .1 .2, simp length-set (child-fits (rowsOf (s .args .words .now) (s .args .n)) (s .args .i) (l .loop .inv) (within (s .args .words .now) (s .args .n) (l .loop .k) (c .before .loop-test .taken))))))
     (λ c. search needs)
     (λ c. search needs)
     (λ c.
     let l = c .before .before .before .before .before .before in
     let s = c .before .before .before .before .before .before .before .before .before .before .before .before .before .before in
-    let n = s .pre .1 .2 .siblings (l .loop .k) (small (s .args .words .now) (s .args .n) (l .loop .k) (c .before .before .before .before .before .loop-test .taken)) in
+    let n = s .pre .1 .2 .siblings (l .loop .k) (within (s .args .words .now) (s .args .n) (l .loop .k) (c .before .before .before .before .before .loop-test .taken)) in
     omega (arith, n .from, c .before .before .before .before .before .loop-test .taken))
     (λ c.
     let l = c .before .before .before .before .before .before in
     let s = c .before .before .before .before .before .before .before .before .before .before .before .before .before .before in
-    let k = small (s .args .words .now) (s .args .n) (l .loop .k) (c .before .before .before .before .before .loop-test .taken) in
+    let k = within (s .args .words .now) (s .args .n) (l .loop .k) (c .before .before .before .before .before .loop-test .taken) in
     passed (rowsOf (s .args .words .now) (s .args .n)) (s .args .i) (l .loop .inv) (s .args .next .now) (s .pre .1 .2 .siblings (l .loop .k) k) k (c .before .before .before .put-form .ensures))
     (λ c.
     let l = c .before in
     let s = c .before .before .before .before .before .before .before .before .before in
-    bracket-fits (rowsOf (s .args .words .now) (s .args .n)) (s .args .i) (l .loop .inv) (past (s .args .words .now) (s .args .n) (l .loop .k) (c .loop-test .left)))
+    bracket-fits (rowsOf (s .args .words .now) (s .args .n)) (s .args .i) (l .loop .inv) (beyond (s .args .words .now) (s .args .n) (l .loop .k) (c .loop-test .left)))
     (λ c.
     let l = c .before in
     let s = c .before .before .before .before .before .before .before .before .before in
-    let h = bracket-fits (rowsOf (s .args .words .now) (s .args .n)) (s .args .i) (l .loop .inv) (past (s .args .words .now) (s .args .n) (l .loop .k) (c .loop-test .left)) in
+    let h = bracket-fits (rowsOf (s .args .words .now) (s .args .n)) (s .args .i) (l .loop .inv) (beyond (s .args .words .now) (s .args .n) (l .loop .k) (c .loop-test .left)) in
     let same = l .loop .inv .rest .kept in
     omega (arith, s .good .1 .1 .1 .1 .1 .0 .0, put-length (c .before .before .before .before .before .put-pieces .ensures), length-set (s .args .out .now) (s .args .at) 40))
     (λ c.
     let l = c .before in
     let s = c .before .before .before .before .before .before .before .before .before in
-    put-length (formed (rowsOf (s .args .words .now) (s .args .n)) (s .args .i) (s .args .out .now) (s .args .at) (s .args .first .now) (s .args .next .now) (s .pre .1 .2) (small (s .args .words .now) (s .args .n) (s .args .i) (s .pre .1 .1)) (placed (s .args .words .now) (s .args .n) (s .args .i) (s .pre .1 .1) (c .before .before .before .before .before .before .row-at .ensures ∙ in-at (s .args .words .now) (s .args .i) (omega (arith, s .pre .1 .0, s .pre .1 .1))) (c .before .before .before .before .before .put-pieces .ensures)) (closed (rowsOf (s .args .words .now) (s .args .n)) (s .args .i) (l .loop .inv) (past (s .args .words .now) (s .args .n) (l .loop .k) (c .loop-test .left)))))
+    put-length (formed (rowsOf (s .args .words .now) (s .args .n)) (s .args .i) (s .args .out .now) (s .args .at) (s .args .first .now) (s .args .next .now) (s .pre .1 .2) (within (s .args .words .now) (s .args .n) (s .args .i) (s .pre .1 .1)) (placed (s .args .words .now) (s .args .n) (s .args .i) (s .pre .1 .1) (c .before .before .before .before .before .before .row-at .ensures ∙ in-at (s .args .words .now) (s .args .i) (omega (arith, s .pre .1 .0, s .pre .1 .1))) (c .before .before .before .before .before .put-pieces .ensures)) (closed (rowsOf (s .args .words .now) (s .args .n)) (s .args .i) (l .loop .inv) (beyond (s .args .words .now) (s .args .n) (l .loop .k) (c .loop-test .left)))))
     (λ c.
     let l = c .before in
     let s = c .before .before .before .before .before .before .before .before .before in
-    formed (rowsOf (s .args .words .now) (s .args .n)) (s .args .i) (s .args .out .now) (s .args .at) (s .args .first .now) (s .args .next .now) (s .pre .1 .2) (small (s .args .words .now) (s .args .n) (s .args .i) (s .pre .1 .1)) (placed (s .args .words .now) (s .args .n) (s .args .i) (s .pre .1 .1) (c .before .before .before .before .before .before .row-at .ensures ∙ in-at (s .args .words .now) (s .args .i) (omega (arith, s .pre .1 .0, s .pre .1 .1))) (c .before .before .before .before .before .put-pieces .ensures)) (closed (rowsOf (s .args .words .now) (s .args .n)) (s .args .i) (l .loop .inv) (past (s .args .words .now) (s .args .n) (l .loop .k) (c .loop-test .left))))
+    formed (rowsOf (s .args .words .now) (s .args .n)) (s .args .i) (s .args .out .now) (s .args .at) (s .args .first .now) (s .args .next .now) (s .pre .1 .2) (within (s .args .words .now) (s .args .n) (s .args .i) (s .pre .1 .1)) (placed (s .args .words .now) (s .args .n) (s .args .i) (s .pre .1 .1) (c .before .before .before .before .before .before .row-at .ensures ∙ in-at (s .args .words .now) (s .args .i) (omega (arith, s .pre .1 .0, s .pre .1 .1))) (c .before .before .before .before .before .put-pieces .ensures)) (closed (rowsOf (s .args .words .now) (s .args .n)) (s .args .i) (l .loop .inv) (beyond (s .args .words .now) (s .args .n) (l .loop .k) (c .loop-test .left))))

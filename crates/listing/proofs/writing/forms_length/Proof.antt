@@ -9,7 +9,7 @@ use native.Mathlib.Numerals.{add-one}
 use Rattle.model.specs.declared.Cap.{Cap}
 use Rattle.rules.specs.Words.{rowAt, rowsOf}
 use Rattle.rules.proofs.Laws.Words.{in-at}
-use Rattle.listing.specs.Met.{formLength, formsLength}
+use Rattle.listing.specs.Listing.{formLength, total, formsLength}
 use Rattle.listing.proofs.Laws.Listing.{forms-more}
 use Rattle.listing.proofs.writing.forms_length.Statement.{statement}
 use Rattle.listing.proofs.writing.forms_length.Tie as tie
@@ -24,7 +24,7 @@ abbrev μ-loop : tie.MeasureT-loop
 μ-loop words n total₀ i₀ total i = n - i
 
 loop-holds : tie.Need-loop-holds Inv-loop μ-loop
-unfolding formsLength rowsOf
+unfolding total rowsOf
 loop-holds c = (omega arith, refl, omega arith)
 
 loop-again : tie.Need-loop-again Inv-loop μ-loop

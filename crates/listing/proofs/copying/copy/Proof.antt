@@ -1,4 +1,4 @@
--- `listing::reading::copy` meets its contract. The invariant: the words before i are copied.
+-- `listing::copying::copy` meets its contract. The invariant: the words before i are copied.
 -- Assumes nothing.
 use mathlib.Core.Path.{_≡_, sym, _∙_}
 use Prim.Native.Nat.{ℕ, _+_, _-_, _≤_, _<_}
@@ -8,8 +8,8 @@ use native.Mathlib.Numerals.{add-one}
 use lib.ListN.{length, getD, set, take, length-set}
 use lib.Seq.{take-suc, take-suc-set, take-all}
 use borrow.Author.Needs.{needs}
-use Rattle.listing.proofs.reading.copy.Statement.{statement}
-use Rattle.listing.proofs.reading.copy.Tie as tie
+use Rattle.listing.proofs.copying.copy.Statement.{statement}
+use Rattle.listing.proofs.copying.copy.Tie as tie
 
 one-more : (from to : List ℕ) (i : ℕ) → i < length to → i < length from → take i to ≡ take i from → take (i + 1) (set to i (getD from i 0)) ≡ take (i + 1) from
 one-more from to i a d e = rw (add-one i, take-suc-set to i (getD from i 0) a, take-suc from i 0 d, e)

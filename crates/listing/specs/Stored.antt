@@ -1,0 +1,25 @@
+-- What the contracts inside the reader speak of: rows stored one behind the other, and how far a text was read. No public promise rests on it.
+-- Assumes nothing.
+use mathlib.Core.Path.{_≡_}
+use mathlib.Core.List.{List, reverse}
+use Prim.Native.Nat.{ℕ, _-_, _≤_, _<_}
+use lib.ListN.{length, drop}
+use Rattle.model.specs.declared.Cap.{Cap}
+use Rattle.model.specs.Table.{lentTable}
+use Rattle.rules.specs.Words.{rowsOf, rowsIn}
+use Rattle.listing.specs.Forms.{Reading}
+
+-- f k, at every k above μ, reads the text s up to its last bytes, and then has these rows
+pub record Reads (f : ℕ → Reading) (μ : ℕ) (s : List ℕ) (left : ℕ) (rows : List Cap) : Type 0 where
+  pub inside : left ≤ length s
+  pub reads : (k : ℕ) → μ < k → f k ≡ record { rest = drop (length s - left) s; rows = rows }
+
+-- the first count rows that words have, the newest first
+abbrev pub newest : List ℕ → ℕ → List Cap
+newest ws count = reverse (rowsOf ws count)
+
+-- words hold a table of 1,024 rows, of which the first count were stored and the others are zeros
+pub record Stored (ws : List ℕ) (count : ℕ) : Type 0 where
+  pub few : count ≤ 1024
+  pub long : length ws ≡ 6144
+  pub table : rowsIn ws ≡ lentTable 1024 (newest ws count)
