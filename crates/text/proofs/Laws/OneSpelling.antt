@@ -11,7 +11,7 @@ use Rattle.model.specs.declared.Event.{Event}
 use Rattle.text.specs.Result.{value, refused}
 use Rattle.text.specs.Event.{spell, hasSpelling, InRange}
 use Rattle.text.specs.Write.{writeEvent}
-use Rattle.text.specs.Read.{same, guess, readEvent}
+use Rattle.text.specs.Read.{same, isSpelling, guess, readEvent}
 use Rattle.text.proofs.Laws.Range.{guess-in-range}
 use Rattle.text.proofs.Laws.Read.{same-refl, same-true}
 use Rattle.text.proofs.Laws.Write.{wrote}
@@ -41,6 +41,15 @@ read-is-spelling s e h = go (hasSpelling (guess s)) (same s (spell (guess s))) r
         (ap hasSpelling (sym is) ∙ p, rw is at (guess-in-range s), same-true s (spell (guess s)) q ∙ ap spell is)
     go true false p q h = absurd (let z : _≡_ {A = ℕ} 0 1 = cc in omega arith)
     go false y p q h = absurd (let z : _≡_ {A = ℕ} 0 1 = cc in omega arith)
+
+-- a line that is not read is refusal 2
+pub refused-is-2 : (s : List ℕ) (k : ℕ) → readEvent s ≡ refused k → k ≡ 2
+unfolding readEvent
+refused-is-2 s k h = go (isSpelling s (guess s)) h
+  where
+    go : (t : Bool) → cond t (value (guess s)) (refused 2) ≡ refused k → k ≡ 2
+    go true h = absurd (let z : _≡_ {A = ℕ} 0 1 = cc in omega arith)
+    go false h = cc
 
 -- a line that is refused is the spelling of no event
 pub refused-is-none : (s : List ℕ) → readEvent s ≡ refused 2 → (e : Event) → hasSpelling e ≡ true → InRange e → s ≡ spell e → ⊥
