@@ -1,4 +1,4 @@
--- What a call answers, in document 01's terms: a value, or a refusal by its number.
+-- Document 01, "Eleven ways to be turned down": what a call of the text layer answers, a value or a refusal by its number.
 -- Assumes nothing.
 use Prim.Native.Nat.{ℕ}
 

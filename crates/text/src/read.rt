@@ -1,4 +1,5 @@
-// Event lines, read.
+// Event lines, read: the event that a line can be the spelling of is guessed, and accepted when it writes back to the same
+// bytes. So a line in any other spelling is refused by construction.
 use crate::lines;
 use crate::numbers;
 use crate::write;
@@ -6,6 +7,7 @@ use crate::write::Written;
 use model::Addr;
 use model::Event;
 use model::Name;
+use model::Refusal;
 use model::Span;
 ghost use mathlib.Core.Path.{_≡_};
 ghost use Prim.Native.Nat.{_≤_};
@@ -16,10 +18,10 @@ ghost use Rattle.text.specs.Read.{nameOf, spanOf, rightOf, guess, isSpel
 // What a line reads as: the event whose spelling it is, or refusal 2.
 pub enum EventRead {
     Event(Event),
-    Refused,
+    Refused(Refusal),
 }
 
-// The byte at an index, 0 past the end.
+// Internal. The byte at an index, 0 past the end.
 pub fn byte_at(text: &[u8], index: usize) -> u8
     ensures { λ r. ⌜ r ≡ getD (now (text .entry)) index 0 ⌝ }
 {
@@ -41,7 +43,7 @@ fn span_of(start: &[u8], length: &[u8]) -> Span
     }
 }
 
-// The right that a word spells: `ro` has an o.
+// Internal. The right that a word spells: `ro` has an o.
 pub fn right_of(word: &[u8]) -> u8
     ensures { λ r. ⌜ r ≡ rightOf (now (word .entry)) ⌝ }
 {
@@ -83,7 +85,7 @@ fn is_spelling(line: &[u8], event: Event) -> bool
     check::same(line, &buffer[..length])
 }
 
-// Reads a line: the event whose spelling it is.
+// Reads a line by itself: the event whose spelling it is, its newline included, or refusal 2.
 pub fn read_event(line: &[u8]) -> EventRead
     ensures { λ r. ⌜ readAnswer r ≡ readEvent (now (line .entry)) ⌝ }
 {
@@ -91,6 +93,6 @@ pub fn read_event(line: &[u8]) -> EventRead
     if is_spelling(line, event) {
         EventRead::Event(event)
     } else {
-        EventRead::Refused
+        EventRead::Refused(Refusal::Misspelt)
     }
 }

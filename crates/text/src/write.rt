@@ -1,13 +1,15 @@
-// Event lines, written.
+// Event lines, written: a line is measured first and written second, so that a refusal leaves the buffer untouched.
 use crate::pieces;
 use model::Event;
 use model::Refusal;
+ghost use mathlib.Core.Path.{_≡_};
 ghost use mathlib.Core.Bool.{true};
 ghost use mathlib.Core.List.{[], _++_};
-ghost use Rattle.text.specs.Event.{spaced, bytes, ending, isRight, spell, hasSpelling};
-ghost use Rattle.text.specs.Write.{Short, Writes};
+ghost use Rattle.model.specs.Table.{isRight};
+ghost use Rattle.text.specs.Event.{spaced, bytes, ending};
+ghost use Rattle.text.specs.Write.{Short, Writes, outcome, writeEvent};
 
-// What writing answers: the length of the text, or a refusal.
+// What a writer answers: the length of the text, or a refusal.
 pub enum Written {
     Length(usize),
     Refused(Refusal),
@@ -42,9 +44,10 @@ fn write_with_right(word: &[u8], numbers: &[u32], right: u8, out: &mut [u8]) -> 
     }
 }
 
-// Writes the spelling of an event at the buffer's first bytes.
+// Writes the line of an event at the buffer's first bytes and answers its length; refusal 2 for a right that is neither 1 nor 2,
+// and 11 where the line is longer than the buffer.
 pub fn write_event(event: Event, out: &mut [u8]) -> Written
-    ensures { λ r. ⌜ Writes (hasSpelling event) (spell event) (now (out .entry)) (now (out .exit)) r ⌝ }
+    ensures { λ r. ⌜ outcome r (now (out .exit)) ≡ writeEvent event (now (out .entry)) ⌝ }
 {
     match event {
         Event::Create(span, right) => {

@@ -1,21 +1,21 @@
--- The document's examples, computed by the definitions.
+-- Document 01's examples of lines, computed by the definitions. The program `text_cases` runs these and more on the code.
 -- Assumes nothing.
 use mathlib.Core.Path.{_≡_, refl}
-use mathlib.Core.Bool.{true}
+use mathlib.Core.List.{List, [], _∷_, map}
 use Prim.Native.Nat.{ℕ}
 use Prim.Native.String.{String}
 use lib.ListN.{replicate}
-use Rattle.text.specs.Result.{value, refused}
-use Rattle.text.specs.Class.{classOf}
-use Rattle.text.specs.Line.{through, nextLine}
-use Rattle.text.specs.Decimal.{numeral, decimal, numberFrom}
-use Rattle.text.specs.Event.{bytes, spaced, spell, hasSpelling}
-use Rattle.text.specs.Write.{written}
-use Rattle.text.specs.Read.{same, guess, readEvent}
 use Rattle.model.specs.declared.Name.{Name}
 use Rattle.model.specs.declared.Span.{Span}
 use Rattle.model.specs.declared.Event.{Event}
 use Rattle.model.specs.declared.Event.the-variants.{Create, Borrow, Read, Write, Drop}
+use Rattle.text.specs.Result.{Result, value, refused}
+use Rattle.text.specs.Class.{classOf}
+use Rattle.text.specs.Line.{through, nextLine}
+use Rattle.text.specs.Decimal.{numeral, decimal, numberFrom}
+use Rattle.text.specs.Event.{bytes, spaced, spell, hasSpelling}
+use Rattle.text.specs.Write.{written, stored, writeEvent}
+use Rattle.text.specs.Read.{same, guess, readEvent}
 
 abbrev name : ℕ → Name
 name n = record { 0 = n }
@@ -23,63 +23,40 @@ name n = record { 0 = n }
 abbrev span : ℕ → ℕ → Span
 span a l = record { start = record { 0 = a }; length = l }
 
--- the spelling of each kind of event
-spells : Event → String → Type 0
-spells e s = spell e ≡ bytes s
+abbrev readings : List String → List (Result Event)
+readings = map (λ s. readEvent (bytes s))
 
-create : spells (Create (span 0 64) 2) "(create 0 64 rw)\n"
-unfolding spells spell spaced decimal numeral
-create = refl
+-- a line of each kind
+good : readings ("(create 4294967295 1 rw)\n" ∷ "(borrow 1 16 16 ro)\n" ∷ "(read 1 0 4)\n" ∷ "(write 2 0 8)\n" ∷ "(drop 1)\n" ∷ [])
+    ≡ value (Create (span 4294967295 1) 2)
+    ∷ value (Borrow (name 1) (span 16 16) 1)
+    ∷ value (Read (name 1) (span 0 4))
+    ∷ value (Write (name 2) (span 0 8))
+    ∷ value (Drop (name 1))
+    ∷ []
+unfolding readEvent guess through classOf numberFrom same hasSpelling spell spaced decimal numeral
+good = refl
 
-top : spells (Create (span 4294967295 1) 2) "(create 4294967295 1 rw)\n"
-unfolding spells spell spaced decimal numeral
-top = refl
-
-borrow : spells (Borrow (name 1) (span 16 16) 1) "(borrow 1 16 16 ro)\n"
-unfolding spells spell spaced decimal numeral
-borrow = refl
-
-read : spells (Read (name 1) (span 0 4)) "(read 1 0 4)\n"
-unfolding spells spell spaced decimal numeral
-read = refl
-
-write : spells (Write (name 2) (span 0 8)) "(write 2 0 8)\n"
-unfolding spells spell spaced decimal numeral
-write = refl
-
-drop : spells (Drop (name 1)) "(drop 1)\n"
-unfolding spells spell spaced decimal numeral
-drop = refl
+-- refusal 2: a leading zero, a number above the limit, two spaces, a tab, a missing newline, bytes after it, and an empty line
+bad : readings ("(read 01 0 8)\n" ∷ "(drop 4294967296)\n" ∷ "(drop  1)\n" ∷ "(drop\t1)\n" ∷ "(drop 1)" ∷ "(drop 1)\n\n" ∷ "\n" ∷ [])
+    ≡ replicate 7 (refused 2)
+unfolding readEvent guess through classOf numberFrom same hasSpelling spell spaced decimal numeral
+bad = refl
 
 -- refusal 11: `(drop 1)` with its newline into 8 bytes
-no-room : written true (bytes "(drop 1)\n") (replicate 8 0) ≡ refused 11
-unfolding written
+no-room : writeEvent (Drop (name 1)) (replicate 8 0) ≡ record { answer = refused 11; buffer = replicate 8 0 }
+unfolding writeEvent written stored hasSpelling spell spaced decimal numeral
 no-room = refl
 
--- refusal 2: a leading zero, a number above 32 bits, an empty line, and a last line without its newline
-refuses : String → Type 0
-refuses s = readEvent (bytes s) ≡ refused 2
+-- refusal 2: an event whose right is neither 1 nor 2
+no-right : writeEvent (Create (span 0 64) 3) (replicate 20 0) ≡ record { answer = refused 2; buffer = replicate 20 0 }
+unfolding writeEvent written stored hasSpelling spell spaced decimal numeral
+no-right = refl
 
-leading-zero : refuses "(read 01 0 8)\n"
-unfolding refuses readEvent guess through classOf numberFrom same hasSpelling spell spaced decimal numeral
-leading-zero = refl
-
-too-large : refuses "(drop 4294967297)\n"
-unfolding refuses readEvent guess through classOf numberFrom same hasSpelling spell spaced decimal numeral
-too-large = refl
-
-empty-line : refuses "\n"
-unfolding refuses readEvent guess through classOf numberFrom same hasSpelling spell spaced decimal numeral
-empty-line = refl
-
-no-newline : refuses "(drop 1)"
-unfolding refuses readEvent guess through classOf numberFrom same hasSpelling spell spaced decimal numeral
-no-newline = refl
-
--- and what is spelled right is read
-reads : readEvent (bytes "(write 2 0 8)\n") ≡ value (Write (name 2) (span 0 8))
-unfolding readEvent guess through classOf numberFrom same hasSpelling spell spaced decimal numeral
-reads = refl
+-- the bytes after the line stay
+room : writeEvent (Drop (name 1)) (bytes "............") ≡ record { answer = value 9; buffer = bytes "(drop 1)\n..." }
+unfolding writeEvent written stored hasSpelling spell spaced decimal numeral
+room = refl
 
 -- the next line of a trace
 line : nextLine (bytes "(drop 1)\n(drop 2)\n") ≡ bytes "(drop 1)\n"

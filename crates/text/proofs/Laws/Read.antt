@@ -1,13 +1,13 @@
 -- Laws of `guess` and `same`.
 -- Assumes nothing.
 use mathlib.Core.Path.{_≡_, refl, sym, ap₂, _∙_}
-use mathlib.Core.Bool.{Bool, true, false, _&&_}
+use mathlib.Core.Bool.{Bool, true, false}
 use mathlib.Core.List.{List, [], _∷_}
 use Prim.Native.Nat.{ℕ}
-use native.Mathlib.Omega.{arith}
 use lib.Dec.{eqb}
 use lib.ListN.{getD}
 use borrow.Author.Tests.{eqb-true, eq-eqb, ne-eqb}
+use Rattle.model.proofs.Lists.{clash, and-both}
 use Rattle.text.specs.Line.{afterSpace}
 use Rattle.text.specs.Read.{same, nameOf, spanOf, rightOf, guess}
 use Rattle.model.specs.declared.Event.the-variants.{Create, Borrow, Read, Write, Drop}
@@ -50,13 +50,11 @@ same-refl (a ∷ s) = rw (eq-eqb a a refl) (same-refl s)
 pub same-true : (s t : List ℕ) → same s t ≡ true → s ≡ t
 unfolding same
 same-true [] [] h = refl
-same-true [] (b ∷ t) h = absurd (let z : _≡_ {A = ℕ} 0 1 = cc in omega arith)
-same-true (a ∷ s) [] h = absurd (let z : _≡_ {A = ℕ} 0 1 = cc in omega arith)
-same-true (a ∷ s) (b ∷ t) h = go (eqb a b) refl h (same-true s t)
-  where
-    go : (e : Bool) → eqb a b ≡ e → (e && same s t) ≡ true → (same s t ≡ true → s ≡ t) → a ∷ s ≡ b ∷ t
-    go true e h rec = ap₂ (λ (x : ℕ) (l : List ℕ). x ∷ l) (eqb-true a b e) (rec h)
-    go false e h rec = absurd (let z : _≡_ {A = ℕ} 0 1 = cc in omega arith)
+same-true [] (b ∷ t) h = clash h refl
+same-true (a ∷ s) [] h = clash h refl
+same-true (a ∷ s) (b ∷ t) h =
+    let both = and-both (eqb a b) (same s t) h in
+    ap₂ (λ (x : ℕ) (l : List ℕ). x ∷ l) (eqb-true a b (both .0)) (same-true s t (both .1))
 
 -- a test that tells whether two texts are equal is `same`
 pub same-is : (r : Bool) (s t : List ℕ) → (r ≡ true → s ≡ t) → (s ≡ t → r ≡ true) → r ≡ same s t

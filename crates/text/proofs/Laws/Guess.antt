@@ -1,27 +1,25 @@
--- The two theorems about event lines: what was written is read back, and a line that is read is the event's spelling.
+-- What is guessed of an event's spelling is that event: each of its words is found again.
 -- Assumes nothing.
-use mathlib.Core.Path.{_≡_, refl, sym, ap, _∙_}
-use mathlib.Core.Bool.{Bool, true, false, cond, _&&_}
+use mathlib.Core.Path.{_≡_, refl, ap, _∙_}
+use mathlib.Core.Bool.{Bool, true, false, cond}
 use mathlib.Core.List.{List, [], _∷_, _++_}
 use mathlib.Core.Logic.{⊎-elim}
 use Prim.Native.Nat.{ℕ, _^_, _<_}
-use native.Mathlib.Omega.{arith}
 use lib.Dec.{eqb}
 use borrow.Author.Tests.{eqb-false}
 use Rattle.text.specs.Class.{classOf}
 use Rattle.text.specs.Line.{through, afterSpace}
 use Rattle.text.specs.Decimal.{decimal, numberFrom}
-use Rattle.text.specs.Event.{bytes, spaced, ending, isRight, spell, hasSpelling}
-use Rattle.text.specs.Read.{same, nameOf, spanOf, rightOf, guess, readEvent}
+use Rattle.model.specs.Table.{isRight}
+use Rattle.text.specs.Event.{bytes, spaced, ending, spanNumbers, spell, hasSpelling, Below32, InRange}
+use Rattle.text.specs.Read.{nameOf, spanOf, rightOf, guess}
 use Rattle.text.proofs.Laws.Number.{Stops}
-use Rattle.text.proofs.Laws.Range.{Small, InRange}
 use Rattle.text.proofs.Laws.Words.{Plain, plain-decimal, next, number-is, rights}
-use Rattle.text.proofs.Laws.Read.{guess-create, guess-borrow, guess-read, guess-write, guess-drop, same-refl, same-true}
+use Rattle.text.proofs.Laws.Read.{guess-create, guess-borrow, guess-read, guess-write, guess-drop}
 use Rattle.model.specs.declared.Name.{Name}
 use Rattle.model.specs.declared.Span.{Span}
 use Rattle.model.specs.declared.Event.{Event}
 use Rattle.model.specs.declared.Event.the-variants.{Create, Borrow, Read, Write, Drop}
-use Rattle.text.specs.Result.{value, refused}
 
 -- the words of a line whose numbers are followed by e, as a name and as a span
 module _ (e : List ℕ) (stop : Stops e) where
@@ -56,9 +54,9 @@ ending-stops r = go (eqb r 1)
     go false v = refl
 
 -- the name and the span of a line that has both
-module _ (e w : List ℕ) (stop : Stops e) (plain : Plain w) (n : Name) (s : Span) (h : Small (n .0 ∷ s .start .0 ∷ s .length ∷ [])) where
+module _ (e w : List ℕ) (stop : Stops e) (plain : Plain w) (n : Name) (s : Span) (h : Below32 (n .0 ∷ spanNumbers s)) where
   abbrev named : List ℕ
-  named = w ++ (spaced (n .0 ∷ s .start .0 ∷ s .length ∷ []) ++ e)
+  named = w ++ (spaced (n .0 ∷ spanNumbers s) ++ e)
 
   name-back : nameOf (afterSpace named) ≡ n
   name-back = name-is e stop n _ (h .0) (first e stop w plain (n .0) (s .start .0 ∷ s .length ∷ []))
@@ -68,7 +66,7 @@ module _ (e w : List ℕ) (stop : Stops e) (plain : Plain w) (n : Name) (s : Spa
       span-is e stop s [] (h .1 .0) (h .1 .1 .0) (second e stop w plain (n .0) (s .start .0) (s .length ∷ [])) (third e stop w plain (n .0) (s .start .0) (s .length) [])
 
 -- what is guessed of a spelling is its event
-guess-spell : (e : Event) → hasSpelling e ≡ true → InRange e → guess (spell e) ≡ e
+pub guess-spell : (e : Event) → hasSpelling e ≡ true → InRange e → guess (spell e) ≡ e
 unfolding spell hasSpelling spaced through classOf numberFrom
 guess-spell (Create s r) h k =
     let e = bytes (ending r) in
@@ -100,30 +98,3 @@ guess-spell (Drop n) h k =
     let w = bytes "(drop" in
     guess-drop (spell (Drop n)) (eqb-false 100 99 refl) (eqb-false 100 98 refl) (eqb-false 100 114 refl) (eqb-false 100 119 refl)
     ∙ ap Drop (name-is e (λ v. refl) n [] (k .0) (first e (λ v. refl) w (λ t. refl) (n .0) []))
-
--- ---- the theorems
-
--- what was written is read back
-pub read-spell : (e : Event) → hasSpelling e ≡ true → InRange e → readEvent (spell e) ≡ value e
-unfolding readEvent
-read-spell e h k = rw (guess-spell e h k, h, same-refl (spell e))
-
--- no other text is read
-pub spell-read : (s : List ℕ) (e : Event) → readEvent s ≡ value e → (hasSpelling e ≡ true) × (s ≡ spell e)
-unfolding readEvent
-spell-read s e h = go (hasSpelling (guess s)) (same s (spell (guess s))) refl refl h
-  where
-    go : (x y : Bool) → hasSpelling (guess s) ≡ x → same s (spell (guess s)) ≡ y → cond (x && y) (value (guess s)) (refused 2) ≡ value e → (hasSpelling e ≡ true) × (s ≡ spell e)
-    go true true p q h =
-        let is : guess s ≡ e = cc in
-        (ap hasSpelling (sym is) ∙ p, same-true s (spell (guess s)) q ∙ ap spell is)
-    go true false p q h = absurd (let z : _≡_ {A = ℕ} 0 1 = cc in omega arith)
-    go false y p q h = absurd (let z : _≡_ {A = ℕ} 0 1 = cc in omega arith)
-
--- what is refused is the spelling of no event
-pub unread : (s : List ℕ) → readEvent s ≡ refused 2 → (e : Event) → hasSpelling e ≡ true → InRange e → s ≡ spell e → ⊥
-unread s h e he ke is = let z : _≡_ {A = ℕ} 0 1 = cc (ap readEvent is, read-spell e he ke) in omega arith
-
--- one event has one spelling, and two events never share one
-pub spell-one : (d e : Event) → hasSpelling d ≡ true → hasSpelling e ≡ true → InRange d → InRange e → spell d ≡ spell e → d ≡ e
-spell-one d e hd he kd ke h = sym (guess-spell d hd kd) ∙ ap guess h ∙ guess-spell e he ke

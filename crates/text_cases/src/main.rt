@@ -1,0 +1,15 @@
+// Runs the public calls on event lines, document 01, "The bracket text": its examples for refusals 2 and 11, and a table of good
+// and bad lines, which is standard input. Each case is one line of output: what it is, and what was answered.
+mod reading;
+mod show;
+mod writing;
+
+fn main() {
+    let mut buffer = io::buffer();
+    let length = io::read_full(libc::STDIN_FILENO, &mut buffer);
+    reading::cases(&buffer[..length]);
+    reading::any_byte();
+    reading::next_lines();
+    writing::lengths();
+    writing::refusals();
+}

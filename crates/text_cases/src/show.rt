@@ -1,0 +1,91 @@
+// What was answered, in words and numbers.
+use libc::STDOUT_FILENO;
+use model::Event;
+use model::Name;
+use model::Refusal;
+use model::Span;
+ghost use mathlib.Core.Path.{_≡_};
+ghost use Rattle.model.specs.Answers.{number};
+
+pub fn say(text: &[u8]) {
+    io::write_all(STDOUT_FILENO, text);
+}
+
+pub fn say_length(n: usize) {
+    say(b" ");
+    io::print_decimal(STDOUT_FILENO, n as u64);
+}
+
+fn say_number(n: u32) {
+    say(b" ");
+    io::print_decimal(STDOUT_FILENO, n as u64);
+}
+
+fn say_right(right: u8) {
+    say(b" ");
+    io::print_decimal(STDOUT_FILENO, right as u64);
+}
+
+fn say_name(name: Name) {
+    say_number(name.0);
+}
+
+fn say_span(span: Span) {
+    say_number(span.start.0);
+    say_number(span.length);
+}
+
+// Document 01's number of a refusal.
+fn number_of(refusal: Refusal) -> u32
+    ensures { λ r. ⌜ r ≡ number refusal ⌝ }
+{
+    match refusal {
+        Refusal::Disordered => 1,
+        Refusal::Misspelt => 2,
+        Refusal::IllegalSpan => 3,
+        Refusal::Unissued => 4,
+        Refusal::Ended => 5,
+        Refusal::OutsideSpan => 6,
+        Refusal::ReadOnly => 7,
+        Refusal::TooDeep => 8,
+        Refusal::NamesSpent => 9,
+        Refusal::TableFull => 10,
+        Refusal::BufferTooShort => 11,
+    }
+}
+
+pub fn say_refusal(refusal: Refusal) {
+    say(b" refused");
+    say_number(number_of(refusal));
+}
+
+// An event: its kind, and its values, the right as 1 or 2.
+pub fn say_event(event: Event) {
+    match event {
+        Event::Create(span, right) => {
+            say(b" create");
+            say_span(span);
+            say_right(right);
+        }
+        Event::Borrow(name, span, right) => {
+            say(b" borrow");
+            say_name(name);
+            say_span(span);
+            say_right(right);
+        }
+        Event::Read(name, span) => {
+            say(b" read");
+            say_name(name);
+            say_span(span);
+        }
+        Event::Write(name, span) => {
+            say(b" write");
+            say_name(name);
+            say_span(span);
+        }
+        Event::Drop(name) => {
+            say(b" drop");
+            say_name(name);
+        }
+    }
+}
