@@ -1,0 +1,4 @@
+pub mod Turn
+pub mod Order
+pub mod History
+pub mod Report
