@@ -7,6 +7,7 @@ use mathlib.Core.List.{List, reverse}
 use lib.Dec.{leb}
 use lib.ListN.{length}
 use Rattle.model.specs.declared.Cap.{Cap}
+use Rattle.model.specs.Answers.{number}
 use Rattle.model.specs.Table.{liveRows, lentTable, inOrder}
 use Rattle.rules.specs.Words.{rowsOf, rowsIn}
 use Rattle.text.specs.Result.{Result, value, refused}
@@ -14,7 +15,7 @@ use Rattle.text.specs.Read.{same}
 use Rattle.listing.specs.Listing.{listing}
 use Rattle.listing.specs.Forms.{guessRows, guessIssued}
 use Rattle.listing.specs.declared.reading.ListingRead.{ListingRead}
-use Rattle.listing.specs.declared.reading.ListingRead.the-variants.{Issued, Misspelt, Full}
+use Rattle.listing.specs.declared.reading.ListingRead.the-variants.{Issued, Refused}
 
 -- a text is the listing of a table in order
 unfoldable pub isListing : List ℕ → List Cap → ℕ → Bool
@@ -40,14 +41,12 @@ readListing s n =
 -- the answer that each case of `ListingRead` stands for, where the words then have these rows
 abbrev pub readingAnswer : ListingRead → List Cap → Result Listed
 readingAnswer (Issued i) table = value (record { table = table; issued = i })
-readingAnswer Misspelt table = refused 2
-readingAnswer Full table = refused 10
+readingAnswer (Refused r) table = refused (number r)
 
 -- the words after reading: all of them are fixed where a listing was read, and unchanged where not
 abbrev pub readingWords : ListingRead → List ℕ → List ℕ → List ℕ → Type 0
 readingWords (Issued i) s before after = rowsIn after ≡ guessTable s
-readingWords Misspelt s before after = after ≡ before
-readingWords Full s before after = after ≡ before
+readingWords (Refused r) s before after = after ≡ before
 
 pub record ReadsListing (s : List ℕ) (n : ℕ) (before after : List ℕ) (r : ListingRead) : Type 0 where
   pub answer : readingAnswer r (rowsOf after n) ≡ readListing s n

@@ -1,14 +1,15 @@
 // Listings, read: the table that a text can be the listing of is guessed, and accepted when it is in order and writes back to
 // the same bytes.
-use text::classes;
 use crate::forms;
-use text::lines;
-use crate::writing;
-use text::numbers;
 use crate::sort;
-use text::write::Written;
+use crate::writing;
+use model::Refusal;
 use rules::find;
 use rules::ordered;
+use text::classes;
+use text::lines;
+use text::numbers;
+use text::write::Written;
 ghost use mathlib.Core.Path.{_≡_};
 ghost use Prim.Native.Nat.{_≤_};
 ghost use lib.ListN.{length};
@@ -19,8 +20,7 @@ ghost use Rattle.listing.specs.ReadListing.{isListing, guessTable, Reads
 // What reading answers: the issued number, or refusal 2 or 10.
 pub enum ListingRead {
     Issued(u32),
-    Misspelt,
-    Full,
+    Refused(Refusal),
 }
 
 // Reads the rows of a text into a table of zeros, by rising name.
@@ -69,10 +69,10 @@ pub fn read_listing(text: &[u8], words: &mut [u32; 6144], n: usize) -> ListingRe
     guess_table(text, &mut table);
     let issued = numbers::number(lines::after_space(text));
     if !is_listing(text, &table, issued) {
-        return ListingRead::Misspelt;
+        return ListingRead::Refused(Refusal::Misspelt);
     }
     if n < find::live_count(&table, 1024) {
-        return ListingRead::Full;
+        return ListingRead::Refused(Refusal::TableFull);
     }
     copy(&table, words);
     ListingRead::Issued(issued)
