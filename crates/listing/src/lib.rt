@@ -2,5 +2,6 @@
 mod forms;
 mod links;
 pub mod reading;
+pub mod records;
 mod sort;
 pub mod writing;
