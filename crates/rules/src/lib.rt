@@ -3,7 +3,7 @@
 use model::Answer;
 use model::Tally;
 
-mod count;
+pub mod count;
 pub mod find;
 mod judge;
 mod marks;

@@ -1,0 +1,106 @@
+-- One turn of a run: the next line of what is left, and what follows it.
+-- Assumes nothing.
+use mathlib.Core.Path.{_≡_, sym, ap, ap₂, _∙_}
+use mathlib.Core.Bool.{true, cond}
+use mathlib.Core.List.{List}
+use Prim.Native.Nat.{ℕ, _+_, _-_, _≤_, _<_}
+use native.Mathlib.Omega.{arith}
+use lib.Dec.{eqb}
+use lib.ListN.{length, take, drop, length-drop, drop-of-length-le}
+use lib.Seq.{take-all, length-take-le, drop-drop}
+use Rattle.text.specs.Class.{newline}
+use Rattle.text.specs.Line.{through, nextLine, linesOf}
+use Rattle.text.specs.Read.{readEvent}
+use Rattle.text.specs.Result.{Result, value, refused}
+use Rattle.text.proofs.Laws.Line.{lines-next, next-some, through-le}
+use Rattle.model.specs.declared.Cap.{Cap}
+use Rattle.model.specs.declared.Event.{Event}
+use Rattle.model.specs.declared.Tally.{Tally}
+use Rattle.model.specs.declared.Name.{Name}
+use Rattle.model.specs.declared.Refusal.{Refusal}
+use Rattle.model.specs.declared.Refusal.the-variants.{Misspelt}
+use Rattle.model.specs.declared.Answer.{Answer}
+use Rattle.model.specs.declared.Answer.the-variants.{Allowed, Refused}
+use Rattle.model.specs.Answers.{number, verdictOf}
+use Rattle.model.specs.Counts.{countRefused}
+use Rattle.model.specs.Step.{Verdict, State}
+use Rattle.model.specs.Table.{inOrder}
+use Rattle.model.proofs.Order.{order-after}
+use Rattle.rules.specs.declared.Outcome.{Outcome}
+use Rattle.rules.specs.Words.{rowsOf}
+use Rattle.rules.specs.Steps.{heldIn, Stepped}
+use Rattle.rules.proofs.Laws.Judge.{numbered}
+use Rattle.trace.specs.declared.run.RunAnswer.the-variants.{Refused as RunRefused}
+use Rattle.trace.specs.Run.{takeRead, takeLine, runLines, lent, ranOf, Takes}
+
+-- a line keeps a table in order
+pub line-order : (h : State) (l : List ℕ) → inOrder (h .table) (h .tally .issued) ≡ true → inOrder (takeLine lent h l .state .table) (takeLine lent h l .state .tally .issued) ≡ true
+line-order h l o = go (readEvent l)
+  where
+    go : (r : Result Event) → inOrder (takeRead lent h r .state .table) (takeRead lent h r .state .tally .issued) ≡ true
+    go (value e) = order-after h e o
+    go (refused k) = o
+
+module _ (ws : List ℕ) (n : ℕ) (t : Tally) (line : List ℕ) where
+  -- a line that spells an event goes by the event's step
+  pub taken-event : {e : Event} {ws′ : List ℕ} {r : Outcome} → readEvent line ≡ value e → Stepped ws n t e ws′ r → Takes ws n t line ws′ r
+  taken-event q s = record {
+    refusal = rw q (ap (λ (v : Verdict). v .refusal) (s .answer));
+    state = rw q (ap₂ (λ (rows : List Cap) (y : Tally). record { table = rows; tally = y }) (s .table) (s .tally));
+    long = s .long;
+  }
+
+  -- a line that spells none is refused
+  pub taken-misspelt : {y : Tally} → readEvent line ≡ refused 2 → y ≡ countRefused t → length ws ≡ 6144 → Takes ws n t line ws (record { tally = y; answer = Refused Misspelt })
+  taken-misspelt q c l = record { refusal = rw q; state = rw (q, c); long = l }
+
+-- a line that was taken left the table in order
+pub taken-order : {ws : List ℕ} {n : ℕ} {t : Tally} {line ws′ : List ℕ} {r : Outcome} → Takes ws n t line ws′ r → inOrder (rowsOf ws n) (t .issued) ≡ true → inOrder (rowsOf ws′ n) (r .tally .issued) ≡ true
+taken-order {ws} {n} {t} {line} k o = ap (λ (h : State). inOrder (h .table) (h .tally .issued)) (k .state) ∙ line-order (heldIn ws n t) line o
+
+-- line is the next line of what is left of s from a position on
+module _ (s : List ℕ) (at : ℕ) (more : at < length s) (line : List ℕ) (is : line ≡ nextLine (take (length s - at) (drop at s))) where
+  left-some : 0 < length (drop at s)
+  left-some = omega (arith, length-drop at s)
+
+  line-is : line ≡ nextLine (drop at s)
+  line-is = is ∙ ap nextLine (take-all (length s - at) (drop at s) (omega (arith, length-drop at s)))
+
+  line-length : length line ≡ through newline (drop at s)
+  line-length = ap length line-is ∙ length-take-le (through newline (drop at s)) (drop at s) (through-le newline (drop at s))
+
+  pub line-some : 0 < length line
+  line-some = omega (arith, ap length line-is, next-some (drop at s) left-some)
+
+  pub line-inside : at + length line ≤ length s
+  line-inside = omega (arith, line-length, through-le newline (drop at s), length-drop at s)
+
+  rest-is : drop (through newline (drop at s)) (drop at s) ≡ drop (at + length line) s
+  rest-is = drop-drop (through newline (drop at s)) at s ∙ ap (λ (k : ℕ). drop (at + k) s) (sym line-length)
+
+  module _ (count : ℕ) (h : State) where
+    abbrev taken : State
+    taken = takeLine lent h line .state
+
+    turn : runLines lent count h (linesOf (drop at s)) ≡ cond (eqb (takeLine lent h line .refusal) 0) (runLines lent (count + 1) taken (linesOf (drop (at + length line) s))) (record { refusal = takeLine lent h line .refusal; number = count + 1; state = taken })
+    unfolding runLines
+    turn = rw (lines-next (drop at s) left-some, rest-is, line-is)
+
+  -- the line was taken on the words of a table
+  module _ (count : ℕ) {ws : List ℕ} {n : ℕ} {t : Tally} {ws′ : List ℕ} {r : Outcome} (k : Takes ws n t line ws′ r) where
+    -- it is allowed, and the run goes on behind it
+    pub turn-on : {x : Name} → r .answer ≡ Allowed x → runLines lent (count + 1) (heldIn ws′ n (r .tally)) (linesOf (drop (at + length line) s)) ≡ runLines lent count (heldIn ws n t) (linesOf (drop at s))
+    turn-on e =
+        let zero-is : takeLine lent (heldIn ws n t) line .refusal ≡ 0 = sym (k .refusal) ∙ ap (λ (a : Answer). verdictOf a .refusal) e in
+        rw (k .state) (sym (turn count (heldIn ws n t) ∙ rw zero-is))
+
+    -- it is refused, and the run ends there
+    pub turn-ends : {x : Refusal} → r .answer ≡ Refused x → ranOf (RunRefused x (count + 1)) (heldIn ws′ n (r .tally)) ≡ runLines lent count (heldIn ws n t) (linesOf (drop at s))
+    turn-ends {x} e =
+        let is : takeLine lent (heldIn ws n t) line .refusal ≡ number x = sym (k .refusal) ∙ ap (λ (a : Answer). verdictOf a .refusal) e in
+        rw (k .state) (sym (turn count (heldIn ws n t) ∙ rw (is, numbered x)))
+
+-- nothing is left
+pub run-ends : (s : List ℕ) (at count : ℕ) (h : State) → length s ≤ at → record { refusal = 0; number = count; state = h } ≡ runLines lent count h (linesOf (drop at s))
+unfolding runLines linesOf
+run-ends s at count h e = rw (drop-of-length-le s e)

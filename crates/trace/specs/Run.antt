@@ -1,0 +1,93 @@
+-- Document 01, "What each event does", its last paragraph: a run.
+-- Assumes nothing.
+use Prim.Native.Nat.{ℕ, _+_}
+use mathlib.Core.Path.{_≡_}
+use mathlib.Core.Bool.{Bool, cond}
+use mathlib.Core.List.{List, [], _∷_}
+use lib.Dec.{eqb}
+use lib.ListN.{length}
+use Rattle.model.specs.declared.Event.{Event}
+use Rattle.model.specs.declared.Tally.{Tally}
+use Rattle.model.specs.Table.{inOrder}
+use Rattle.model.specs.Counts.{countRefused}
+use Rattle.model.specs.Step.{Verdict, State}
+use Rattle.model.specs.Step
+use Rattle.model.specs.Answers.{number, verdictOf}
+use Rattle.rules.specs.declared.Outcome.{Outcome}
+use Rattle.rules.specs.Steps.{heldIn}
+use Rattle.text.specs.Result.{Result, value, refused}
+use Rattle.text.specs.Line.{linesOf}
+use Rattle.text.specs.Read.{readEvent}
+use Rattle.trace.specs.declared.run.RunAnswer.{RunAnswer}
+use Rattle.trace.specs.declared.run.RunAnswer.the-variants.{Allowed, Refused}
+use Rattle.trace.specs.declared.run.RunOutcome.{RunOutcome}
+
+-- What takes the events of a run, over its own states: whether its table is in order, its answer to an event, and the state after an
+-- event and after a line that is refused for its spelling.
+pub record Checker (S : Type 0) : Type 0 where
+  pub ordered : S → Bool
+  pub answer : S → Event → Verdict
+  pub after : S → Event → S
+  pub misspelt : S → S
+
+-- what a line does: its refusal, 0 where it is allowed, and the state after it
+pub record Taken (S : Type 0) : Type 0 where
+  pub refusal : ℕ
+  pub state : S
+
+-- "answers with the number of lines allowed, or with the refusal and its line number from 1 (0 for refusal 1)": the refusal, 0 where
+-- every line is allowed; the number of lines allowed, or of the line refused; and the state at the end
+pub record Ran (S : Type 0) : Type 0 where
+  pub refusal : ℕ
+  pub number : ℕ
+  pub state : S
+
+module _ {S : Type 0} (c : Checker S) where
+  -- a line that reads as an event goes by the event's step; one that is not in the one spelling is refused
+  abbrev pub takeRead : S → Result Event → Taken S
+  takeRead s (value e) = record { refusal = c .answer s e .refusal; state = c .after s e }
+  takeRead s (refused r) = record { refusal = r; state = c .misspelt s }
+
+  abbrev pub takeLine : S → List ℕ → Taken S
+  takeLine s line = takeRead s (readEvent line)
+
+  -- "takes lines until one is refused": the lines of a run, where so many were taken before them
+  unfoldable pub runLines : ℕ → S → List (List ℕ) → Ran S
+  runLines before s [] = record { refusal = 0; number = before; state = s }
+  runLines before s (line ∷ lines) =
+      let taken = takeLine s line in
+      let rest = runLines (before + 1) (taken .state) lines in
+      cond (eqb (taken .refusal) 0) rest (record { refusal = taken .refusal; number = before + 1; state = taken .state })
+
+  -- refusal 1, with any text and before its first line, changes nothing
+  unfoldable pub runFrom : S → List ℕ → Ran S
+  runFrom s text = cond (c .ordered s) (runLines 0 s (linesOf text)) (record { refusal = 1; number = 0; state = s })
+
+-- what the caller lends: "Refusals 2 to 10 of .. a line in a run add one to the refused count and change no more"
+abbrev pub lent : Checker State
+lent = record {
+  ordered = λ h. inOrder (h .table) (h .tally .issued);
+  answer = Step.answer;
+  after = Step.after;
+  misspelt = λ h. record { table = h .table; tally = countRefused (h .tally) };
+}
+
+-- a run of a text on what the caller lends
+abbrev pub run : State → List ℕ → Ran State
+run = runFrom lent
+
+-- the answer that each case of `RunAnswer` stands for, with the state at the end
+abbrev pub ranOf : RunAnswer → State → Ran State
+ranOf (Allowed lines) h = record { refusal = 0; number = lines; state = h }
+ranOf (Refused r line) h = record { refusal = number r; number = line; state = h }
+
+-- a run on the words ws of a table of n rows leaves the words ws′
+pub record Runs (ws : List ℕ) (n : ℕ) (t : Tally) (text ws′ : List ℕ) (r : RunOutcome) : Type 0 where
+  pub ran : ranOf (r .answer) (heldIn ws′ n (r .tally)) ≡ run (heldIn ws n t) text
+  pub long : length ws′ ≡ 6144
+
+-- a line on the words ws of a table of n rows leaves the words ws′: its refusal, and the state after it
+pub record Takes (ws : List ℕ) (n : ℕ) (t : Tally) (line ws′ : List ℕ) (r : Outcome) : Type 0 where
+  pub refusal : verdictOf (r .answer) .refusal ≡ takeLine lent (heldIn ws n t) line .refusal
+  pub state : heldIn ws′ n (r .tally) ≡ takeLine lent (heldIn ws n t) line .state
+  pub long : length ws′ ≡ 6144

@@ -1,0 +1,2 @@
+// Traces: event lines run on a table, document 01, "What each event does", last paragraph.
+pub mod run;
