@@ -4,3 +4,4 @@ pub mod Links
 pub mod Forms
 pub mod ReadListing
 pub mod WriteListing
+pub mod ReadInto
