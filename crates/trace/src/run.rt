@@ -38,10 +38,13 @@ fn take_line(words: &mut [u32; 6144], rows: usize, tally: Tally, line: &[u8]) ->
     let found = read::read_event(line);
     match found {
         EventRead::Event(event) => steps::step_ordered(words, rows, tally, event),
-        EventRead::Refused => Outcome {
-            tally: count::count_refused(tally),
-            answer: Answer::Refused(Refusal::Misspelt),
-        },
+        EventRead::Refused => {
+            let counted = count::count_refused(tally);
+            Outcome {
+                tally: counted,
+                answer: Answer::Refused(Refusal::Misspelt),
+            }
+        }
     }
 }
 

@@ -1,0 +1,31 @@
+-- Document 01, "The bracket text", its last part: what `capcheck` prints.
+-- Assumes nothing.
+use Prim.Native.Nat.{ℕ}
+use mathlib.Core.Bool.{cond}
+use mathlib.Core.List.{List, [], _∷_, _++_}
+use lib.Dec.{leb, eqb}
+use lib.ListN.{length}
+use Rattle.model.specs.declared.Tally.{Tally}
+use Rattle.model.specs.Counts.{tally}
+use Rattle.model.specs.Step.{State, initial}
+use Rattle.text.specs.Event.{bytes, line}
+use Rattle.listing.specs.Listing.{listing}
+use Rattle.trace.specs.Run.{Ran, run}
+
+-- "`(allowed LINES)` or `(refused NUMBER LINE)`"
+unfoldable pub answerLine : ℕ → ℕ → List ℕ
+answerLine refusal number =
+    cond (eqb refusal 0) (line "(allowed" (number ∷ []) ")\n") (line "(refused" (refusal ∷ number ∷ []) ")\n")
+
+-- ", then the listing"
+abbrev pub report : Ran State → List ℕ
+report r = answerLine (r .refusal) (r .number) ++ listing (r .state .table) (r .state .tally .issued)
+
+abbrev pub noCounts : Tally
+noCounts = tally 0 0 0 0 0 0 0
+
+-- "uses 1,024 empty rows"; "Input above 65,536 bytes gives the one line `(long)`."
+unfoldable pub checkText : List ℕ → List ℕ
+checkText input =
+    let text = report (run (initial 1024 noCounts) input) in
+    cond (leb (length input) 65536) text (bytes "(long)\n")

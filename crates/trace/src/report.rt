@@ -1,0 +1,145 @@
+// What `capcheck` prints: the answer of a run, and the listing of the table after it.
+use crate::run;
+use crate::run::RunAnswer;
+use listing::writing;
+use model::Refusal;
+use model::Tally;
+use text::pieces;
+use text::write::Written;
+ghost use mathlib.Core.Path.{_≡_};
+ghost use mathlib.Core.Bool.{true};
+ghost use mathlib.Core.List.{_++_};
+ghost use Prim.Native.Nat.{_≤_};
+ghost use lib.ListN.{length};
+ghost use Rattle.model.specs.Answers.{number};
+ghost use Rattle.model.specs.Table.{inOrder};
+ghost use Rattle.rules.specs.Words.{rowsOf};
+ghost use Rattle.text.specs.Event.{bytes, spaced};
+ghost use Rattle.text.specs.Put.{Room, Put};
+ghost use Rattle.text.specs.Write.{Writes};
+ghost use Rattle.listing.specs.Listing.{listing};
+ghost use Rattle.trace.specs.Check.{answerLine, checkText};
+
+// The number of a refusal.
+pub fn number_of(refusal: Refusal) -> u32
+    ensures { λ r. ⌜ r ≡ number refusal ⌝ }
+{
+    match refusal {
+        Refusal::Disordered => 1,
+        Refusal::Misspelt => 2,
+        Refusal::IllegalSpan => 3,
+        Refusal::Unissued => 4,
+        Refusal::Ended => 5,
+        Refusal::OutsideSpan => 6,
+        Refusal::ReadOnly => 7,
+        Refusal::TooDeep => 8,
+        Refusal::NamesSpent => 9,
+        Refusal::TableFull => 10,
+        Refusal::BufferTooShort => 11,
+    }
+}
+
+// How many bytes the line of an answer has. The refusal is 0 where every line was allowed.
+fn answer_length(refusal: u32, number: u32) -> usize
+    ensures { λ r. ⌜ (r ≡ length (answerLine refusal number)) × (r ≤ 43) ⌝ }
+{
+    if refusal == 0 {
+        let numbers = [number];
+        10 + pieces::spaced_length(&numbers)
+    } else {
+        let numbers = [refusal, number];
+        10 + pieces::spaced_length(&numbers)
+    }
+}
+
+// Writes a line at the buffer's first bytes: its word, its numbers and its closing bracket.
+fn put_line(word: &[u8], numbers: &[u32], out: &mut [u8]) -> usize
+    requires { ⌜ Room (now out) 0 (now word ++ (spaced (now numbers) ++ bytes ")\n")) ⌝ }
+    ensures { λ r. ⌜ Put (now (out .entry)) 0 (now (word .entry) ++ (spaced (now (numbers .entry)) ++ bytes ")\n")) (now (out .exit)) r ⌝ }
+{
+    let past_word = pieces::put_bytes(out, 0, word);
+    let past_numbers = pieces::put_numbers(out, past_word, numbers);
+    pieces::put_bytes(out, past_numbers, b")\n")
+}
+
+// Writes the line of an answer at the buffer's first bytes.
+fn put_answer(refusal: u32, number: u32, out: &mut [u8]) -> usize
+    requires { ⌜ Room (now out) 0 (answerLine refusal number) ⌝ }
+    ensures { λ r. ⌜ Put (now (out .entry)) 0 (answerLine refusal number) (now (out .exit)) r ⌝ }
+{
+    if refusal == 0 {
+        let numbers = [number];
+        put_line(b"(allowed", &numbers, out)
+    } else {
+        let numbers = [refusal, number];
+        put_line(b"(refused", &numbers, out)
+    }
+}
+
+// Writes the line of an answer and the listing of a table in order. The listing, which is measured before it is written, goes first:
+// where it does not fit, nothing is written.
+fn write_report(
+    words: &[u32; 6144],
+    issued: u32,
+    refusal: u32,
+    number: u32,
+    out: &mut [u8],
+) -> Written
+    requires { ⌜ inOrder (rowsOf (now words) 1024) issued ≡ true ⌝ }
+    ensures { λ r. ⌜ Writes true (answerLine refusal number ++ listing (rowsOf (now (words .entry)) 1024) issued) (now (out .entry)) (now (out .exit)) r ⌝ }
+{
+    let start = answer_length(refusal, number);
+    if out.len() < start {
+        return Written::Refused(Refusal::BufferTooShort);
+    }
+    let written = writing::write_listing(words, 1024, issued, &mut out[start..]);
+    match written {
+        Written::Length(length) => {
+            put_answer(refusal, number, out);
+            Written::Length(start + length)
+        }
+        Written::Refused(why) => Written::Refused(why),
+    }
+}
+
+// Writes the line of an input that is too long.
+fn write_long(out: &mut [u8]) -> Written
+    ensures { λ r. ⌜ Writes true (bytes "(long)\n") (now (out .entry)) (now (out .exit)) r ⌝ }
+{
+    if out.len() < 7 {
+        return Written::Refused(Refusal::BufferTooShort);
+    }
+    Written::Length(pieces::put_bytes(out, 0, b"(long)\n"))
+}
+
+// Runs an input on 1,024 empty rows, and writes what `capcheck` prints of it at the buffer's first bytes.
+pub fn check(input: &[u8], out: &mut [u8]) -> Written
+    ensures { λ r. ⌜ Writes true (checkText (now (input .entry))) (now (out .entry)) (now (out .exit)) r ⌝ }
+{
+    if 65536 < input.len() {
+        return write_long(out);
+    }
+    let none = Tally {
+        issued: 0,
+        creates: 0,
+        borrows: 0,
+        reads: 0,
+        writes: 0,
+        drops: 0,
+        refused: 0,
+    };
+    let mut words = [0u32; 6144];
+    let ran = run::run_words(&mut words, 1024, none, input);
+    let answer = ran.answer;
+    let issued = ran.tally.issued;
+    match answer {
+        RunAnswer::Allowed(lines) => write_report(&words, issued, 0, lines as u32, out),
+        RunAnswer::Refused(refusal, line) => write_report(
+            &words,
+            issued,
+            number_of(refusal),
+            line as u32,
+            out,
+        ),
+    }
+}
