@@ -6,3 +6,4 @@ pub mod Forms
 pub mod Stored
 pub mod ReadListing
 pub mod WriteListing
+pub mod ReadInto

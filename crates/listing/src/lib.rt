@@ -4,5 +4,6 @@ mod copying;
 mod forms;
 mod links;
 pub mod reading;
+pub mod records;
 mod sort;
 pub mod writing;

@@ -3,9 +3,11 @@
 
 // Document 01, "Values", name: 1 to 1,000,000, given out in order, never twice; 0 stands for no parent.
 // A name is never an address, so each has a type of its own.
+#[repr(C)]
 pub struct Name(pub u32);
 
 // "Values", address: 0 to 4,294,967,295.
+#[repr(C)]
 pub struct Addr(pub u32);
 
 // "Values", span: a start and a length.
@@ -16,6 +18,7 @@ pub struct Span {
 
 // "Values", a row of the lent table, in document 01's order of the fields. Six words of 32 bits: the same record in C, and no
 // byte of it is padding. The right is 1 (`ro`) or 2 (`rw`) in a table in order.
+#[repr(C)]
 pub struct Cap {
     pub name: Name,
     pub parent: Name,
@@ -26,6 +29,7 @@ pub struct Cap {
 }
 
 // "Values", the tally: names issued, the allowed events of each of the five kinds, and refused events.
+#[repr(C)]
 pub struct Tally {
     pub issued: u32,
     pub creates: u32,

@@ -1,11 +1,11 @@
 // The lent table and tally: records to words and back.
+use crate::steps::step;
+use crate::words::row_at;
+use crate::words::set_row;
 use model::Answer;
 use model::Cap;
 use model::Event;
 use model::Tally;
-use crate::steps::step;
-use crate::words::row_at;
-use crate::words::set_row;
 ghost use mathlib.Core.Path.{_≡_};
 ghost use mathlib.Core.List.{_++_};
 ghost use Prim.Native.Nat.{_≤_, _*_, min};
@@ -19,15 +19,18 @@ ghost use Rattle.model.specs.Answers.{verdictOf};
 ghost use Rattle.rules.specs.Words.{flat, rowsOf};
 ghost use Rattle.rules.specs.Steps.{lends};
 
+// `rows_held`, `load` and `store` are for the crates above, each of which has its own thin calls over a lent table. None of
+// them is exported to C.
+
 // How many of n rows there are words for.
-fn few(n: usize) -> usize
+pub fn rows_held(n: usize) -> usize
     ensures { λ r. ⌜ r ≡ min n 1024 ⌝ }
 {
     if n < 1024 { n } else { 1024 }
 }
 
-// The first n rows into words.
-fn load(table: &[Cap], n: usize, words: &mut [u32; 6144])
+// The first n rows into words. Internal: the caller keeps n within the table and the words.
+pub fn load(table: &[Cap], n: usize, words: &mut [u32; 6144])
     requires { ⌜ (n ≤ length (now table)) × (n ≤ 1024) ⌝ }
     ensures { λ _. ⌜ (now (words .exit) ≡ flat (take n (now (table .entry))) ++ drop (n * 6) (now (words .entry)))
         × (rowsOf (now (words .exit)) n ≡ take n (now (table .entry))) ⌝ }
@@ -39,8 +42,8 @@ fn load(table: &[Cap], n: usize, words: &mut [u32; 6144])
     }
 }
 
-// And back.
-fn store(table: &mut [Cap], n: usize, words: &[u32; 6144])
+// And back. Internal, in the same way.
+pub fn store(table: &mut [Cap], n: usize, words: &[u32; 6144])
     requires { ⌜ (n ≤ length (now table)) × (n ≤ 1024) ⌝ }
     ensures { λ _. ⌜ now (table .exit) ≡ rowsOf (now (words .entry)) n ++ drop n (now (table .entry)) ⌝ }
 {
@@ -59,7 +62,7 @@ pub fn apply(table: &mut [Cap], tally: &mut Tally, event: Event) -> Answer
 {
     let mut words = [0u32; 6144];
     let rows = table.len();
-    let n = few(rows);
+    let n = rows_held(rows);
     load(table, n, &mut words);
     let out = step(&mut words, rows, *tally, event);
     store(table, n, &words);

@@ -1,4 +1,5 @@
 pub mod Turn
+pub mod Lent
 pub mod Order
 pub mod History
 pub mod Report

@@ -1,16 +1,18 @@
 -- Records to words and back: what `load` and `store` have done after i turns, and that one more turn does one row more.
 -- Assumes nothing.
 use mathlib.Core.Path.{_≡_, refl, sym, ap, _∙_}
-use mathlib.Core.List.{List, [], _∷_, _++_, append-assoc}
-use Prim.Native.Nat.{ℕ, zero, suc, _+_, _*_, _≤_, _<_}
+use mathlib.Core.Bool.{false}
+use mathlib.Core.List.{List, [], _∷_, _++_, append-assoc, append-nil}
+use Prim.Native.Nat.{ℕ, zero, suc, _+_, _*_, _≤_, _<_, min}
 use native.Mathlib.Nat.{not-suc-le-zero, le-of-suc-le-suc}
 use native.Mathlib.Omega.{arith}
-use lib.ListN.{length, getD, set, take, drop, length-append, length-drop}
-use lib.Seq.{length-take-le, take-suc, drop-cons, take-at, drop-append-add, drop-drop, take-length, set-at, append-snoc, getD-append-add}
+use lib.ListN.{length, getD, set, take, drop, length-append, length-drop, take-append-drop}
+use lib.Seq.{length-take-le, take-suc, drop-cons, take-at, drop-append-add, drop-drop, take-length, set-at, append-snoc, getD-append-add, ext-getD, getD-take, drop-length}
+use borrow.Author.Tests.{lt-leb}
 use Rattle.model.specs.declared.Cap.{Cap}
-use Rattle.model.specs.Table.{emptyRow}
+use Rattle.model.specs.Table.{emptyRow, inOrder}
 use Rattle.rules.specs.Words.{six, setRow, flat, rowAt, rowsOf}
-use Rattle.rules.proofs.Laws.Words.{setRow-eq, length-rows}
+use Rattle.rules.proofs.Laws.Words.{setRow-eq, length-rows, rows-at}
 
 pub length-flat : (cs : List Cap) → length (flat cs) ≡ length cs * 6
 unfolding flat
@@ -103,3 +105,49 @@ rows-flat ys d = rows-take ys d (length ys) (omega arith) ∙ take-length ys
 
 pub loaded-rows : (ys : List Cap) (ws : List ℕ) (n : ℕ) → n ≤ length ys → rowsOf (loaded ys ws n) n ≡ take n ys
 loaded-rows ys ws n l = ap (λ (m : ℕ). rowsOf (loaded ys ws n) m) (sym (length-take-le n ys l)) ∙ rows-flat (take n ys) (drop (n * 6) ws)
+
+-- ---- a lent table and its words
+
+-- the first m of n rows
+pub rows-first : (ws : List ℕ) (m n : ℕ) → m ≤ n → take m (rowsOf ws n) ≡ rowsOf ws m
+rows-first ws m n l =
+    ext-getD emptyRow (take m (rowsOf ws n)) (rowsOf ws m) (long ∙ sym (length-rows ws m)) (λ j h.
+    let b : j < m = omega (arith, long) in
+    getD-take m (rowsOf ws n) j emptyRow b ∙ rows-at ws n j (omega arith) ∙ sym (rows-at ws m j b))
+  where
+    long : length (take m (rowsOf ws n)) ≡ m
+    long = length-take-le m (rowsOf ws n) (omega (arith, length-rows ws n))
+
+-- a table of more than 1,024 rows is not in order
+pub many-disordered : (rows : List Cap) (issued : ℕ) → 1024 < length rows → inOrder rows issued ≡ false
+unfolding inOrder
+many-disordered rows issued l = rw (lt-leb (length rows) 1024 l)
+
+pub too-many : (ws : List ℕ) (n issued : ℕ) → 1024 < n → inOrder (rowsOf ws n) issued ≡ false
+too-many ws n issued l = many-disordered (rowsOf ws n) issued (omega (arith, length-rows ws n))
+
+module _ (ys : List Cap) where
+  -- how many of its rows are loaded
+  abbrev count : ℕ
+  count = min (length ys) 1024
+
+  abbrev Holds : List ℕ → Type 0
+  Holds w = rowsOf w count ≡ take count ys
+
+  module _ (few : length ys ≤ 1024) where
+    all-held : count ≡ length ys
+    all-held = omega arith
+
+    -- the words have the whole table
+    pub loaded-all : (w : List ℕ) → Holds w → rowsOf w (length ys) ≡ ys
+    loaded-all w same = sym (ap (rowsOf w) all-held) ∙ same ∙ ap (λ (k : ℕ). take k ys) all-held ∙ take-length ys
+
+    pub stored-all : (ws : List ℕ) → stored ys ws count ≡ rowsOf ws (length ys)
+    stored-all ws = rw (all-held, drop-length ys) (append-nil (rowsOf ws (length ys)))
+
+  -- the rows of a longer one are put back where the words are as at first
+  pub stored-same : (w ws : List ℕ) → Holds w → 1024 < length ys → rowsOf ws (length ys) ≡ rowsOf w (length ys) → stored ys ws count ≡ ys
+  stored-same w ws same many q =
+      let e : count ≡ 1024 = omega arith in
+      let f : rowsOf ws 1024 ≡ take 1024 ys = sym (rows-first ws 1024 (length ys) (omega arith)) ∙ ap (take 1024) q ∙ rows-first w 1024 (length ys) (omega arith) ∙ sym (ap (rowsOf w) e) ∙ same ∙ ap (λ (k : ℕ). take k ys) e in
+      rw (e, f) (take-append-drop 1024 ys)

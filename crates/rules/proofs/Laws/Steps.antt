@@ -3,14 +3,14 @@
 use mathlib.Core.Path.{_≡_, refl, sym, ap, ap₂, _∙_}
 use mathlib.Core.Logic.{_⊎_, inl, inr}
 use mathlib.Core.Bool.{Bool, true, false}
-use mathlib.Core.List.{List, [], _∷_, _++_, append-nil}
+use mathlib.Core.List.{List, [], _∷_}
 use Prim.Native.Nat.{ℕ, zero, suc, _+_, _≤_, _<_, min}
 use native.Mathlib.Numerals.{add-one}
 use native.Mathlib.Omega.{arith}
 use lib.Dec.{ltb, leb}
-use lib.ListN.{length, getD, set, take, length-set, drop, take-append-drop}
-use lib.Seq.{getD-set-same, getD-set-other, ext-getD, getD-take, length-take-le, take-length, drop-length}
-use borrow.Author.Tests.{eqb-false, ltb-true, leb-false, not-false, lt-leb, leb-true}
+use lib.ListN.{length, getD, set, take, length-set}
+use lib.Seq.{getD-set-same, getD-set-other}
+use borrow.Author.Tests.{eqb-false, ltb-true, leb-false, not-false, leb-true}
 use Rattle.model.specs.declared.Name.{Name}
 use Rattle.model.specs.declared.Span.{Span}
 use Rattle.model.specs.declared.Cap.{Cap}
@@ -37,7 +37,8 @@ use Rattle.rules.specs.Engine.{before, Marked, kept, Orderly, Ready}
 use Rattle.rules.specs.Steps.{heldIn, Stepped, lends}
 use Rattle.model.proofs.Lists.{test, and-both}
 use Rattle.model.proofs.Judged.{allowed}
-use Rattle.rules.proofs.Laws.Words.{length-in, length-rows, in-first, rows-at}
+use Rattle.rules.proofs.Laws.Words.{length-in, length-rows, in-first}
+use Rattle.rules.proofs.Laws.Records.{stored, loaded-all, stored-all, stored-same, many-disordered, too-many}
 use Rattle.rules.proofs.Laws.Prefix.{before-suc, before-same, length-before}
 use Rattle.rules.proofs.Laws.Settle.{before-lent, kept-revoke}
 use Rattle.rules.proofs.Laws.Judge.{numbered, orderly-live, orderly-standing, orderly-long, orderly-judge, orderly-zeros}
@@ -115,10 +116,6 @@ module _ (ws : List ℕ) (n : ℕ) (t : Tally) (e : Event) where
   unfolding judge refusals after answer
   stepped-disordered h l = record { table = rw h; tally = rw h; answer = rw h; long = l }
 
-  pub too-many : 1024 < n → inOrder (rowsOf ws n) (t .issued) ≡ false
-  unfolding inOrder
-  too-many l = rw (length-rows ws n, lt-leb n 1024 l)
-
   module _ (k : ℕ) (few : n ≤ 1024) (o : Orderly (rowsIn ws) n k (t .issued)) where
     same-rows : take n (rowsIn ws) ≡ rowsOf ws n
     same-rows = in-first ws n few
@@ -191,53 +188,27 @@ module _ (n issued : ℕ) (rows : List Cap) where
 
 -- ---- the lent records
 
-min-le : (n : ℕ) → n ≤ 1024 → min n 1024 ≡ n
-min-le n l = omega arith
-
-min-gt : (n : ℕ) → 1024 < n → min n 1024 ≡ 1024
-min-gt n l = omega arith
-
--- the first m of n rows
-rows-first : (ws : List ℕ) (m n : ℕ) → m ≤ n → take m (rowsOf ws n) ≡ rowsOf ws m
-rows-first ws m n l =
-    ext-getD emptyRow (take m (rowsOf ws n)) (rowsOf ws m) (long ∙ sym (length-rows ws m)) (λ j h.
-    let b : j < m = omega (arith, long) in
-    getD-take m (rowsOf ws n) j emptyRow b ∙ rows-at ws n j (omega arith) ∙ sym (rows-at ws m j b))
-  where
-    long : length (take m (rowsOf ws n)) ≡ m
-    long = length-take-le m (rowsOf ws n) (omega (arith, length-rows ws n))
-
 -- what an event leaves of the records, by way of words
 module _ (ys : List Cap) (t : Tally) (e : Event) (w ws : List ℕ) (r : Outcome) (same : rowsOf w (min (length ys) 1024) ≡ take (min (length ys) 1024) ys) (s : Stepped w (length ys) t e ws r) where
   abbrev Left : Type 0
-  Left = (rowsOf ws (min (length ys) 1024) ++ drop (min (length ys) 1024) ys ≡ after (lends ys t) e .table) × (r .tally ≡ after (lends ys t) e .tally) × (verdictOf (r .answer) ≡ answer (lends ys t) e)
+  Left = (stored ys ws (min (length ys) 1024) ≡ after (lends ys t) e .table) × (r .tally ≡ after (lends ys t) e .tally) × (verdictOf (r .answer) ≡ answer (lends ys t) e)
 
   left-few : length ys ≤ 1024 → Left
   left-few l =
-      let m : min (length ys) 1024 ≡ length ys = min-le (length ys) l in
-      let q : rowsOf w (length ys) ≡ ys = sym (ap (rowsOf w) m) ∙ same ∙ ap (λ (k : ℕ). take k ys) m ∙ take-length ys in
-      let h : heldIn w (length ys) t ≡ lends ys t = ap (λ (l : List Cap). lends l t) q in
-      let d : rowsOf ws (min (length ys) 1024) ++ drop (min (length ys) 1024) ys ≡ rowsOf ws (length ys) = rw (m, drop-length ys) (append-nil (rowsOf ws (length ys))) in
-      (d ∙ s .table ∙ ap (λ (x : State). after x e .table) h, s .tally ∙ ap (λ (x : State). after x e .tally) h, s .answer ∙ ap (λ (x : State). answer x e) h)
+      let h : heldIn w (length ys) t ≡ lends ys t = ap (λ (rows : List Cap). lends rows t) (loaded-all ys l w same) in
+      (stored-all ys l ws ∙ s .table ∙ ap (λ (x : State). after x e .table) h, s .tally ∙ ap (λ (x : State). after x e .tally) h, s .answer ∙ ap (λ (x : State). answer x e) h)
 
   module _ (l : 1024 < length ys) where
-    disorder : (rows : List Cap) → length rows ≡ length ys → inOrder rows (t .issued) ≡ false
-    unfolding inOrder
-    disorder rows h = rw (h, lt-leb (length ys) 1024 l)
-
     unchanged : (rows : List Cap) → inOrder rows (t .issued) ≡ false → (after (lends rows t) e ≡ lends rows t) × (answer (lends rows t) e ≡ record { refusal = 1; name = 0 })
     unfolding judge refusals after answer
     unchanged rows h = (rw h, rw h)
 
     left-many : Left
     left-many =
-        let m : min (length ys) 1024 ≡ 1024 = min-gt (length ys) l in
-        let a = unchanged (rowsOf w (length ys)) (disorder (rowsOf w (length ys)) (length-rows w (length ys))) in
-        let b = unchanged ys (disorder ys refl) in
+        let a = unchanged (rowsOf w (length ys)) (too-many w (length ys) (t .issued) l) in
+        let b = unchanged ys (many-disordered ys (t .issued) l) in
         let q : rowsOf ws (length ys) ≡ rowsOf w (length ys) = s .table ∙ ap (λ (x : State). x .table) (a .0) in
-        let f : rowsOf ws 1024 ≡ take 1024 ys = sym (rows-first ws 1024 (length ys) (omega arith)) ∙ ap (take 1024) q ∙ rows-first w 1024 (length ys) (omega arith) ∙ sym (ap (rowsOf w) m) ∙ same ∙ ap (λ (k : ℕ). take k ys) m in
-        let d : rowsOf ws (min (length ys) 1024) ++ drop (min (length ys) 1024) ys ≡ ys = rw (m, f) (take-append-drop 1024 ys) in
-        (d ∙ sym (ap (λ (x : State). x .table) (b .0)), s .tally ∙ ap (λ (x : State). x .tally) (a .0) ∙ sym (ap (λ (x : State). x .tally) (b .0)), s .answer ∙ a .1 ∙ sym (b .1))
+        (stored-same ys w ws same l q ∙ sym (ap (λ (x : State). x .table) (b .0)), s .tally ∙ ap (λ (x : State). x .tally) (a .0) ∙ sym (ap (λ (x : State). x .tally) (b .0)), s .answer ∙ a .1 ∙ sym (b .1))
 
   pub left : Left
   left = go (test (leb (length ys) 1024))

@@ -18,6 +18,7 @@ use Rattle.listing.specs.WriteListing.{listingWritten, listingStored, Wr
 use Rattle.text.specs.declared.write.Written.{Written}
 use Rattle.text.specs.declared.write.Written.the-variants.{Refused}
 use Rattle.model.specs.declared.Refusal.the-variants.{Disordered}
+use Rattle.listing.proofs.Laws.Lent.{not-written}
 use Rattle.listing.proofs.Laws.Front.{front-live, front-listing}
 use borrow.Author.Needs.{needs}
 use Rattle.listing.proofs.writing.write_listing.Statement.{statement}
@@ -31,10 +32,7 @@ module _ (ws : List ℕ) (n issued : ℕ) (out : List ℕ) (few : n ≤ 1024) wh
   rows-are = in-first ws n few
 
   refuses : ordered ≡ false → WritesListing (rowsOf ws n) issued out out (Refused Disordered)
-  unfolding listingWritten listingStored
-  refuses h =
-      let not-in : inOrder (rowsOf ws n) issued ≡ false = ap (λ (t : List Cap). inOrder t issued) (sym rows-are) ∙ h in
-      record { answer = sym (rw not-in); buffer = sym (rw not-in) }
+  refuses h = not-written (rowsOf ws n) issued out (ap (λ (t : List Cap). inOrder t issued) (sym rows-are) ∙ h)
 
   writes : (k : ℕ) → Front (rowsIn ws) n k → ordered ≡ true → {after : List ℕ} {r : Written} → Writes true (listed (rowsOf ws k) issued) out after r → WritesListing (rowsOf ws n) issued out after r
   unfolding listingWritten listingStored

@@ -7,12 +7,11 @@ use Prim.Native.Nat.{ℕ}
 use lib.ListN.{length}
 use borrow.Author.Needs.{needs}
 use Rattle.model.specs.declared.Tally.{Tally}
-use Rattle.model.specs.declared.Event.the-variants.{Drop}
 use Rattle.model.specs.declared.Refusal.the-variants.{Disordered}
 use Rattle.model.specs.Table.{inOrder}
 use Rattle.rules.specs.Words.{rowsOf}
 use Rattle.rules.proofs.Laws.Words.{in-first}
-use Rattle.rules.proofs.Laws.Steps.{too-many}
+use Rattle.rules.proofs.Laws.Records.{too-many}
 use Rattle.trace.specs.declared.run.RunAnswer.the-variants.{Refused}
 use Rattle.trace.specs.Run.{runFrom, Runs}
 use Rattle.trace.proofs.run.run_words.Statement.{statement}
@@ -30,7 +29,7 @@ returns-2 : tie.Need-returns-2
 returns-2 c = refused (c .before .before .before .before .before .before .before .args .words .now) (c .before .before .before .before .before .before .before .args .rows) (c .before .before .before .before .before .before .before .args .tally) (c .before .before .before .before .before .before .before .args .text .now) (rw (← in-first (c .before .before .before .before .before .before .before .args .words .now) (c .before .before .before .before .before .before .before .args .rows) (c .before .before .before .before .before .if1 .taken)) (sym (c .before .in-order .ensures) ∙ c .if2 .left)) (c .before .before .before .before .before .before .before .pre)
 
 returns-3 : tie.Need-returns-3
-returns-3 c = refused (c .before .before .args .words .now) (c .before .before .args .rows) (c .before .before .args .tally) (c .before .before .args .text .now) (too-many (c .before .before .args .words .now) (c .before .before .args .rows) (c .before .before .args .tally) (Drop (record { 0 = 0 })) (c .if1 .left)) (c .before .before .pre)
+returns-3 c = refused (c .before .before .args .words .now) (c .before .before .args .rows) (c .before .before .args .tally) (c .before .before .args .text .now) (too-many (c .before .before .args .words .now) (c .before .before .args .rows) (c .before .before .args .tally .issued) (c .if1 .left)) (c .before .before .pre)
 
 pub run-words-spec : {M : Type 1} → statement M
 run-words-spec =

@@ -1,0 +1,52 @@
+-- Document 01, "The bracket text": what reading a listing into a lent table answers, and what it leaves of the table and the tally.
+-- Assumes nothing.
+use mathlib.Core.Path.{_≡_}
+use Prim.Native.Nat.{ℕ}
+use mathlib.Core.Bool.{cond}
+use mathlib.Core.List.{List}
+use lib.Dec.{leb}
+use lib.ListN.{length}
+use Rattle.model.specs.declared.Tally.{Tally}
+use Rattle.model.specs.Answers.{number}
+use Rattle.model.specs.Counts.{tally}
+use Rattle.model.specs.Step.{State}
+use Rattle.text.specs.Result.{Result, value, refused}
+use Rattle.listing.specs.ReadListing.{Listed, readListing}
+use Rattle.listing.specs.declared.reading.ListingRead.{ListingRead}
+use Rattle.listing.specs.declared.reading.ListingRead.the-variants.{Issued, Refused}
+
+-- "Reading gives refusal 1 for a lent table above 1,024 rows, 2 when no table in order has this listing, 10 when it holds more
+-- capabilities than rows, in that order". "The old contents of that table are not judged": only their number is looked at.
+unfoldable pub readTable : List ℕ → ℕ → Result Listed
+readTable s rows = cond (leb rows 1024) (readListing s rows) (refused 1)
+
+-- "no listing changes the tally's other counts"
+abbrev pub withIssued : ℕ → Tally → Tally
+withIssued issued t = tally issued (t .creates) (t .borrows) (t .reads) (t .writes) (t .drops) (t .refused)
+
+-- the issued number that was read, or the refusal
+abbrev pub issuedRead : Result Listed → Result ℕ
+issuedRead (value l) = value (l .issued)
+issuedRead (refused k) = refused k
+
+-- "on refusal the lent table and the issued number are unchanged"; "A listing that is read fixes the whole lent table and the issued number"
+abbrev pub stateRead : Result Listed → State → State
+stateRead (value l) h = record { table = l .table; tally = withIssued (l .issued) (h .tally) }
+stateRead (refused k) h = h
+
+-- reading a listing into what is lent: the answer, and what is lent afterwards
+abbrev pub answerInto : List ℕ → State → Result ℕ
+answerInto s h = issuedRead (readTable s (length (h .table)))
+
+abbrev pub stateInto : List ℕ → State → State
+stateInto s h = stateRead (readTable s (length (h .table))) h
+
+-- the answer that each case of `ListingRead` stands for
+abbrev pub listingAnswer : ListingRead → Result ℕ
+listingAnswer (Issued i) = value i
+listingAnswer (Refused r) = refused (number r)
+
+pub record ReadsInto (s : List ℕ) (before after : State) (r : ListingRead) : Type 0 where
+  pub answer : listingAnswer r ≡ answerInto s before
+  pub table : after .table ≡ stateInto s before .table
+  pub tally : after .tally ≡ stateInto s before .tally
