@@ -2,3 +2,4 @@ pub mod Turn
 pub mod Order
 pub mod History
 pub mod Report
+pub mod CheckExamples
