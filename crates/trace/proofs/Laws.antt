@@ -3,3 +3,4 @@ pub mod Lent
 pub mod Order
 pub mod History
 pub mod Report
+pub mod CheckExamples

@@ -1,0 +1,37 @@
+-- Document 01's example of `capcheck`, and others of its text, computed by the definitions.
+-- Assumes nothing.
+use mathlib.Core.Path.{_≡_, refl}
+use mathlib.Core.Bool.{true}
+use mathlib.Core.List.{List, [], _∷_}
+use Prim.Native.String.{String}
+use Rattle.model.specs.Lists.{all}
+use Rattle.model.specs.Derivation.{ancestry, onAncestry}
+use Rattle.model.specs.Strike.{strike, reached, struck}
+use Rattle.model.specs.Table.{liveRows, lentTable, lookup, isEmptyRow, liveRowsFirst, rowFitsParent, parentInOrder, rowInOrder, rowsInOrder, inOrder}
+use Rattle.model.specs.Refusals.{refusals, judge}
+use Rattle.model.specs.Effects.{revoke, afterAccess, rowsAfter}
+use Rattle.model.specs.Step.{answer, after}
+use Rattle.text.specs.Class.{classOf}
+use Rattle.text.specs.Line.{through, push, linesOf}
+use Rattle.text.specs.Decimal.{numeral, decimal, numberFrom}
+use Rattle.text.specs.Event.{bytes, spaced, spell, hasSpelling}
+use Rattle.text.specs.Read.{same, guess, readEvent}
+use Rattle.listing.specs.Listing.{pieces, form, children, roots, listed}
+use Rattle.trace.specs.Run.{runLines, runFrom}
+use Rattle.trace.specs.Check.{answerLine, checkText}
+
+-- an input, and what is printed of it: the example; a trace of no lines; a leading zero, an empty line and a last line without
+-- byte 10, each refusal 2; and trace 10
+examples : List (String × String)
+examples =
+    ("(create 0 64 rw)\n(borrow 1 0 16 rw)\n(borrow 1 16 16 rw)\n(write 2 0 8)\n(read 1 0 4)\n(write 2 0 8)\n", "(refused 7 6)\n(issued 3)\n(1 0 64 rw (2 0 16 ro) (3 16 16 rw))\n")
+    ∷ ("", "(allowed 0)\n(issued 0)\n")
+    ∷ ("(create 0 64 rw)\n(read 01 0 8)\n", "(refused 2 2)\n(issued 1)\n(1 0 64 rw)\n")
+    ∷ ("(create 0 64 rw)\n\n", "(refused 2 2)\n(issued 1)\n(1 0 64 rw)\n")
+    ∷ ("(create 0 64 rw)\n(drop 1)", "(refused 2 2)\n(issued 1)\n(1 0 64 rw)\n")
+    ∷ ("(create 4096 8 rw)\n(borrow 1 4096 8 rw)\n(borrow 2 4096 8 rw)\n(write 2 4096 8)\n(write 3 4096 8)\n", "(refused 5 5)\n(issued 3)\n(1 4096 8 rw (2 4096 8 rw))\n")
+    ∷ []
+
+printed : all (λ e. same (checkText (bytes (e .0))) (bytes (e .1))) examples ≡ true
+unfolding examples ancestry onAncestry strike reached struck liveRows lentTable lookup isEmptyRow liveRowsFirst rowFitsParent parentInOrder rowInOrder rowsInOrder inOrder refusals judge revoke afterAccess rowsAfter answer after classOf through push linesOf numeral decimal numberFrom spaced spell hasSpelling same guess readEvent pieces form children roots listed runLines runFrom answerLine checkText
+printed = refl

@@ -1,0 +1,128 @@
+// Document 01's traces and examples of refusals, run and printed. The file `stdout` beside src/ has what document 01 says of them.
+use libc::STDOUT_FILENO;
+use listing::reading;
+use listing::reading::ListingRead;
+use model::Tally;
+use trace::run;
+use trace::run::RunAnswer;
+ghost use mathlib.Core.Path.{_≡_};
+ghost use lib.ListN.{length};
+
+fn print(text: &[u8]) {
+    io::write_all(STDOUT_FILENO, text);
+}
+
+// A tally of so many names, and no events.
+fn issued_so_far(issued: u32) -> Tally {
+    Tally {
+        issued,
+        creates: 0,
+        borrows: 0,
+        reads: 0,
+        writes: 0,
+        drops: 0,
+        refused: 0,
+    }
+}
+
+fn print_numbers(refusal: u32, line: usize) {
+    io::print_decimal(STDOUT_FILENO, refusal as u64);
+    print(b" ");
+    io::print_decimal(STDOUT_FILENO, line as u64);
+    print(b"\n");
+}
+
+// Runs a trace on so many rows of a table, and prints the refusal, 0 where every line is allowed, and the number of lines or the line.
+fn run_on(words: &mut [u32; 6144], rows: usize, issued: u32, input: &[u8])
+    requires { ⌜ length (now words) ≡ 6144 ⌝ }
+{
+    let ran = run::run_words(words, rows, issued_so_far(issued), input);
+    let answer = ran.answer;
+    match answer {
+        RunAnswer::Allowed(lines) => print_numbers(0, lines),
+        RunAnswer::Refused(refusal, line) => print_numbers(trace::number_of(refusal), line),
+    }
+}
+
+fn run_on_empty(rows: usize, issued: u32, input: &[u8]) {
+    let mut words = [0u32; 6144];
+    run_on(&mut words, rows, issued, input);
+}
+
+// The table of refusal 1: rows both named 3.
+fn run_on_disordered(input: &[u8]) {
+    let mut words = [0u32; 6144];
+    words[0] = 3;
+    words[6] = 3;
+    run_on(&mut words, 2, 3, input);
+}
+
+// Trace 11, its second half: the listing of an empty table with all names but one issued is read, and two are asked for.
+fn last_name() {
+    let mut words = [0u32; 6144];
+    let read = reading::read_listing(b"(issued 999999)\n", &mut words, 1024);
+    if let ListingRead::Issued(issued) = read {
+        run_on_empty(1024, issued, b"(create 0 8 rw)\n(create 0 8 rw)\n");
+    }
+}
+
+fn traces() {
+    console::print_check(b"(create 0 64 rw)\n(borrow 1 0 64 rw)\n(borrow 1 1 64 rw)\n");
+    console::print_check(b"(create 0 64 rw)\n(borrow 1 0 8 rw)\n(write 1 8 1)\n");
+    console::print_check(b"(create 0 64 rw)\n(borrow 1 0 8 rw)\n(write 1 7 1)\n");
+    console::print_check(
+        b"(create 0 64 rw)\n(borrow 1 0 8 rw)\n(borrow 1 0 8 rw)\n(write 2 0 8)\n",
+    );
+    console::print_check(
+        b"(create 0 64 rw)\n(borrow 1 0 8 rw)\n(borrow 1 0 8 rw)\n(read 2 0 1)\n(read 3 0 1)\n",
+    );
+    console::print_check(
+        b"(create 0 64 rw)\n(borrow 1 0 32 rw)\n(borrow 2 16 16 rw)\n(write 1 0 1)\n",
+    );
+    console::print_check(b"(create 0 64 rw)\n(drop 1)\n(read 1 0 0)\n");
+    console::print_check(b"(create 4294967295 1 rw)\n(create 4294967295 2 rw)\n");
+    console::print_check(
+        b"(create 4096 8 rw)\n(borrow 1 4096 8 rw)\n(borrow 2 4096 8 rw)\n(write 2 4096 8)\n(write 3 4096 8)\n",
+    );
+}
+
+// Traces 8 and 9: one row, and none.
+fn few_rows() {
+    run_on_empty(1, 0, b"(create 0 64 rw)\n(borrow 1 0 8 rw)\n");
+    run_on_empty(
+        1,
+        0,
+        b"(create 0 64 rw)\n(drop 1)\n(create 0 64 rw)\n(read 2 0 8)\n",
+    );
+    run_on_empty(0, 0, b"(create 0 64 rw)\n");
+    run_on_empty(1025, 0, b"(create 0 64 rw)\n");
+}
+
+// The examples of refusals, in their order, on two rows.
+fn refusals() {
+    run_on_disordered(b"(read 3 0 8)\n");
+    run_on_disordered(b"");
+    run_on_disordered(b"no event\n");
+    run_on_empty(2, 0, b"(create 0 64 rw)\n(read 01 0 8)\n");
+    run_on_empty(2, 0, b"(create 0 64 rw)\n(read 1 0 0)\n");
+    run_on_empty(2, 0, b"(create 0 64 rw)\n(read 9 0 8)\n");
+    run_on_empty(2, 0, b"(create 0 64 rw)\n(drop 1)\n(read 1 0 8)\n");
+    run_on_empty(2, 0, b"(create 0 64 rw)\n(read 1 60 8)\n");
+    run_on_empty(
+        2,
+        0,
+        b"(create 0 64 rw)\n(borrow 1 0 8 ro)\n(write 2 0 8)\n",
+    );
+    run_on_empty(
+        2,
+        0,
+        b"(create 0 64 rw)\n(borrow 1 0 8 ro)\n(create 0 8 rw)\n",
+    );
+}
+
+fn main() {
+    traces();
+    few_rows();
+    refusals();
+    last_name();
+}
