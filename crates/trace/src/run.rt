@@ -38,7 +38,7 @@ fn take_line(words: &mut [u32; 6144], rows: usize, tally: Tally, line: &[u8]) ->
     let found = read::read_event(line);
     match found {
         EventRead::Event(event) => steps::step_ordered(words, rows, tally, event),
-        EventRead::Refused => {
+        EventRead::Refused(_) => {
             let counted = count::count_refused(tally);
             Outcome {
                 tally: counted,
