@@ -16,8 +16,8 @@ returns c =
 
 returns-2 : tie.Need-returns-2
 returns-2 c =
-    let e = ap readAnswer (sym (c .before .enum-told .given .1)) ∙ c .before .before .before .read-event .ensures in
-    (c .pack-refusal .ensures ∙ ap (λ (x : Result Event). packedRead x) e, ap (λ (x : Result Event). fieldsAfter x (c .before .before .before .before .before .args .fields .now)) e)
+    let e = ap readAnswer (sym (c .before .before .answer2 .given .1)) ∙ c .before .before .before .before .read-event .ensures in
+    (c .pack-refusal .ensures ∙ ap (λ (x : Result Event). packedRead x) e, ap (λ (x : Result Event). fieldsAfter x (c .before .before .before .before .before .before .args .fields .now)) e)
 
 pub kz-read-event-spec : {M : Type 1} → statement M
 kz-read-event-spec =
