@@ -1,12 +1,12 @@
 // The forms of a listing, read into rows by two functions that call each other. Nothing is refused here: what was read is
 // judged afterwards, by writing it back.
-use text::lines;
-use text::numbers;
-use text::read;
 use model::Addr;
 use model::Cap;
 use model::Name;
 use rules::words;
+use text::lines;
+use text::numbers;
+use text::read;
 ghost use mathlib.Core.Path.{_≡_};
 ghost use mathlib.Core.List.{[], _∷_};
 ghost use Prim.Native.Nat.{ℕ, suc, _+_, _-_, _*_, _≤_, _<_};

@@ -1,14 +1,14 @@
 // Listings, read: the table that a text can be the listing of is guessed, and accepted when it is in order and writes back to
 // the same bytes.
-use text::classes;
 use crate::forms;
-use text::lines;
-use crate::writing;
-use text::numbers;
 use crate::sort;
-use text::write::Written;
+use crate::writing;
 use rules::find;
 use rules::ordered;
+use text::classes;
+use text::lines;
+use text::numbers;
+use text::write::Written;
 ghost use mathlib.Core.Path.{_≡_};
 ghost use Prim.Native.Nat.{_≤_};
 ghost use lib.ListN.{length};

@@ -1,13 +1,13 @@
 // Listings, written.
 use crate::links;
-use text::numbers;
-use text::pieces;
-use model::Refusal;
-use text::write::Written;
 use model::Cap;
+use model::Refusal;
 use rules::find;
 use rules::ordered;
 use rules::words;
+use text::numbers;
+use text::pieces;
+use text::write::Written;
 ghost use mathlib.Core.Path.{_≡_};
 ghost use mathlib.Core.Bool.{true};
 ghost use Prim.Native.Nat.{_+_, _*_, _<_, _≤_};

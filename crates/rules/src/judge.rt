@@ -1,15 +1,15 @@
 // Whether an event is allowed, on a table in order: its checks in their order, and the first that holds.
-use model::Answer;
-use model::Event;
-use model::Name;
-use model::Refusal;
-use model::Span;
 use crate::find::find;
 use crate::ordered::is_right;
 use crate::spans::is_inside;
 use crate::spans::is_legal;
 use crate::spans::span_of;
 use crate::words::row_at;
+use model::Answer;
+use model::Event;
+use model::Name;
+use model::Refusal;
+use model::Span;
 ghost use mathlib.Core.Path.{_≡_};
 ghost use mathlib.Core.List.{[], _∷_};
 ghost use Prim.Native.Nat.{suc, _≤_};

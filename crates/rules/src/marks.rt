@@ -1,11 +1,11 @@
 // What an access or a drop takes: a mark for each row, 0 keep, 1 lower, 2 end.
-use model::Access;
-use model::Span;
 use crate::find::find;
 use crate::find::find_near;
 use crate::spans::do_touch;
 use crate::spans::span_of;
 use crate::words::row_at;
+use model::Access;
+use model::Span;
 ghost use mathlib.Core.Path.{_≡_};
 ghost use mathlib.Core.Bool.{false, cond};
 ghost use Prim.Native.Nat.{_≤_, max};

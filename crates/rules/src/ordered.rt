@@ -1,10 +1,10 @@
 // Whether a table is in order.
-use model::Cap;
 use crate::find::find_near;
 use crate::spans::is_inside;
 use crate::spans::is_legal;
 use crate::spans::span_of;
 use crate::words::row_at;
+use model::Cap;
 ghost use mathlib.Core.Path.{_≡_};
 ghost use mathlib.Core.Bool.{true, _&&_};
 ghost use Prim.Native.Nat.{suc, _<_, _≤_};

@@ -1,11 +1,11 @@
 // The lent table and tally: records to words and back.
+use crate::steps::step;
+use crate::words::row_at;
+use crate::words::set_row;
 use model::Answer;
 use model::Cap;
 use model::Event;
 use model::Tally;
-use crate::steps::step;
-use crate::words::row_at;
-use crate::words::set_row;
 ghost use mathlib.Core.Path.{_≡_};
 ghost use mathlib.Core.List.{_++_};
 ghost use Prim.Native.Nat.{_≤_, _*_, min};

@@ -1,8 +1,8 @@
 // Rows after their marks: the gaps close, and the rest is cleared.
-use model::Cap;
 use crate::words::empty_row;
 use crate::words::row_at;
 use crate::words::set_row;
+use model::Cap;
 ghost use mathlib.Core.Path.{_≡_};
 ghost use mathlib.Core.Bool.{cond};
 ghost use Prim.Native.Nat.{ℕ, _+_, _<_, _≤_};
