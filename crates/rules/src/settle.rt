@@ -41,13 +41,18 @@ fn move_row(words: &mut [u32; 6144], i: usize, left: usize, mark: u8) -> usize
         × (r ≡ cond (ltb mark 2) (left + 1) left)
         × (length (now (words .exit)) ≡ 6144) ⌝ }
 {
-    if mark < 2 {
-        let c = row_at(words, i);
-        set_row(words, left, marked_row(c, mark));
-        left + 1
-    } else {
-        left
+    if 2 <= mark {
+        return left;
     }
+    // A row that stays where it is and as it is needs no writing: a read changes few rows.
+    if mark == 0 {
+        if left == i {
+            return left + 1;
+        }
+    }
+    let c = row_at(words, i);
+    set_row(words, left, marked_row(c, mark));
+    left + 1
 }
 
 // The first k rows close up; the answer is how many are left.
