@@ -2,7 +2,7 @@
 use crate::words::row_at;
 ghost use mathlib.Core.Path.{_≡_};
 ghost use mathlib.Core.Bool.{cond};
-ghost use Prim.Native.Nat.{_<_, _≤_};
+ghost use Prim.Native.Nat.{_+_, _<_, _≤_};
 ghost use lib.Dec.{ltb};
 ghost use Rattle.rules.specs.Words.{rowsIn};
 ghost use Rattle.rules.specs.Engine.{nameAt, Rise, Front, Found};
@@ -23,13 +23,14 @@ pub fn live_count(words: &[u32; 6144], n: usize) -> usize
     i
 }
 
-// The middle place, unless its name is above x: then the one before. Both are at hand, so this is no branch for the processor.
-fn not_above(words: &[u32; 6144], base: usize, middle: usize, x: u32) -> usize
-    requires { ⌜ middle < 1024 ⌝ }
-    ensures { λ r. ⌜ r ≡ cond (ltb x (nameAt (rowsIn (now (words .entry))) middle)) base middle ⌝ }
+// The place `half` further on, unless the name there is above x. It is computed with no branch, because no processor foresees this one.
+fn not_above(words: &[u32; 6144], base: usize, half: usize, x: u32) -> usize
+    requires { ⌜ base + half < 1024 ⌝ }
+    ensures { λ r. ⌜ r ≡ cond (ltb x (nameAt (rowsIn (now (words .entry))) (base + half))) base (base + half) ⌝ }
 {
-    let c = row_at(words, middle);
-    if x < c.name.0 { base } else { middle }
+    let c = row_at(words, base + half);
+    let further = (4294967296 + x as u64 - c.name.0 as u64) / 4294967296;
+    base + half * (further as usize)
 }
 
 // Where the name x stands among the first k rows; k if nowhere.
@@ -44,7 +45,7 @@ pub fn find(words: &[u32; 6144], k: usize, x: u32) -> usize
     let mut size = k;
     while 1 < size {
         let half = size / 2;
-        base = not_above(words, base, base + half, x);
+        base = not_above(words, base, half, x);
         size -= half;
     }
     let c = row_at(words, base);

@@ -3,8 +3,8 @@
 use mathlib.Core.Path.{_≡_}
 use mathlib.Core.Logic.{_⊎_, inl, inr}
 use mathlib.Core.List.{List}
-use mathlib.Core.Bool.{true, false, cond}
-use Prim.Native.Nat.{ℕ, _+_, _-_, _/_, _≤_, _<_}
+use mathlib.Core.Bool.{Bool, true, false, cond}
+use Prim.Native.Nat.{ℕ, _+_, _-_, _*_, _/_, _≤_, _<_}
 use native.Mathlib.Omega.{arith}
 use lib.Dec.{ltb}
 use borrow.Author.Tests.{ltb-true, ltb-false}
@@ -21,6 +21,22 @@ pub record Halving (T : List Cap) (k x base size : ℕ) : Type 0 where
   pub some : 1 ≤ size
   pub low : 0 < base → nameAt T base ≤ x
   pub high : (i : ℕ) → base + size ≤ i → i < k → x < nameAt T i
+
+-- 1, or 0 where n is above x
+pub further : (x n : ℕ) → x < 4294967296 → (4294967296 + x - n) / 4294967296 ≡ cond (ltb x n) 0 1
+further x n l = go (test (ltb x n))
+  where
+    go : (ltb x n ≡ true) ⊎ (ltb x n ≡ false) → (4294967296 + x - n) / 4294967296 ≡ cond (ltb x n) 0 1
+    go (inl t) = rw t (omega (arith, ltb-true x n t))
+    go (inr f) = rw f (omega (arith, ltb-false x n f))
+
+pub times : (base half : ℕ) (b : Bool) → base + half * cond b 0 1 ≡ cond b base (base + half)
+times base half true = omega arith
+times base half false = omega arith
+
+pub times-le : (half : ℕ) (b : Bool) → half * cond b 0 1 ≤ half
+times-le half true = omega arith
+times-le half false = omega arith
 
 module _ (T : List Cap) (k x : ℕ) (r : Rise T k) where
   pub halving-all : 1 ≤ k → Halving T k x 0 k

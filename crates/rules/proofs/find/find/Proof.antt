@@ -1,18 +1,12 @@
 -- `find` meets its contract: the name is at one of the `size` places from `base` on.
 -- Assumes nothing.
-use mathlib.Core.Path.{_≡_, ap, sym, _∙_}
-use Prim.Native.Nat.{ℕ, _+_, _/_}
+use mathlib.Core.Path.{ap, sym, _∙_}
 use native.Mathlib.Omega.{arith}
 use Rattle.model.specs.declared.Cap.{Cap}
 use Rattle.rules.specs.Words.{rowsIn}
-use Rattle.rules.specs.Engine.{nameAt}
 use Rattle.rules.proofs.Laws.Find.{Halving, halving-all, halving-more, halving-none, found-at, found-empty}
 use Rattle.rules.proofs.find.find.Statement.{statement}
 use Rattle.rules.proofs.find.find.Tie as tie
-use Rattle.rules.proofs.find.find.Reads as reads
-use Rattle.rules.proofs.find.find.Lts as lts
-use Rattle.rules.proofs.find.not_above.Reads as not-above-reads
-use Rattle.rules.proofs.words.row_at.Reads as row-at-reads
 
 abbrev Inv-loop : tie.InvT-loop
 Inv-loop words k x base₀ size₀ base size = Halving (rowsIn words) k x base size
@@ -25,9 +19,6 @@ returns c = rw (c .if1 .taken) (found-empty (rowsIn (c .before .args .words .now
 
 loop-holds : tie.Need-loop-holds Inv-loop μ-loop
 loop-holds c = halving-all (rowsIn (c .before .args .words .now)) (c .before .args .k) (c .before .args .x) (c .before .pre .1) (omega (arith, c .if1 .left))
-
-add-not-above : tie.Need-add-not-above Inv-loop μ-loop
-add-not-above c = omega (arith, c .before .loop .inv .fits, c .before .before .before .pre .0)
 
 not-above-requires : tie.Need-not-above-requires Inv-loop μ-loop
 not-above-requires c κs = omega (arith, c .before .loop .inv .fits, c .before .before .before .pre .0, c .loop-test .taken)
@@ -58,7 +49,6 @@ find-spec =
     μ-loop
     returns
     loop-holds
-    add-not-above
     not-above-requires
     sub-size
     loop-less

@@ -1,7 +1,6 @@
 -- `move_row` meets its contract.
 -- Assumes nothing.
-use mathlib.Core.Path.{_≡_, refl, sym, ap, _∙_}
-use native.Mathlib.Omega.{arith}
+use mathlib.Core.Path.{refl, sym, ap, _∙_}
 use lib.Dec.{eqb}
 use lib.ListN.{set}
 use lib.Seq.{set-getD}
@@ -12,11 +11,6 @@ use Rattle.model.specs.Effects.{lowered}
 use Rattle.rules.specs.Words.{rowsIn}
 use Rattle.rules.proofs.settle.move_row.Statement.{statement}
 use Rattle.rules.proofs.settle.move_row.Tie as tie
-use Rattle.rules.proofs.settle.move_row.Reads as reads
-use Rattle.rules.proofs.settle.move_row.Lts as lts
-use Rattle.rules.proofs.settle.marked_row.Reads as marked-row-reads
-use Rattle.rules.proofs.words.row_at.Reads as row-at-reads
-use Rattle.rules.proofs.words.set_row.Reads as set-row-reads
 
 returns : tie.Need-returns
 returns c = rw (le-ltb _ _ (c .if1 .taken)) (refl, refl, c .before .pre .2)
