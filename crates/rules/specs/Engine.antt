@@ -13,7 +13,7 @@ use Rattle.model.specs.Lists.{consIf, any}
 use Rattle.model.specs.Values.{touches}
 use Rattle.model.specs.Derivation.{ancestry, inSubtree}
 use Rattle.model.specs.Strike.{Effect, Keep, Lower, End, effectOf}
-use Rattle.model.specs.Table.{emptyRow, span, derivations, named, rowsInOrder, inOrder}
+use Rattle.model.specs.Table.{emptyRow, span, derivations, named, lentTable, rowsInOrder, inOrder}
 use Rattle.model.specs.Effects.{lowered}
 
 abbrev pub nameAt : List Cap → ℕ → ℕ
@@ -47,6 +47,15 @@ pub record Found (T : List Cap) (k x r : ℕ) : Type 0 where
   pub fits : r ≤ k
   pub here : r < k → nameAt T r ≡ x
   pub gone : k ≤ r → any (named x) (before T k) ≡ false
+
+-- where the parent of each of the first k rows stands: before it, or at the row's own place where there is none
+pub record Places (T : List Cap) (k : ℕ) (places : List ℕ) : Type 0 where
+  pub long : length places ≡ 1024
+  pub each : (i : ℕ) → i < k → Found T i (parentAt T i) (getD places i 0)
+
+-- the places are there, if the answer is yes
+pub record PlacesIf (answer : Bool) (T : List Cap) (k : ℕ) (places : List ℕ) : Type 0 where
+  pub known : answer ≡ true → Places T k places
 
 -- the first k rows are live, and rise
 pub record LiveRows (T : List Cap) (k : ℕ) : Type 0 where
@@ -91,17 +100,22 @@ pub record Marked (T : List Cap) (k : ℕ) (marks : List ℕ) (ends lowers : ℕ
 abbrev pub own : Access → Span → Span → Bool → ℕ
 own a s t on = cond (touches s t && not on) (weight (effectOf a)) 0
 
-pub record Owned (T : List Cap) (k : ℕ) (onLine : List ℕ) (a : Access) (s : Span) (marks : List ℕ) : Type 0 where
-  pub each : (i : ℕ) → i < k → getD marks i 0 ≡ own a s (span (getD T i emptyRow)) (eqb (getD onLine i 0) 1)
+-- the own marks of an access to s, where the rows on the user's ancestry have 1
+abbrev pub ownOfAccess : List Cap → List ℕ → Access → Span → ℕ → ℕ
+ownOfAccess T onLine a s i = own a s (span (getD T i emptyRow)) (eqb (getD onLine i 0) 1)
 
--- 2 at q, and 0 elsewhere
-pub record Only (q : ℕ) (marks : List ℕ) : Type 0 where
-  pub each : (i : ℕ) → i < 1024 → getD marks i 0 ≡ cond (eqb i q) 2 0
+-- those of a drop: 2 at q, and 0 elsewhere
+abbrev pub ownOfDrop : ℕ → ℕ → ℕ
+ownOfDrop q i = cond (eqb i q) 2 0
 
 -- each mark is the greater of the row's own and its parent's
-pub record Spread (T : List Cap) (k : ℕ) (owned marks : List ℕ) : Type 0 where
-  pub child : (i q : ℕ) → i < k → q < i → nameAt T q ≡ parentAt T i → getD marks i 0 ≡ max (getD owned i 0) (getD marks q 0)
-  pub root : (i : ℕ) → i < k → any (named (parentAt T i)) (before T i) ≡ false → getD marks i 0 ≡ getD owned i 0
+pub record Spread (T : List Cap) (k : ℕ) (owned : ℕ → ℕ) (marks : List ℕ) : Type 0 where
+  pub child : (i q : ℕ) → i < k → q < i → nameAt T q ≡ parentAt T i → getD marks i 0 ≡ max (owned i) (getD marks q 0)
+  pub root : (i : ℕ) → i < k → any (named (parentAt T i)) (before T i) ≡ false → getD marks i 0 ≡ owned i
+
+-- no mark is below the parent's
+pub record Downward (T : List Cap) (k : ℕ) (marks : List ℕ) : Type 0 where
+  pub child : (i q : ℕ) → i < k → q < i → nameAt T q ≡ parentAt T i → getD marks q 0 ≤ getD marks i 0
 
 -- the first k rows after their marks: those marked 2 go, those marked 1 become `ro`; the newest first
 unfoldable pub kept : List ℕ → List Cap → ℕ → List Cap
@@ -117,3 +131,14 @@ pub record Clears (T T′ : List Cap) (from to : ℕ) : Type 0 where
   pub low : (j : ℕ) → j < from → getD T′ j emptyRow ≡ getD T j emptyRow
   pub zeros : (j : ℕ) → from ≤ j → j < to → getD T′ j emptyRow ≡ emptyRow
   pub rest : (j : ℕ) → to ≤ j → getD T′ j emptyRow ≡ getD T j emptyRow
+
+-- where no row ends, each stays where it is
+pub record Lowers (marks : List ℕ) (T T′ : List Cap) (k : ℕ) : Type 0 where
+  pub low : (j : ℕ) → j < k → getD T′ j emptyRow ≡ lowered (eqb (getD marks j 0) 1) (getD T j emptyRow)
+  pub rest : (j : ℕ) → k ≤ j → getD T′ j emptyRow ≡ getD T j emptyRow
+
+-- a table of n rows after an allowed event: its live rows, how many they are, and where their parents stand
+pub record Settled (T : List Cap) (n live : ℕ) (rows : List Cap) (places : List ℕ) : Type 0 where
+  pub table : take n T ≡ lentTable n rows
+  pub front : Front T n live
+  pub placed : Places T live places

@@ -1,8 +1,11 @@
 // Rows by their names: how many there are, and where a name stands.
 use crate::words::row_at;
-ghost use Prim.Native.Nat.{_≤_};
+ghost use mathlib.Core.Path.{_≡_};
+ghost use mathlib.Core.Bool.{cond};
+ghost use Prim.Native.Nat.{_+_, _<_, _≤_};
+ghost use lib.Dec.{ltb};
 ghost use Rattle.rules.specs.Words.{rowsIn};
-ghost use Rattle.rules.specs.Engine.{Rise, Front, Found};
+ghost use Rattle.rules.specs.Engine.{nameAt, Rise, Front, Found};
 
 // How many of n rows stand before the first with name 0.
 pub fn live_count(words: &[u32; 6144], n: usize) -> usize
@@ -20,27 +23,33 @@ pub fn live_count(words: &[u32; 6144], n: usize) -> usize
     i
 }
 
+// The place `half` further on, unless the name there is above x. It is computed with no branch, because no processor foresees this one.
+fn not_above(words: &[u32; 6144], base: usize, half: usize, x: u32) -> usize
+    requires { ⌜ base + half < 1024 ⌝ }
+    ensures { λ r. ⌜ r ≡ cond (ltb x (nameAt (rowsIn (now (words .entry))) (base + half))) base (base + half) ⌝ }
+{
+    let c = row_at(words, base + half);
+    let further = (4294967296 + x as u64 - c.name.0 as u64) / 4294967296;
+    base + half * (further as usize)
+}
+
 // Where the name x stands among the first k rows; k if nowhere.
 pub fn find(words: &[u32; 6144], k: usize, x: u32) -> usize
     requires { ⌜ (k ≤ 1024) × Rise (rowsIn (now words)) k ⌝ }
     ensures { λ r. ⌜ Found (rowsIn (now (words .entry))) k x r ⌝ }
 {
-    let mut lo: usize = 0;
-    let mut hi = k;
-    while lo < hi {
-        let mid = lo + (hi - lo) / 2;
-        let c = row_at(words, mid);
-        let name = c.name.0;
-        if name == x {
-            return mid;
-        }
-        if name < x {
-            lo = mid + 1;
-        } else {
-            hi = mid;
-        }
+    if k == 0 {
+        return k;
     }
-    k
+    let mut base: usize = 0;
+    let mut size = k;
+    while 1 < size {
+        let half = size / 2;
+        base = not_above(words, base, half, x);
+        size -= half;
+    }
+    let c = row_at(words, base);
+    if c.name.0 == x { base } else { k }
 }
 
 // The same, with a place that is tried first. No row is named 0.

@@ -19,3 +19,9 @@ pub struct Outcome {
     pub tally: Tally,
     pub answer: Answer,
 }
+
+// The same, and how many rows live then.
+pub struct Progress {
+    pub outcome: Outcome,
+    pub live: usize,
+}

@@ -1,6 +1,5 @@
 // What an access or a drop takes: a mark for each row, 0 keep, 1 lower, 2 end.
 use crate::find::find;
-use crate::find::find_near;
 use crate::spans::do_touch;
 use crate::spans::span_of;
 use crate::words::row_at;
@@ -15,7 +14,7 @@ ghost use Rattle.model.specs.Table.{derivations};
 ghost use Rattle.model.specs.Strike.{isEnd, isLower, struck};
 ghost use Rattle.model.specs.Derivation.{ancestry, inSubtree};
 ghost use Rattle.rules.specs.Words.{rowsIn};
-ghost use Rattle.rules.specs.Engine.{before, Rise, LiveRows, OnAncestry, weight, own, Owned, Only, Marked, Spread};
+ghost use Rattle.rules.specs.Engine.{before, Rise, Places, LiveRows, OnAncestry, weight, own, ownOfAccess, ownOfDrop, Marked, Spread, Downward};
 
 fn effect_mark(a: Access) -> u8
     ensures { λ r. ⌜ r ≡ weight (Rattle.model.specs.Strike.effectOf a) ⌝ }
@@ -33,22 +32,17 @@ fn larger(a: u8, b: u8) -> u8
 }
 
 // The rows on the ancestry of the name u have 1.
-fn ancestry_of(words: &[u32; 6144], k: usize, u: u32) -> [u8; 1024]
-    requires { ⌜ (k ≤ 1024) × Rise (rowsIn (now words)) k ⌝ }
+fn ancestry_of(words: &[u32; 6144], k: usize, places: &[usize; 1024], u: u32) -> [u8; 1024]
+    requires { ⌜ (k ≤ 1024) × Rise (rowsIn (now words)) k × Places (rowsIn (now words)) k (now places) ⌝ }
     ensures { λ r. ⌜ OnAncestry (rowsIn (now (words .entry))) k u r ⌝ }
 {
     let mut ancestry = [0u8; 1024];
     let mut top = k;
-    let mut name = u;
-    while name != 0 {
-        let q = find(words, top, name);
-        if top <= q {
-            return ancestry;
-        }
-        ancestry[q] = 1;
-        let c = row_at(words, q);
-        name = c.parent.0;
-        top = q;
+    let mut at = find(words, k, u);
+    while at < top {
+        ancestry[at] = 1;
+        top = at;
+        at = places[at];
     }
     ancestry
 }
@@ -63,21 +57,6 @@ fn own_mark(a: Access, s: Span, t: Span, on: bool) -> u8
     if do_touch(s, t) { effect_mark(a) } else { 0 }
 }
 
-// Each row's own mark.
-fn own_marks(words: &[u32; 6144], k: usize, ancestry: &[u8; 1024], a: Access, s: Span) -> [u8; 1024]
-    requires { ⌜ k ≤ 1024 ⌝ }
-    ensures { λ r. ⌜ Owned (rowsIn (now (words .entry))) k (now (ancestry .entry)) a s r ⌝ }
-{
-    let mut marks = [0u8; 1024];
-    let mut i: usize = 0;
-    while i < k {
-        let c = row_at(words, i);
-        marks[i] = own_mark(a, s, span_of(c), ancestry[i] == 1);
-        i += 1;
-    }
-    marks
-}
-
 // The mark at q, if q is below i.
 fn mark_below(marks: &[u8; 1024], q: usize, i: usize) -> u8
     requires { ⌜ i ≤ 1024 ⌝ }
@@ -86,55 +65,78 @@ fn mark_below(marks: &[u8; 1024], q: usize, i: usize) -> u8
     if q < i { marks[q] } else { 0 }
 }
 
-// Each row's mark is the greater of its own and its parent's.
-fn spread(words: &[u32; 6144], k: usize, owned: [u8; 1024]) -> [u8; 1024]
-    requires { ⌜ (k ≤ 1024) × Rise (rowsIn (now words)) k ⌝ }
-    ensures { λ r. ⌜ Spread (rowsIn (now (words .entry))) k owned r ⌝ }
+// Each row's mark is the greater of its own and its parent's: an access to s.
+fn spread_access(
+    words: &[u32; 6144],
+    k: usize,
+    places: &[usize; 1024],
+    ancestry: &[u8; 1024],
+    a: Access,
+    s: Span,
+) -> [u8; 1024]
+    requires { ⌜ (k ≤ 1024) × Rise (rowsIn (now words)) k × Places (rowsIn (now words)) k (now places) ⌝ }
+    ensures { λ r. ⌜ Spread (rowsIn (now (words .entry))) k (ownOfAccess (rowsIn (now (words .entry))) (now (ancestry .entry)) a s) r ⌝ }
 {
-    let mut marks = owned;
-    let mut hint: usize = 0;
+    let mut marks = [0u8; 1024];
     let mut i: usize = 0;
     while i < k {
         let c = row_at(words, i);
-        let q = find_near(words, i, c.parent.0, hint);
-        let up = mark_below(&marks, q, i);
-        marks[i] = larger(marks[i], up);
-        hint = q;
+        let owned = own_mark(a, s, span_of(c), ancestry[i] == 1);
+        let up = mark_below(&marks, places[i], i);
+        marks[i] = larger(owned, up);
         i += 1;
     }
     marks
 }
 
 // The marks of an access through the name u.
-pub fn marks_of_access(words: &[u32; 6144], k: usize, u: u32, a: Access, s: Span) -> [u8; 1024]
-    requires { ⌜ LiveRows (rowsIn (now words)) k ⌝ }
+pub fn marks_of_access(
+    words: &[u32; 6144],
+    k: usize,
+    places: &[usize; 1024],
+    u: u32,
+    a: Access,
+    s: Span,
+) -> [u8; 1024]
+    requires { ⌜ LiveRows (rowsIn (now words)) k × Places (rowsIn (now words)) k (now places) ⌝ }
     ensures { λ r. ⌜ Marked (rowsIn (now (words .entry))) k r
         (struck isEnd a (derivations (before (rowsIn (now (words .entry))) k)) u s)
-        (struck isLower a (derivations (before (rowsIn (now (words .entry))) k)) u s) ⌝ }
+        (struck isLower a (derivations (before (rowsIn (now (words .entry))) k)) u s)
+        × Downward (rowsIn (now (words .entry))) k r ⌝ }
 {
-    let ancestry = ancestry_of(words, k, u);
-    let owned = own_marks(words, k, &ancestry, a, s);
-    spread(words, k, owned)
+    let ancestry = ancestry_of(words, k, places, u);
+    spread_access(words, k, places, &ancestry, a, s)
 }
 
-// 2 at q, and 0 elsewhere.
-fn only_mark(q: usize) -> [u8; 1024]
-    ensures { λ r. ⌜ Only q r ⌝ }
+// A row's own mark, where the row at q is dropped.
+fn drop_mark(q: usize, i: usize) -> u8
+    ensures { λ r. ⌜ r ≡ ownOfDrop q i ⌝ }
+{
+    if i == q { 2 } else { 0 }
+}
+
+// The marks of a drop of the row at q: its subtree goes.
+fn spread_drop(words: &[u32; 6144], k: usize, places: &[usize; 1024], q: usize) -> [u8; 1024]
+    requires { ⌜ (k ≤ 1024) × Rise (rowsIn (now words)) k × Places (rowsIn (now words)) k (now places) ⌝ }
+    ensures { λ r. ⌜ Spread (rowsIn (now (words .entry))) k (ownOfDrop q) r ⌝ }
 {
     let mut marks = [0u8; 1024];
-    if q < 1024 {
-        marks[q] = 2;
-        return marks;
+    let mut i: usize = 0;
+    while i < k {
+        let up = mark_below(&marks, places[i], i);
+        marks[i] = larger(drop_mark(q, i), up);
+        i += 1;
     }
     marks
 }
 
 // The marks of a drop of the name u.
-pub fn marks_of_drop(words: &[u32; 6144], k: usize, u: u32) -> [u8; 1024]
-    requires { ⌜ LiveRows (rowsIn (now words)) k ⌝ }
+pub fn marks_of_drop(words: &[u32; 6144], k: usize, places: &[usize; 1024], u: u32) -> [u8; 1024]
+    requires { ⌜ LiveRows (rowsIn (now words)) k × Places (rowsIn (now words)) k (now places) ⌝ }
     ensures { λ r. ⌜ Marked (rowsIn (now (words .entry))) k r
-        (λ x. inSubtree u (ancestry (derivations (before (rowsIn (now (words .entry))) k)) x)) (λ x. false) ⌝ }
+        (λ x. inSubtree u (ancestry (derivations (before (rowsIn (now (words .entry))) k)) x)) (λ x. false)
+        × Downward (rowsIn (now (words .entry))) k r ⌝ }
 {
     let q = find(words, k, u);
-    spread(words, k, only_mark(q))
+    spread_drop(words, k, places, q)
 }

@@ -9,11 +9,11 @@ ghost use mathlib.Core.Path.{_≡_};
 ghost use mathlib.Core.Bool.{true, _&&_};
 ghost use Prim.Native.Nat.{suc, _<_, _≤_};
 ghost use lib.Dec.{leb};
-ghost use lib.ListN.{take, drop};
+ghost use lib.ListN.{length, take, drop};
 ghost use Rattle.model.specs.Lists.{all};
 ghost use Rattle.model.specs.Table.{isEmptyRow, isRight, rowFitsParent, rowInOrder, rowsInOrder, inOrder};
 ghost use Rattle.rules.specs.Words.{rowsIn};
-ghost use Rattle.rules.specs.Engine.{before, Filled, Rise, Front, Found};
+ghost use Rattle.rules.specs.Engine.{before, Filled, Rise, Front, Found, PlacesIf};
 
 fn is_empty_row(c: Cap) -> bool
     ensures { λ r. ⌜ r ≡ isEmptyRow c ⌝ }
@@ -96,10 +96,10 @@ fn row_in_order(words: &[u32; 6144], i: usize, c: Cap, q: usize) -> bool
     }
 }
 
-// Each of the first k rows against the rows before it.
-fn rises(words: &[u32; 6144], k: usize, issued: u32) -> bool
-    requires { ⌜ (k ≤ 1024) × Filled (rowsIn (now words)) k ⌝ }
-    ensures { λ r. ⌜ r ≡ rowsInOrder (suc issued) (before (rowsIn (now (words .entry))) k) ⌝ }
+// Each of the first k rows against the rows before it. The place of each row's parent is noted.
+fn rows_in_order(words: &[u32; 6144], k: usize, issued: u32, places: &mut [usize; 1024]) -> bool
+    requires { ⌜ (k ≤ 1024) × Filled (rowsIn (now words)) k × (length (now places) ≡ 1024) ⌝ }
+    ensures { λ r. ⌜ (r ≡ rowsInOrder (suc issued) (before (rowsIn (now (words .entry))) k)) × PlacesIf r (rowsIn (now (words .entry))) k (now (places .exit)) ⌝ }
 {
     let mut last: u32 = 0;
     let mut hint: usize = 0;
@@ -113,6 +113,7 @@ fn rises(words: &[u32; 6144], k: usize, issued: u32) -> bool
         if !row_in_order(words, i, c, q) {
             return false;
         }
+        places[i] = q;
         last = c.name.0;
         hint = q;
         i += 1;
@@ -120,10 +121,16 @@ fn rises(words: &[u32; 6144], k: usize, issued: u32) -> bool
     last <= issued
 }
 
-// The first n rows are in order, where k of them stand before the first with name 0.
-pub fn in_order(words: &[u32; 6144], n: usize, k: usize, issued: u32) -> bool
-    requires { ⌜ (n ≤ 1024) × Front (rowsIn (now words)) n k ⌝ }
-    ensures { λ r. ⌜ r ≡ inOrder (take n (rowsIn (now (words .entry)))) issued ⌝ }
+// The first n rows are in order, where k of them stand before the first with name 0. If they are, the place of each row's parent is noted.
+pub fn check_order(
+    words: &[u32; 6144],
+    n: usize,
+    k: usize,
+    issued: u32,
+    places: &mut [usize; 1024],
+) -> bool
+    requires { ⌜ (n ≤ 1024) × Front (rowsIn (now words)) n k × (length (now places) ≡ 1024) ⌝ }
+    ensures { λ r. ⌜ (r ≡ inOrder (take n (rowsIn (now (words .entry)))) issued) × PlacesIf r (rowsIn (now (words .entry))) k (now (places .exit)) ⌝ }
 {
     if 1000000 < issued {
         return false;
@@ -131,5 +138,14 @@ pub fn in_order(words: &[u32; 6144], n: usize, k: usize, issued: u32) -> bool
     if !rest_is_empty(words, k, n) {
         return false;
     }
-    rises(words, k, issued)
+    rows_in_order(words, k, issued, places)
+}
+
+// The same, for a caller that has no use for the places.
+pub fn in_order(words: &[u32; 6144], n: usize, k: usize, issued: u32) -> bool
+    requires { ⌜ (n ≤ 1024) × Front (rowsIn (now words)) n k ⌝ }
+    ensures { λ r. ⌜ r ≡ inOrder (take n (rowsIn (now (words .entry)))) issued ⌝ }
+{
+    let mut places = [0usize; 1024];
+    check_order(words, n, k, issued, &mut places)
 }

@@ -1,5 +1,6 @@
 // One event on a table of words and a tally.
 use crate::Outcome;
+use crate::Progress;
 use crate::count::count_allowed;
 use crate::count::count_refused;
 use crate::find::find;
@@ -7,7 +8,8 @@ use crate::find::live_count;
 use crate::judge::judge;
 use crate::marks::marks_of_access;
 use crate::marks::marks_of_drop;
-use crate::ordered::in_order;
+use crate::ordered::check_order;
+use crate::settle::lower;
 use crate::settle::settle;
 use crate::words::row_at;
 use crate::words::set_row;
@@ -22,11 +24,11 @@ use model::Tally;
 ghost use mathlib.Core.Path.{_≡_};
 ghost use mathlib.Core.Bool.{true, false};
 ghost use mathlib.Core.List.{_∷_};
-ghost use Prim.Native.Nat.{ℕ, _<_, _≤_};
-ghost use lib.ListN.{length, getD, take};
+ghost use Prim.Native.Nat.{_<_, _≤_};
+ghost use lib.ListN.{length, take};
 ghost use Rattle.model.specs.Lists.{any};
 ghost use Rattle.model.specs.Derivation.{ancestry, inSubtree};
-ghost use Rattle.model.specs.Table.{row, emptyRow, derivations, named, lentTable, lookup, inOrder};
+ghost use Rattle.model.specs.Table.{row, derivations, named, lookup, inOrder};
 ghost use Rattle.model.specs.Effects.{revoke, afterAccess, rowsAfter};
 ghost use Rattle.model.specs.Table;
 ghost use Rattle.model.specs.Refusals;
@@ -34,7 +36,7 @@ ghost use Rattle.model.specs.Effects;
 ghost use Rattle.model.specs.Counts;
 ghost use Rattle.model.specs.Step;
 ghost use Rattle.rules.specs.Words.{rowsIn, rowsOf};
-ghost use Rattle.rules.specs.Engine.{before, Rise, Orderly, Ready};
+ghost use Rattle.rules.specs.Engine.{before, Rise, Found, Places, Orderly, Ready, Settled};
 ghost use Rattle.rules.specs.Steps.{Stepped};
 
 // The row of a new capability.
@@ -52,78 +54,147 @@ fn new_row(name: u32, parent: u32, s: Span, right: u32, depth: u32) -> Cap
     }
 }
 
-// The first empty row gets it.
-fn append(words: &mut [u32; 6144], n: usize, k: usize, c: Cap)
-    requires { ⌜ (k < n) × Ready (now words) (rowsIn (now words)) n k ⌝ }
-    ensures { λ _. ⌜ (take n (rowsIn (now (words .exit))) ≡ lentTable n (c ∷ before (rowsIn (now (words .entry))) k)) × (length (now (words .exit)) ≡ 6144) ⌝ }
+// The first empty row gets it, where q is its parent's place; the answer is how many rows live then.
+fn append(
+    words: &mut [u32; 6144],
+    n: usize,
+    k: usize,
+    places: &mut [usize; 1024],
+    c: Cap,
+    q: usize,
+) -> usize
+    requires { ⌜ (k < n) × Ready (now words) (rowsIn (now words)) n k × Places (rowsIn (now words)) k (now places)
+        × Found (rowsIn (now words)) k (c .parent .0) q × (0 < c .name .0) ⌝ }
+    ensures { λ r. ⌜ Settled (rowsIn (now (words .exit))) n r (c ∷ before (rowsIn (now (words .entry))) k) (now (places .exit)) × (length (now (words .exit)) ≡ 6144) ⌝ }
 {
     set_row(words, k, c);
+    places[k] = q;
+    k + 1
 }
 
-// The depth of a name that is there.
-fn depth_of(words: &[u32; 6144], k: usize, u: u32) -> u32
-    requires { ⌜ (k ≤ 1024) × Rise (rowsIn (now words)) k × (any (named u) (before (rowsIn (now words)) k) ≡ true) ⌝ }
+// The depth of a name that is there, at q.
+fn depth_at(words: &[u32; 6144], k: usize, u: u32, q: usize) -> u32
+    requires { ⌜ (k ≤ 1024) × Rise (rowsIn (now words)) k × (any (named u) (before (rowsIn (now words)) k) ≡ true) × Found (rowsIn (now words)) k u q ⌝ }
     ensures { λ r. ⌜ r ≡ lookup u (before (rowsIn (now (words .entry))) k) .depth ⌝ }
 {
-    let q = find(words, k, u);
     let c = row_at(words, q);
     c.depth
 }
 
-// An access through the name u.
-fn access_rows(words: &mut [u32; 6144], n: usize, k: usize, u: u32, a: Access, s: Span)
-    requires { ⌜ Ready (now words) (rowsIn (now words)) n k ⌝ }
-    ensures { λ _. ⌜ (take n (rowsIn (now (words .exit))) ≡ lentTable n (afterAccess a u s (before (rowsIn (now (words .entry))) k))) × (length (now (words .exit)) ≡ 6144) ⌝ }
+// A read through the name u. No row ends, so each parent stays where it is.
+fn read_rows(words: &mut [u32; 6144], n: usize, k: usize, places: &[usize; 1024], u: u32, s: Span)
+    requires { ⌜ Ready (now words) (rowsIn (now words)) n k × Places (rowsIn (now words)) k (now places) ⌝ }
+    ensures { λ _. ⌜ Settled (rowsIn (now (words .exit))) n k (afterAccess Access.Reading u s (before (rowsIn (now (words .entry))) k)) (now (places .entry)) × (length (now (words .exit)) ≡ 6144) ⌝ }
 {
-    let marks = marks_of_access(words, k, u, a, s);
-    settle(words, n, k, &marks);
+    let marks = marks_of_access(words, k, places, u, Access::Reading, s);
+    lower(words, k, &marks);
+}
+
+// A write through the name u.
+fn write_rows(
+    words: &mut [u32; 6144],
+    n: usize,
+    k: usize,
+    places: &mut [usize; 1024],
+    u: u32,
+    s: Span,
+) -> usize
+    requires { ⌜ Ready (now words) (rowsIn (now words)) n k × Places (rowsIn (now words)) k (now places) ⌝ }
+    ensures { λ r. ⌜ Settled (rowsIn (now (words .exit))) n r (afterAccess Access.Writing u s (before (rowsIn (now (words .entry))) k)) (now (places .exit)) × (length (now (words .exit)) ≡ 6144) ⌝ }
+{
+    let marks = marks_of_access(words, k, places, u, Access::Writing, s);
+    settle(words, n, k, &marks, places)
 }
 
 // A drop of the name u.
-fn drop_rows(words: &mut [u32; 6144], n: usize, k: usize, u: u32)
-    requires { ⌜ Ready (now words) (rowsIn (now words)) n k ⌝ }
-    ensures { λ _. ⌜ (take n (rowsIn (now (words .exit))) ≡ lentTable n (revoke (λ x. inSubtree u (ancestry (derivations (before (rowsIn (now (words .entry))) k)) x)) (λ x. false) (before (rowsIn (now (words .entry))) k)))
+fn drop_rows(
+    words: &mut [u32; 6144],
+    n: usize,
+    k: usize,
+    places: &mut [usize; 1024],
+    u: u32,
+) -> usize
+    requires { ⌜ Ready (now words) (rowsIn (now words)) n k × Places (rowsIn (now words)) k (now places) ⌝ }
+    ensures { λ r. ⌜ Settled (rowsIn (now (words .exit))) n r (revoke (λ x. inSubtree u (ancestry (derivations (before (rowsIn (now (words .entry))) k)) x)) (λ x. false) (before (rowsIn (now (words .entry))) k)) (now (places .exit))
         × (length (now (words .exit)) ≡ 6144) ⌝ }
 {
-    let marks = marks_of_drop(words, k, u);
-    settle(words, n, k, &marks);
+    let marks = marks_of_drop(words, k, places, u);
+    settle(words, n, k, &marks, places)
 }
 
-// What an allowed event does to the rows.
-fn change(words: &mut [u32; 6144], n: usize, k: usize, issued: u32, e: Event)
-    requires { ⌜ Orderly (rowsIn (now words)) n k issued × (Refusals.judge (take n (rowsIn (now words))) issued e ≡ 0) × (length (now words) ≡ 6144) ⌝ }
-    ensures { λ _. ⌜ (take n (rowsIn (now (words .exit))) ≡ lentTable n (rowsAfter issued (before (rowsIn (now (words .entry))) k) e)) × (length (now (words .exit)) ≡ 6144) ⌝ }
+// What an allowed event does to the rows; the answer is how many live then.
+fn change(
+    words: &mut [u32; 6144],
+    n: usize,
+    k: usize,
+    places: &mut [usize; 1024],
+    issued: u32,
+    e: Event,
+) -> usize
+    requires { ⌜ Orderly (rowsIn (now words)) n k issued × (Refusals.judge (take n (rowsIn (now words))) issued e ≡ 0) × (length (now words) ≡ 6144) × Places (rowsIn (now words)) k (now places) ⌝ }
+    ensures { λ r. ⌜ Settled (rowsIn (now (words .exit))) n r (rowsAfter issued (before (rowsIn (now (words .entry))) k) e) (now (places .exit)) × (length (now (words .exit)) ≡ 6144) ⌝ }
 {
     match e {
-        Event::Create(s, r) => append(words, n, k, new_row(issued + 1, 0, s, r as u32, 1)),
+        Event::Create(s, r) => append(
+            words,
+            n,
+            k,
+            places,
+            new_row(issued + 1, 0, s, r as u32, 1),
+            k,
+        ),
         Event::Borrow(u, s, r) => {
-            let d = depth_of(words, k, u.0);
-            append(words, n, k, new_row(issued + 1, u.0, s, r as u32, d + 1))
+            let q = find(words, k, u.0);
+            let d = depth_at(words, k, u.0, q);
+            append(
+                words,
+                n,
+                k,
+                places,
+                new_row(issued + 1, u.0, s, r as u32, d + 1),
+                q,
+            )
         }
-        Event::Read(u, s) => access_rows(words, n, k, u.0, Access::Reading, s),
-        Event::Write(u, s) => access_rows(words, n, k, u.0, Access::Writing, s),
-        Event::Drop(u) => drop_rows(words, n, k, u.0),
+        Event::Read(u, s) => {
+            read_rows(words, n, k, places, u.0, s);
+            k
+        }
+        Event::Write(u, s) => write_rows(words, n, k, places, u.0, s),
+        Event::Drop(u) => drop_rows(words, n, k, places, u.0),
     }
 }
 
-// An event on a table in order.
-pub fn step_ordered(words: &mut [u32; 6144], n: usize, t: Tally, e: Event) -> Outcome
-    requires { ⌜ (n ≤ 1024) × (inOrder (rowsOf (now words) n) (t .issued) ≡ true) × (length (now words) ≡ 6144) ⌝ }
-    ensures { λ r. ⌜ Stepped (now (words .entry)) n t e (now (words .exit)) r ⌝ }
+// An event on a table in order, of which it is known how many rows live and where each row's parent stands. Both are known after it too,
+// so that a run of events looks for them once.
+pub fn step_known(
+    words: &mut [u32; 6144],
+    n: usize,
+    k: usize,
+    places: &mut [usize; 1024],
+    t: Tally,
+    e: Event,
+) -> Progress
+    requires { ⌜ Orderly (rowsIn (now words)) n k (t .issued) × Places (rowsIn (now words)) k (now places) × (length (now words) ≡ 6144) ⌝ }
+    ensures { λ r. ⌜ Stepped (now (words .entry)) n t e (now (words .exit)) (r .outcome)
+        × Orderly (rowsIn (now (words .exit))) n (r .live) (r .outcome .tally .issued)
+        × Places (rowsIn (now (words .exit))) (r .live) (now (places .exit)) ⌝ }
 {
-    let k = live_count(words, n);
     let a = judge(words, n, k, t.issued, e);
     match a {
-        Answer::Refused(x) => Outcome {
-            tally: count_refused(t),
-            answer: Answer::Refused(x),
-        },
+        Answer::Refused(x) => {
+            let outcome = Outcome {
+                tally: count_refused(t),
+                answer: Answer::Refused(x),
+            };
+            Progress { outcome, live: k }
+        }
         Answer::Allowed(x) => {
-            change(words, n, k, t.issued, e);
-            Outcome {
+            let live = change(words, n, k, places, t.issued, e);
+            let outcome = Outcome {
                 tally: count_allowed(e, t),
                 answer: Answer::Allowed(x),
-            }
+            };
+            Progress { outcome, live }
         }
     }
 }
@@ -135,12 +206,23 @@ pub fn step(words: &mut [u32; 6144], n: usize, t: Tally, e: Event) -> Outcome
 {
     if n <= 1024 {
         let k = live_count(words, n);
-        if in_order(words, n, k, t.issued) {
-            return step_ordered(words, n, t, e);
+        let mut places = [0usize; 1024];
+        if check_order(words, n, k, t.issued, &mut places) {
+            let p = step_known(words, n, k, &mut places, t, e);
+            let outcome = p.outcome;
+            return outcome;
         }
     }
     Outcome {
         tally: t,
         answer: Answer::Refused(Refusal::Disordered),
     }
+}
+
+// An event on a table in order, whose places are not at hand: the check is what finds them.
+pub fn step_ordered(words: &mut [u32; 6144], n: usize, t: Tally, e: Event) -> Outcome
+    requires { ⌜ (n ≤ 1024) × (inOrder (rowsOf (now words) n) (t .issued) ≡ true) × (length (now words) ≡ 6144) ⌝ }
+    ensures { λ r. ⌜ Stepped (now (words .entry)) n t e (now (words .exit)) r ⌝ }
+{
+    step(words, n, t, e)
 }

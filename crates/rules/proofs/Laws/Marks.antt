@@ -19,7 +19,7 @@ use Rattle.model.specs.Derivation.{Derivation, ancestry, inSubtree, onAncestry}
 use Rattle.model.specs.Strike.{Effect, Keep, Lower, End, isLower, isEnd, effectOf, strike, reached, struck}
 use Rattle.model.specs.Values.{touches}
 use Rattle.model.specs.Table.{emptyRow, span, derivation, derivations, named, parentInOrder}
-use Rattle.rules.specs.Engine.{nameAt, parentAt, before, Rise, Found, LiveRows, OnAncestry, weight, own, mark, Owned, Only, Marked, Spread}
+use Rattle.rules.specs.Engine.{nameAt, parentAt, before, Rise, Found, LiveRows, OnAncestry, weight, own, ownOfAccess, ownOfDrop, mark, Marked, Spread, Downward}
 use Rattle.model.proofs.Lists.{test, clash, or-neither}
 use Rattle.model.proofs.Ancestries.{below-differs, ancestry-here, ancestry-past}
 use Rattle.model.proofs.Lent.{Named}
@@ -67,21 +67,26 @@ unfolding before ancestry
 ancestry-none T zero x h = refl
 ancestry-none T (suc k) x h = let p = or-neither (eqb x (nameAt T k)) (any (named x) (before T k)) h in ancestry-past (derivation (getD T k emptyRow)) (derivations (before T k)) x (p .0) ∙ ancestry-none T k x (p .1)
 
--- the walk up the ancestry of u: what is left is the ancestry of a name among the first `top` rows
-pub record Walk (T : List Cap) (k u : ℕ) (marks : List ℕ) (top name : ℕ) : Type 0 where
+-- the walk up the ancestry of u: what is left is the ancestry of a name that stands at `at` among the first `top` rows, or nowhere
+pub record Walk (T : List Cap) (k u : ℕ) (marks : List ℕ) (top at : ℕ) : Type 0 where
   pub fits : top ≤ k
   pub long : length marks ≡ 1024
+  pub name : ℕ
+  pub found : Found T top name at
   pub each : (j : ℕ) → j < k → inSubtree (nameAt T j) (ancestry (derivations (before T k)) u) ≡ eqb (getD marks j 0) 1 || inSubtree (nameAt T j) (ancestry (derivations (before T top)) name)
 
 module _ (T : List Cap) (k u : ℕ) (few : k ≤ 1024) (r : Rise T k) where
-  pub walk-step : (marks : List ℕ) (top name q : ℕ) → Walk T k u marks top name → q < top → nameAt T q ≡ name → Walk T k u (set marks q 1) q (parentAt T q)
-  walk-step marks top name q w l e = record { fits = omega (arith, w .fits); long = length-set marks q 1 ∙ w .long; each = λ j m. w .each j m ∙ step j m (test (eqb j q)) }
+  pub walk-step : (marks : List ℕ) (top q next : ℕ) (w : Walk T k u marks top q) → q < top → Found T q (parentAt T q) next → Walk T k u (set marks q 1) q next
+  walk-step marks top q next w l f = record { fits = omega (arith, w .fits); long = length-set marks q 1 ∙ w .long; name = parentAt T q; found = f; each = λ j m. w .each j m ∙ step j m (test (eqb j q)) }
     where
+      name : ℕ
+      name = w .name
+
       rest : ℕ → Bool
       rest j = inSubtree (nameAt T j) (ancestry (derivations (before T q)) (parentAt T q))
 
       here : ancestry (derivations (before T top)) name ≡ derivation (getD T q emptyRow) ∷ ancestry (derivations (before T q)) (parentAt T q)
-      here = ancestry-place T top q name (rise-sub T k top (w .fits) r) l e
+      here = ancestry-place T top q name (rise-sub T k top (w .fits) r) l (w .found .here l)
 
       step : (j : ℕ) → j < k → (eqb j q ≡ true) ⊎ (eqb j q ≡ false) → eqb (getD marks j 0) 1 || inSubtree (nameAt T j) (ancestry (derivations (before T top)) name) ≡ eqb (getD (set marks q 1) j 0) 1 || inSubtree (nameAt T j) (ancestry (derivations (before T q)) (parentAt T q))
       step j m (inl t) =
@@ -94,65 +99,61 @@ module _ (T : List Cap) (k u : ℕ) (few : k ≤ 1024) (r : Rise T k) where
           let h : eqb (nameAt T j) (nameAt T q) ≡ false = ne-eqb (nameAt T j) (nameAt T q) (λ (d : nameAt T j ≡ nameAt T q). eqb-false j q f (same-place T k j q r m (omega (arith, w .fits)) d)) in
           rw (here, g, h)
 
-  pub walk-over : (marks : List ℕ) (top name : ℕ) → Walk T k u marks top name → any (named name) (before T top) ≡ false → OnAncestry T k u marks
-  walk-over marks top name w h = record { each = λ j m. sym (w .each j m ∙ rw (ancestry-none T top name h) (or-false (eqb (getD marks j 0) 1))) }
-
-  pub walk-zero : (marks : List ℕ) (top : ℕ) → Walk T k u marks top 0 → OnAncestry T k u marks
-  walk-zero marks top w = walk-over marks top 0 w (none-named T top 0 (λ i l e. let p : 0 < nameAt T i = r .positive i (omega (arith, w .fits)) in omega arith))
+  pub walk-over : (marks : List ℕ) (top q : ℕ) → Walk T k u marks top q → top ≤ q → OnAncestry T k u marks
+  walk-over marks top q w h = record { each = λ j m. sym (w .each j m ∙ rw (ancestry-none T top (w .name) (w .found .gone h)) (or-false (eqb (getD marks j 0) 1))) }
 
 -- ---- marks spread down
 
--- the first i are done, and the rest are as they were
-pub record Spreading (T : List Cap) (i : ℕ) (owned marks : List ℕ) : Type 0 where
+-- the first i are done
+pub record Spreading (T : List Cap) (i : ℕ) (owned : ℕ → ℕ) (marks : List ℕ) : Type 0 where
   pub done : Spread T i owned marks
-  pub rest : (j : ℕ) → i ≤ j → getD marks j 0 ≡ getD owned j 0
   pub long : length marks ≡ 1024
 
-pub spread-none : (T : List Cap) (owned : List ℕ) → length owned ≡ 1024 → Spreading T 0 owned owned
-spread-none T owned h = record { done = record { child = λ i q l. absurd (not-suc-le-zero l); root = λ i l. absurd (not-suc-le-zero l) }; rest = λ j l. refl; long = h }
+pub spread-none : (T : List Cap) (owned : ℕ → ℕ) (marks : List ℕ) → length marks ≡ 1024 → Spreading T 0 owned marks
+spread-none T owned marks h = record { done = record { child = λ i q l. absurd (not-suc-le-zero l); root = λ i l. absurd (not-suc-le-zero l) }; long = h }
 
 -- the mark that goes to row i, where q is its parent's place
-module _ (T : List Cap) (k i q : ℕ) (owned marks : List ℕ) (r : Rise T k) (few : k ≤ 1024) (l : i < k) (f : Found T i (parentAt T i) q) (s : Spreading T i owned marks) where
-  abbrev newName : ℕ
-  newName = max (getD marks i 0) (cond (ltb q i) (getD marks q 0) 0)
+module _ (T : List Cap) (k i q : ℕ) (owned : ℕ → ℕ) (marks : List ℕ) (r : Rise T k) (few : k ≤ 1024) (l : i < k) (f : Found T i (parentAt T i) q) (s : Spreading T i owned marks) where
+  abbrev newMark : ℕ
+  newMark = max (owned i) (cond (ltb q i) (getD marks q 0) 0)
 
-  at-own : getD marks i 0 ≡ getD owned i 0
-  at-own = s .rest i (omega arith)
+  kept-below : (j : ℕ) → j < i → getD (set marks i newMark) j 0 ≡ getD marks j 0
+  kept-below j m = getD-set-other marks i j newMark 0 (λ (e : j ≡ i). omega arith)
 
-  kept-below : (j : ℕ) → j < i → getD (set marks i newName) j 0 ≡ getD marks j 0
-  kept-below j m = getD-set-other marks i j newName 0 (λ (e : j ≡ i). omega arith)
+  here : getD (set marks i newMark) i 0 ≡ newMark
+  here = getD-set-same marks i newMark 0 (omega (arith, s .long))
 
-  here : getD (set marks i newName) i 0 ≡ newName
-  here = getD-set-same marks i newName 0 (omega (arith, s .long))
-
-  pub spread-more : Spreading T (i + 1) owned (set marks i newName)
+  pub spread-more : Spreading T (i + 1) owned (set marks i newMark)
   spread-more = record {
     done = record { child = λ j p m n e. child j p n e (last j i m); root = λ j m h. root j h (last j i m) };
-    rest = λ j m. getD-set-other marks i j newName 0 (λ (e : j ≡ i). omega arith) ∙ s .rest j (omega arith);
-    long = length-set marks i newName ∙ s .long;
+    long = length-set marks i newMark ∙ s .long;
   }
     where
-      found : (p : ℕ) → p < i → nameAt T p ≡ parentAt T i → newName ≡ max (getD owned i 0) (getD marks p 0)
+      found : (p : ℕ) → p < i → nameAt T p ≡ parentAt T i → newMark ≡ max (owned i) (getD marks p 0)
       found p n e = go (test (ltb q i))
         where
-          go : (ltb q i ≡ true) ⊎ (ltb q i ≡ false) → newName ≡ max (getD owned i 0) (getD marks p 0)
-          go (inl t) = let b : q < i = ltb-true q i t in let z : q ≡ p = same-place T k q p r (omega arith) (omega arith) (f .here b ∙ sym e) in rw (t, at-own, z)
+          go : (ltb q i ≡ true) ⊎ (ltb q i ≡ false) → newMark ≡ max (owned i) (getD marks p 0)
+          go (inl t) = let b : q < i = ltb-true q i t in let z : q ≡ p = same-place T k q p r (omega arith) (omega arith) (f .here b ∙ sym e) in rw (t, z)
           go (inr g) = absurd (named-none T i (parentAt T i) (f .gone (ltb-false q i g)) p n e)
 
-      child : (j p : ℕ) → p < j → nameAt T p ≡ parentAt T j → (j < i) ⊎ (j ≡ i) → getD (set marks i newName) j 0 ≡ max (getD owned j 0) (getD (set marks i newName) p 0)
+      child : (j p : ℕ) → p < j → nameAt T p ≡ parentAt T j → (j < i) ⊎ (j ≡ i) → getD (set marks i newMark) j 0 ≡ max (owned j) (getD (set marks i newMark) p 0)
       child j p n e (inl m) = rw (kept-below j m, kept-below p (omega arith)) (s .done .child j p m n e)
       child j p n e (inr z) = let n′ : p < i = omega arith in rw (z, here, kept-below p n′) (found p n′ (e ∙ ap (parentAt T) z))
 
-      root : (j : ℕ) → any (named (parentAt T j)) (before T j) ≡ false → (j < i) ⊎ (j ≡ i) → getD (set marks i newName) j 0 ≡ getD owned j 0
+      root : (j : ℕ) → any (named (parentAt T j)) (before T j) ≡ false → (j < i) ⊎ (j ≡ i) → getD (set marks i newMark) j 0 ≡ owned j
       root j h (inl m) = kept-below j m ∙ s .done .root j m h
       root j h (inr z) = rw (z, here) (go (test (ltb q i)))
         where
           none : any (named (parentAt T i)) (before T i) ≡ false
           none = rw z at h
 
-          go : (ltb q i ≡ true) ⊎ (ltb q i ≡ false) → newName ≡ getD owned i 0
+          go : (ltb q i ≡ true) ⊎ (ltb q i ≡ false) → newMark ≡ owned i
           go (inl t) = let b : q < i = ltb-true q i t in absurd (named-none T i (parentAt T i) none q b (f .here b))
-          go (inr g) = rw (g, at-own) (omega arith)
+          go (inr g) = rw g (omega arith)
+
+-- no mark is below the parent's
+pub spread-downward : (T : List Cap) (k : ℕ) (owned : ℕ → ℕ) (marks : List ℕ) → Spread T k owned marks → Downward T k marks
+spread-downward T k owned marks s = record { child = λ i q l b e. let h : getD marks i 0 ≡ max (owned i) (getD marks q 0) = s .child i q l b e in omega arith }
 
 -- ---- what the marks say
 
@@ -188,8 +189,8 @@ module _ (T : List Cap) (k : ℕ) (st : LiveRows T k) where
   stand-named = all-before (λ c. named 0 c ≡ false) T k (λ i l. below-differs (st .filled i l))
 
   -- where each row's mark goes by its own and its parent's, and no parent has mark 0, the marks that spread are these
-  module _ (ends lowers : ℕ → Bool) (owned marks : List ℕ) (s : Spread T k owned marks) (none : mark ends lowers 0 ≡ 0)
-      (step : (i : ℕ) → i < k → mark ends lowers (nameAt T i) ≡ max (getD owned i 0) (mark ends lowers (parentAt T i))) where
+  module _ (ends lowers : ℕ → Bool) (owned : ℕ → ℕ) (marks : List ℕ) (s : Spread T k owned marks) (none : mark ends lowers 0 ≡ 0)
+      (step : (i : ℕ) → i < k → mark ends lowers (nameAt T i) ≡ max (owned i) (mark ends lowers (parentAt T i))) where
     marked-below : (n i : ℕ) → i < n → i < k → getD marks i 0 ≡ mark ends lowers (nameAt T i)
     marked-below zero i m l = absurd (not-suc-le-zero m)
     marked-below (suc n) i m l = go (test (eqb (parentAt T i) 0)) (marked-below n)
@@ -201,36 +202,36 @@ module _ (T : List Cap) (k : ℕ) (st : LiveRows T k) where
         go (inl t) ih =
             let z : parentAt T i ≡ 0 = eqb-true (parentAt T i) 0 t in
             let free : any (named (parentAt T i)) (before T i) ≡ false = rw z (none-named T i 0 (λ j b e. let p : 0 < nameAt T j = st .filled j (omega arith) in omega arith)) in
-            let d : getD marks i 0 ≡ getD owned i 0 = s .root i l free in
+            let d : getD marks i 0 ≡ owned i = s .root i l free in
             let f : mark ends lowers (parentAt T i) ≡ 0 = ap (mark ends lowers) z ∙ none in
-            let g : max (getD owned i 0) 0 ≡ getD owned i 0 = omega arith in
-            d ∙ sym (step i l ∙ ap (max (getD owned i 0)) f ∙ g)
+            let g : max (owned i) 0 ≡ owned i = omega arith in
+            d ∙ sym (step i l ∙ ap (max (owned i)) f ∙ g)
         go (inr f) ih =
             let p = place-of T i (parentAt T i) (parentInOrder-rowFitsParent (getD T i emptyRow) (before T i) f hung .0) in
-            s .child i (p .0) l (p .1 .0) (p .1 .1) ∙ ap (max (getD owned i 0)) (ih (p .0) (omega (arith, p .1 .0)) (omega (arith, p .1 .0)) ∙ ap (mark ends lowers) (p .1 .1)) ∙ sym (step i l)
+            s .child i (p .0) l (p .1 .0) (p .1 .1) ∙ ap (max (owned i)) (ih (p .0) (omega (arith, p .1 .0)) (omega (arith, p .1 .0)) ∙ ap (mark ends lowers) (p .1 .1)) ∙ sym (step i l)
 
     pub marked : Marked T k marks ends lowers
     marked = record { each = λ i l. marked-below (suc i) i (omega arith) l }
 
   -- an access
-  module _ (a : Access) (sp : Span) (u : ℕ) (onLine owned marks : List ℕ) (ol : OnAncestry T k u onLine) (ow : Owned T k onLine a sp owned) (s : Spread T k owned marks) where
+  module _ (a : Access) (sp : Span) (u : ℕ) (onLine marks : List ℕ) (ol : OnAncestry T k u onLine) (s : Spread T k (ownOfAccess T onLine a sp) marks) where
     none-used : (is : Effect → Bool) → struck is a B u sp 0 ≡ false
     unfolding struck reached onAncestry
     none-used is = rw (no-ancestry (st .bound) (before T k) stand-named (st .rise))
 
-    step-used : (i : ℕ) → i < k → mark (struck isEnd a B u sp) (struck isLower a B u sp) (nameAt T i) ≡ max (getD owned i 0) (mark (struck isEnd a B u sp) (struck isLower a B u sp) (parentAt T i))
+    step-used : (i : ℕ) → i < k → mark (struck isEnd a B u sp) (struck isLower a B u sp) (nameAt T i) ≡ max (ownOfAccess T onLine a sp i) (mark (struck isEnd a B u sp) (struck isLower a B u sp) (parentAt T i))
     step-used i l =
         let f : (is : Effect → Bool) → struck is a B u sp (nameAt T i) ≡ is (strike a sp (ancestry B u) (derivation (getD T i emptyRow) ∷ ancestry B (parentAt T i))) || struck is a B u sp (parentAt T i) =
         λ is. at-before _ T k (struck-step (st .bound) (before T k) stand-named (st .rise) is a u sp) i l in
-        let o : getD owned i 0 ≡ weight (strike a sp (ancestry B u) (derivation (getD T i emptyRow) ∷ ancestry B (parentAt T i))) =
-        ow .each i l ∙ ap (own a sp (span (getD T i emptyRow))) (ol .each i l) ∙ own-weight a sp (ancestry B u) (ancestry B (parentAt T i)) (getD T i emptyRow) in
+        let o : ownOfAccess T onLine a sp i ≡ weight (strike a sp (ancestry B u) (derivation (getD T i emptyRow) ∷ ancestry B (parentAt T i))) =
+        ap (own a sp (span (getD T i emptyRow))) (ol .each i l) ∙ own-weight a sp (ancestry B u) (ancestry B (parentAt T i)) (getD T i emptyRow) in
         rw (f isEnd, f isLower, o) (sym (greater (strike a sp (ancestry B u) (derivation (getD T i emptyRow) ∷ ancestry B (parentAt T i))) (struck isEnd a B u sp (parentAt T i)) (struck isLower a B u sp (parentAt T i))))
 
     pub marked-use : Marked T k marks (struck isEnd a B u sp) (struck isLower a B u sp)
-    marked-use = marked (struck isEnd a B u sp) (struck isLower a B u sp) owned marks s (rw (none-used isEnd, none-used isLower)) step-used
+    marked-use = marked (struck isEnd a B u sp) (struck isLower a B u sp) (ownOfAccess T onLine a sp) marks s (rw (none-used isEnd, none-used isLower)) step-used
 
   -- a drop
-  module _ (u q : ℕ) (owned marks : List ℕ) (f : Found T k u q) (on : Only q owned) (s : Spread T k owned marks) where
+  module _ (u q : ℕ) (marks : List ℕ) (f : Found T k u q) (s : Spread T k (ownOfDrop q) marks) where
     abbrev dropped : ℕ → Bool
     dropped x = inSubtree u (ancestry B x)
 
@@ -245,11 +246,10 @@ module _ (T : List Cap) (k : ℕ) (st : LiveRows T k) where
             differs e (inl b) = eqb-false i q g (same-place T k i q stand-rise l (ltb-true q k b) (sym e ∙ sym (f .here (ltb-true q k b))))
             differs e (inr b) = named-none T k u (f .gone (ltb-false q k b)) i l (sym e)
 
-    step-dropped : (i : ℕ) → i < k → mark dropped (λ x. false) (nameAt T i) ≡ max (getD owned i 0) (mark dropped (λ x. false) (parentAt T i))
+    step-dropped : (i : ℕ) → i < k → mark dropped (λ x. false) (nameAt T i) ≡ max (ownOfDrop q i) (mark dropped (λ x. false) (parentAt T i))
     step-dropped i l =
         let g : dropped (nameAt T i) ≡ eqb u (nameAt T i) || dropped (parentAt T i) = at-before _ T k (below-step (st .bound) (before T k) stand-named (st .rise) u) i l in
-        let few : k ≤ 1024 = st .few in
-        let o : getD owned i 0 ≡ cond (eqb u (nameAt T i)) 2 0 = on .each i (omega arith) ∙ ap (λ (b : Bool). cond b 2 0) (at-place i l) in
+        let o : ownOfDrop q i ≡ cond (eqb u (nameAt T i)) 2 0 = ap (λ (b : Bool). cond b 2 0) (at-place i l) in
         rw (g, o) (both (eqb u (nameAt T i)) (dropped (parentAt T i)))
       where
         both : (x y : Bool) → cond (x || y) 2 0 ≡ max (cond x 2 0) (cond y 2 0)
@@ -259,37 +259,9 @@ module _ (T : List Cap) (k : ℕ) (st : LiveRows T k) where
         both false false = refl
 
     pub marked-drop : Marked T k marks dropped (λ x. false)
-    marked-drop = marked dropped (λ x. false) owned marks s (rw (no-ancestry (st .bound) (before T k) stand-named (st .rise))) step-dropped
-
--- ---- one mark
-
-abbrev zeros : List ℕ
-zeros = replicate 1024 0
-
-pub only-set : (q : ℕ) → q < 1024 → Only q (set zeros q 2)
-only-set q l = record { each = λ i m. go i m (test (eqb i q)) }
-  where
-    go : (i : ℕ) → i < 1024 → (eqb i q ≡ true) ⊎ (eqb i q ≡ false) → getD (set zeros q 2) i 0 ≡ cond (eqb i q) 2 0
-    go i m (inl t) = let e : i ≡ q = eqb-true i q t in rw (t, e) (getD-set-same zeros q 2 0 (omega (arith, length-replicate {A = ℕ} 1024 0)))
-    go i m (inr f) = rw f (getD-set-other zeros q i 2 0 (eqb-false i q f) ∙ getD-replicate 1024 i 0 0 m)
-
-pub only-none : (q : ℕ) → 1024 ≤ q → Only q zeros
-only-none q l = record { each = λ i m. rw (ne-eqb i q (λ (e : i ≡ q). omega arith)) (getD-replicate 1024 i 0 0 m) }
+    marked-drop = marked dropped (λ x. false) (ownOfDrop q) marks s (rw (no-ancestry (st .bound) (before T k) stand-named (st .rise))) step-dropped
 
 -- ---- the walk begins
 
-pub walk-first : (T : List Cap) (k u : ℕ) → k ≤ 1024 → Walk T k u zeros k u
-walk-first T k u few = record { fits = omega arith; long = length-replicate {A = ℕ} 1024 0; each = λ j l. rw (getD-replicate {A = ℕ} 1024 j 0 0 (omega arith)) }
-
--- ---- own marks
-
-pub owned-none : (T : List Cap) (onLine : List ℕ) (a : Access) (s : Span) (marks : List ℕ) → Owned T 0 onLine a s marks
-owned-none T onLine a s marks = record { each = λ i l. absurd (not-suc-le-zero l) }
-
-pub owned-more : (T : List Cap) (i : ℕ) (onLine : List ℕ) (a : Access) (s : Span) (marks : List ℕ) (m : ℕ) → i < length marks
-    → m ≡ own a s (span (getD T i emptyRow)) (eqb (getD onLine i 0) 1) → Owned T i onLine a s marks → Owned T (i + 1) onLine a s (set marks i m)
-owned-more T i onLine a s marks m l e o = record { each = λ j b. go j (last j i b) }
-  where
-    go : (j : ℕ) → (j < i) ⊎ (j ≡ i) → getD (set marks i m) j 0 ≡ own a s (span (getD T j emptyRow)) (eqb (getD onLine j 0) 1)
-    go j (inl b) = getD-set-other marks i j m 0 (λ (q : j ≡ i). omega arith) ∙ o .each j b
-    go j (inr q) = rw q (getD-set-same marks i m 0 l ∙ e)
+pub walk-first : (T : List Cap) (k u q : ℕ) → k ≤ 1024 → Found T k u q → Walk T k u (replicate 1024 0) k q
+walk-first T k u q few f = record { fits = omega arith; long = length-replicate {A = ℕ} 1024 0; name = u; found = f; each = λ j l. rw (getD-replicate {A = ℕ} 1024 j 0 0 (omega arith)) }

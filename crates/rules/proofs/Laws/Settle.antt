@@ -1,22 +1,25 @@
 -- Rows after their marks: the gaps close, and the rest is cleared.
 -- Assumes nothing.
-use mathlib.Core.Path.{_≡_, refl, sym, ap, _∙_}
+use mathlib.Core.Path.{_≡_, refl, sym, ap, subst, _∙_}
 use mathlib.Core.Logic.{_⊎_, inl, inr}
 use mathlib.Core.Bool.{Bool, true, false, cond}
 use mathlib.Core.List.{List, _∷_, _++_, reverse-reverse}
 use Prim.Native.Nat.{ℕ, zero, suc, _+_, _-_, _≤_, _<_}
+use native.Mathlib.Nat.{not-suc-le-zero}
 use native.Mathlib.Numerals.{add-one}
 use native.Mathlib.Omega.{arith}
 use lib.Dec.{eqb, ltb}
-use lib.ListN.{length, getD, set, take, drop, replicate, length-drop, length-replicate, getD-replicate}
+use lib.ListN.{length, getD, set, take, drop, replicate, length-set, length-drop, length-replicate, getD-replicate}
 use lib.Seq.{getD-set-same, getD-set-other, take-add, ext-getD, getD-take, getD-drop, length-take-le}
-use borrow.Author.Tests.{ltb-true, ltb-false}
+use borrow.Author.Tests.{ltb-true, ltb-false, lt-ltb}
 use Rattle.model.specs.declared.Cap.{Cap}
-use Rattle.model.specs.Table.{emptyRow, lentTable}
+use Rattle.model.specs.Lists.{any}
+use Rattle.model.specs.Table.{emptyRow, named, lentTable}
 use Rattle.model.specs.Effects.{lowered, revoke}
-use Rattle.rules.specs.Engine.{nameAt, before, mark, Marked, kept, Closes, Clears}
-use Rattle.model.proofs.Lists.{test}
-use Rattle.rules.proofs.Laws.Prefix.{last, before-suc, before-same, length-before}
+use Rattle.rules.specs.Engine.{nameAt, parentAt, before, Filled, Found, Places, mark, Marked, Downward, kept, Closes, Clears, Lowers, Settled}
+use Rattle.model.proofs.Lists.{All, test, or-neither}
+use Rattle.rules.proofs.Laws.Prefix.{last, before-suc, before-same, length-before, at-before}
+use Rattle.rules.proofs.Laws.Places.{Alike, places-same, places-none, places-more, places-past}
 use Rattle.rules.proofs.Laws.Ordered.{before-reverse}
 
 -- ---- closing up
@@ -109,12 +112,172 @@ before-lent T n r b l z =
         let s : j < n - r = omega (arith, long) in
         getD-take (n - r) (drop r T) j emptyRow s ∙ getD-drop r T j emptyRow ∙ z (r + j) (omega arith) (omega arith) ∙ sym (getD-replicate (n - r) j emptyRow emptyRow s))
 
-pub settled-lent : (marks : List ℕ) (T U W : List Cap) (n k r : ℕ) → k ≤ n → n ≤ length W → ((j : ℕ) → k ≤ j → j < n → getD T j emptyRow ≡ emptyRow)
-    → Closes marks T U k r → Clears U W r k → take n W ≡ lentTable n (kept marks T k)
-settled-lent marks T U W n k r b l z c d =
-    before-lent W n r (omega (arith, c .fits)) l (λ j m h. go j m h (test (ltb j k)))
-    ∙ ap (lentTable n) (before-same W U r (d .low) ∙ c .rows)
+-- ---- no row ends
+
+pub lowers-none : (marks : List ℕ) (T : List Cap) → Lowers marks T T 0
+lowers-none marks T = record { low = λ j l. absurd (not-suc-le-zero l); rest = λ j l. refl }
+
+pub lowers-more : (marks : List ℕ) (T U : List Cap) (i : ℕ) → i < length U → Lowers marks T U i → Lowers marks T (set U i (lowered (eqb (getD marks i 0) 1) (getD U i emptyRow))) (i + 1)
+lowers-more marks T U i l c = record {
+  low = λ j m. go j (last j i m);
+  rest = λ j m. getD-set-other U i j row emptyRow (λ (e : j ≡ i). omega arith) ∙ c .rest j (omega arith);
+}
   where
-    go : (j : ℕ) → r ≤ j → j < n → (ltb j k ≡ true) ⊎ (ltb j k ≡ false) → getD W j emptyRow ≡ emptyRow
-    go j m h (inl t) = d .zeros j m (ltb-true j k t)
-    go j m h (inr f) = let e : k ≤ j = ltb-false j k f in d .rest j e ∙ c .rest j e ∙ z j e h
+    row : Cap
+    row = lowered (eqb (getD marks i 0) 1) (getD U i emptyRow)
+
+    go : (j : ℕ) → (j < i) ⊎ (j ≡ i) → getD (set U i row) j emptyRow ≡ lowered (eqb (getD marks j 0) 1) (getD T j emptyRow)
+    go j (inl b) = getD-set-other U i j row emptyRow (λ (e : j ≡ i). omega arith) ∙ c .low j b
+    go j (inr e) = rw e (getD-set-same U i row emptyRow l ∙ ap (lowered (eqb (getD marks i 0) 1)) (c .rest i (omega arith)))
+
+lowers-kept : (marks : List ℕ) (T U : List Cap) (k : ℕ) → ((j : ℕ) → j < k → getD marks j 0 < 2) → ((j : ℕ) → j < k → getD U j emptyRow ≡ lowered (eqb (getD marks j 0) 1) (getD T j emptyRow)) → before U k ≡ kept marks T k
+unfolding before kept
+lowers-kept marks T U zero h c = refl
+lowers-kept marks T U (suc k) h c = let e = lowers-kept marks T U k (λ j l. h j (omega arith)) (λ j l. c j (omega arith)) in rw (lt-ltb (getD marks k 0) 2 (h k (omega arith)), c k (omega arith), e)
+
+module _ (marks : List ℕ) (T U : List Cap) (n k : ℕ) (places : List ℕ) (b : k ≤ n) (l : n ≤ length U) (z : (j : ℕ) → k ≤ j → j < n → getD T j emptyRow ≡ emptyRow) (f : Filled T k) (c : Lowers marks T U k) where
+  alike : Alike T U k
+  alike j m = (ap (λ (d : Cap). d .name .0) (c .low j m), ap (λ (d : Cap). d .parent .0) (c .low j m))
+
+  pub lowered-settled : ((j : ℕ) → j < k → getD marks j 0 < 2) → Places T k places → Settled U n k (kept marks T k) places
+  lowered-settled h p = record {
+    table = before-lent U n k b l (λ j m g. c .rest j m ∙ z j m g) ∙ ap (lentTable n) (lowers-kept marks T U k h (c .low));
+    front = record { fits = b; filled = λ i m. rw (alike i m .0) (f i m); stop = λ m. ap (λ (d : Cap). d .name .0) (c .rest k (omega arith) ∙ z k (omega arith) m) };
+    placed = places-same T U k places alike p;
+  }
+
+-- ---- the parents' places, as the rows close up
+
+kept-unnamed : (marks : List ℕ) (T : List Cap) (k x : ℕ) → any (named x) (before T k) ≡ false → any (named x) (kept marks T k) ≡ false
+unfolding before kept
+kept-unnamed marks T zero x h = refl
+kept-unnamed marks T (suc k) x h = let p = or-neither (eqb x (nameAt T k)) (any (named x) (before T k)) h in go (test (ltb (getD marks k 0) 2)) (p .0) (kept-unnamed marks T k x (p .1))
+  where
+    go : (ltb (getD marks k 0) 2 ≡ true) ⊎ (ltb (getD marks k 0) 2 ≡ false) → eqb x (nameAt T k) ≡ false → any (named x) (kept marks T k) ≡ false → any (named x) (kept marks T (suc k)) ≡ false
+    go (inl t) e ih = rw (t, e) ih
+    go (inr f) e ih = rw f ih
+
+kept-filled : (marks : List ℕ) (T : List Cap) (k : ℕ) → Filled T k → All (λ c. 0 < c .name .0) (kept marks T k)
+unfolding kept
+kept-filled marks T zero h = tt
+kept-filled marks T (suc k) h = go (test (ltb (getD marks k 0) 2)) (h k (omega arith)) (kept-filled marks T k (λ i l. h i (omega arith)))
+  where
+    go : (ltb (getD marks k 0) 2 ≡ true) ⊎ (ltb (getD marks k 0) 2 ≡ false) → 0 < nameAt T k → All (λ c. 0 < c .name .0) (kept marks T k) → All (λ c. 0 < c .name .0) (kept marks T (suc k))
+    go (inl t) e ih = rw t (e, ih)
+    go (inr f) e ih = rw f ih
+
+-- the rows that are left have their parents' places, and `spots` has where each row went
+pub record Placing (marks first : List ℕ) (T U : List Cap) (places spots : List ℕ) (i left : ℕ) : Type 0 where
+  pub placed : Places U left places
+  pub rest : (j : ℕ) → i ≤ j → getD places j 0 ≡ getD first j 0
+  pub long : length spots ≡ 1024
+  pub went : (j : ℕ) → j < i → getD marks j 0 < 2 → (getD spots j 0 < left) × (nameAt U (getD spots j 0) ≡ nameAt T j)
+
+pub placing-none : (marks first : List ℕ) (T : List Cap) (spots : List ℕ) → length first ≡ 1024 → length spots ≡ 1024 → Placing marks first T T first spots 0 0
+placing-none marks first T spots h l = record { placed = places-none T first h; rest = λ j m. refl; long = l; went = λ j m. absurd (not-suc-le-zero m) }
+
+module _ (marks first : List ℕ) (T U : List Cap) (places spots : List ℕ) (i left k : ℕ) (l : i < k) (few : k ≤ 1024) (wide : i < length U) (d : Downward T k marks) (p₀ : Places T k first) (c : Closing marks T U i left)
+    (p : Placing marks first T U places spots i left) where
+  abbrev q : ℕ
+  q = getD places i 0
+
+  abbrev next : List ℕ
+  next = set spots i left
+
+  place-found : Found T i (parentAt T i) q
+  place-found = rw (p .rest i (omega arith)) (p₀ .each i l)
+
+  pub place-fits : q ≤ i
+  place-fits = place-found .fits
+
+  spot-new : getD next i 0 ≡ left
+  spot-new = getD-set-same spots i left 0 (omega (arith, p .long))
+
+  spot-old : (j : ℕ) → j < i → getD next j 0 ≡ getD spots j 0
+  spot-old j m = getD-set-other spots i j left 0 (λ (e : j ≡ i). omega arith)
+
+  abbrev row : Cap
+  row = lowered (eqb (getD marks i 0) 1) (getD U i emptyRow)
+
+  row-new : getD (set U left row) left emptyRow ≡ row
+  row-new = getD-set-same U left row emptyRow (omega (arith, c .fits))
+
+  row-old : (j : ℕ) → j < left → getD (set U left row) j emptyRow ≡ getD U j emptyRow
+  row-old j m = getD-set-other U left j row emptyRow (λ (e : j ≡ left). omega arith)
+
+  same-parent : parentAt (set U left row) left ≡ parentAt T i
+  same-parent = ap (λ (d : Cap). d .parent .0) (row-new ∙ ap (lowered (eqb (getD marks i 0) 1)) (c .rest i (omega arith)))
+
+  same-name : nameAt (set U left row) left ≡ nameAt T i
+  same-name = ap (λ (d : Cap). d .name .0) (row-new ∙ ap (lowered (eqb (getD marks i 0) 1)) (c .rest i (omega arith)))
+
+  -- the parent stays where the row stays
+  found-left : getD marks i 0 < 2 → Found U left (parentAt T i) (getD next q 0)
+  found-left h = go (test (ltb q i))
+    where
+      go : (ltb q i ≡ true) ⊎ (ltb q i ≡ false) → Found U left (parentAt T i) (getD next q 0)
+      go (inl t) =
+          let b : q < i = ltb-true q i t in
+          let e : nameAt T q ≡ parentAt T i = place-found .here b in
+          let m : getD marks q 0 ≤ getD marks i 0 = d .child i q l b e in
+          let w = p .went q b (omega arith) in
+          rw (spot-old q b) (record { fits = omega (arith, w .0); here = λ _. w .1 ∙ e; gone = λ g. absurd (omega (arith, w .0)) })
+      go (inr f) =
+          let e : q ≡ i = omega (arith, place-fits, ltb-false q i f) in
+          let n : any (named (parentAt T i)) (before T i) ≡ false = place-found .gone (ltb-false q i f) in
+          rw (e, spot-new) (record { fits = omega arith; here = λ g. absurd (omega arith); gone = λ _. ap (any (named (parentAt T i))) (c .rows) ∙ kept-unnamed marks T i (parentAt T i) n })
+
+  pub placing-more : Placing marks first T (moved marks U i left) (set places left (getD next q 0)) next (i + 1) (countAllowed marks i left)
+  placing-more = go (test (ltb (getD marks i 0) 2))
+    where
+      rest : (j : ℕ) → i + 1 ≤ j → getD (set places left (getD next q 0)) j 0 ≡ getD first j 0
+      rest j m = getD-set-other places left j (getD next q 0) 0 (λ (e : j ≡ left). omega (arith, c .fits)) ∙ p .rest j (omega arith)
+
+      long : length next ≡ 1024
+      long = length-set spots i left ∙ p .long
+
+      go : (ltb (getD marks i 0) 2 ≡ true) ⊎ (ltb (getD marks i 0) 2 ≡ false) → Placing marks first T (moved marks U i left) (set places left (getD next q 0)) next (i + 1) (countAllowed marks i left)
+      go (inl t) = rw t (record {
+        placed = places-more U (set U left row) left (getD next q 0) places (omega (arith, c .fits)) (λ j m. (ap (λ (d : Cap). d .name .0) (row-old j m), ap (λ (d : Cap). d .parent .0) (row-old j m))) (rw same-parent (found-left (ltb-true (getD marks i 0) 2 t))) (p .placed);
+        rest = rest;
+        long = long;
+        went = λ j m h. went j h (last j i m);
+      })
+        where
+          went : (j : ℕ) → getD marks j 0 < 2 → (j < i) ⊎ (j ≡ i) → (getD next j 0 < left + 1) × (nameAt (set U left row) (getD next j 0) ≡ nameAt T j)
+          went j h (inl b) = let w = p .went j b h in rw (spot-old j b) (omega (arith, w .0), ap (λ (d : Cap). d .name .0) (row-old (getD spots j 0) (w .0)) ∙ w .1)
+          went j h (inr e) = rw (e, spot-new) (omega arith, same-name)
+      go (inr f) = rw f (record {
+        placed = places-past U left left (getD next q 0) places (omega arith) (p .placed);
+        rest = rest;
+        long = long;
+        went = λ j m h. went j h (last j i m);
+      })
+        where
+          went : (j : ℕ) → getD marks j 0 < 2 → (j < i) ⊎ (j ≡ i) → (getD next j 0 < left) × (nameAt U (getD next j 0) ≡ nameAt T j)
+          went j h (inl b) = rw (spot-old j b) (p .went j b h)
+          went j h (inr e) = let g : getD marks i 0 < 2 = rw e at h in absurd (omega (arith, ltb-false (getD marks i 0) 2 f))
+
+-- ---- rows closed up, and the rest cleared
+
+module _ (marks : List ℕ) (T U W : List Cap) (n k r : ℕ) (b : k ≤ n) (l : n ≤ length W) (z : (j : ℕ) → k ≤ j → j < n → getD T j emptyRow ≡ emptyRow) (c : Closes marks T U k r) (d : Clears U W r k) where
+  empty-on : (j : ℕ) → r ≤ j → j < n → getD W j emptyRow ≡ emptyRow
+  empty-on j m h = go (test (ltb j k))
+    where
+      go : (ltb j k ≡ true) ⊎ (ltb j k ≡ false) → getD W j emptyRow ≡ emptyRow
+      go (inl t) = d .zeros j m (ltb-true j k t)
+      go (inr f) = let e : k ≤ j = ltb-false j k f in d .rest j e ∙ c .rest j e ∙ z j e h
+
+  left-rows : before W r ≡ kept marks T k
+  left-rows = before-same W U r (d .low) ∙ c .rows
+
+  pub closed-settled : Filled T k → (places : List ℕ) → Places U r places → Settled W n r (kept marks T k) places
+  closed-settled f places p = record {
+    table = before-lent W n r (omega (arith, c .fits)) l empty-on ∙ ap (lentTable n) left-rows;
+    front = record {
+      fits = omega (arith, c .fits);
+      filled = at-before (λ c. 0 < c .name .0) W r (subst (λ (rows : List Cap). All (λ c. 0 < c .name .0) rows) (sym left-rows) (kept-filled marks T k f));
+      stop = λ m. ap (λ (d : Cap). d .name .0) (empty-on r (omega arith) m);
+    };
+    placed = places-same U W r places (λ j m. (ap (λ (d : Cap). d .name .0) (d .low j m), ap (λ (d : Cap). d .parent .0) (d .low j m))) p;
+  }

@@ -1,9 +1,9 @@
 -- One event: what the engine's parts do, put together.
 -- Assumes nothing.
-use mathlib.Core.Path.{_≡_, refl, sym, ap, ap₂, _∙_}
+use mathlib.Core.Path.{_≡_, refl, sym, ap, ap₂, subst, _∙_}
 use mathlib.Core.Logic.{_⊎_, inl, inr}
-use mathlib.Core.Bool.{Bool, true, false}
-use mathlib.Core.List.{List, [], _∷_}
+use mathlib.Core.Bool.{Bool, true, false, not, cond, _&&_, _||_}
+use mathlib.Core.List.{List, [], _∷_, _++_, append-nil}
 use Prim.Native.Nat.{ℕ, zero, suc, _+_, _≤_, _<_, min}
 use native.Mathlib.Numerals.{add-one}
 use native.Mathlib.Omega.{arith}
@@ -24,8 +24,9 @@ use Rattle.model.specs.declared.Refusal.{Refusal}
 use Rattle.model.specs.declared.Refusal.the-variants.{Disordered}
 use Rattle.model.specs.declared.Answer.the-variants.{Allowed, Refused}
 use Rattle.model.specs.Lists.{first, any, all}
-use Rattle.model.specs.Strike.{isEnd, isLower, struck}
-use Rattle.model.specs.Derivation.{ancestry, inSubtree}
+use Rattle.model.specs.Values.{touches}
+use Rattle.model.specs.Strike.{Keep, isEnd, isLower, effectOf, strike, reached, struck}
+use Rattle.model.specs.Derivation.{Derivation, ancestry, inSubtree, onAncestry}
 use Rattle.model.specs.Step.{Verdict, State, verdict, outcome, after, answer}
 use Rattle.model.specs.Table.{row, emptyRow, derivations, named, liveRows, lookup, lentTable, inOrder}
 use Rattle.model.specs.Refusals.{checks, refusals, judge}
@@ -33,21 +34,62 @@ use Rattle.model.specs.Effects.{newName, revoke, afterAccess, rowsAfter}
 use Rattle.model.specs.Counts.{countAllowed, countRefused}
 use Rattle.model.specs.Answers.{number, verdictOf}
 use Rattle.rules.specs.Words.{rowsOf, rowsIn}
-use Rattle.rules.specs.Engine.{before, Marked, kept, Orderly, Ready}
+use Rattle.rules.specs.Engine.{nameAt, before, Filled, Front, Found, Places, Marked, kept, Orderly, Ready, Settled}
 use Rattle.rules.specs.Steps.{heldIn, Stepped, lends}
 use Rattle.model.proofs.Lists.{test, and-both}
 use Rattle.model.proofs.Judged.{allowed}
-use Rattle.rules.proofs.Laws.Words.{length-in, length-rows, in-first}
+use Rattle.rules.proofs.Laws.Words.{length-in, length-rows, in-first, rows-at}
 use Rattle.rules.proofs.Laws.Records.{stored, loaded-all, stored-all, stored-same, many-disordered, too-many}
-use Rattle.rules.proofs.Laws.Prefix.{before-suc, before-same, length-before}
+use Rattle.rules.proofs.Laws.Prefix.{before-suc, before-same, length-before, extend}
+use Rattle.model.proofs.Order.{order-after}
+use Rattle.rules.proofs.Laws.Places.{Alike, places-more}
 use Rattle.rules.proofs.Laws.Settle.{before-lent, kept-revoke}
 use Rattle.rules.proofs.Laws.Judge.{numbered, orderly-live, orderly-standing, orderly-long, orderly-judge, orderly-zeros}
 
 -- a new row after the live ones
-pub appended : (T : List Cap) (n k : ℕ) (c : Cap) → k < n → n ≤ length T → ((j : ℕ) → k ≤ j → j < n → getD T j emptyRow ≡ emptyRow) → take n (set T k c) ≡ lentTable n (c ∷ before T k)
+appended : (T : List Cap) (n k : ℕ) (c : Cap) → k < n → n ≤ length T → ((j : ℕ) → k ≤ j → j < n → getD T j emptyRow ≡ emptyRow) → take n (set T k c) ≡ lentTable n (c ∷ before T k)
 appended T n k c b l z =
     before-lent (set T k c) n (k + 1) (omega arith) (rw length-set l) (λ j m h. getD-set-other T k j c emptyRow (λ (e : j ≡ k). omega arith) ∙ z j (omega arith) h)
     ∙ ap (lentTable n) (before-suc (set T k c) k ∙ ap₂ {C = List Cap} (λ x xs. x ∷ xs) (getD-set-same T k c emptyRow (omega arith)) (before-same (set T k c) T k (λ j m. getD-set-other T k j c emptyRow (λ (e : j ≡ k). omega arith))))
+
+pub appended-settled : (T : List Cap) (n k q : ℕ) (c : Cap) (places : List ℕ) → k < n → n ≤ 1024 → n ≤ length T → ((j : ℕ) → k ≤ j → j < n → getD T j emptyRow ≡ emptyRow) → Filled T k → 0 < c .name .0
+    → Found T k (c .parent .0) q → Places T k places → Settled (set T k c) n (k + 1) (c ∷ before T k) (set places k q)
+appended-settled T n k q c places b few l z f m g p = record {
+  table = appended T n k c b l z;
+  front = record {
+    fits = omega arith;
+    filled = extend (λ i. 0 < nameAt (set T k c) i) k (λ i h. rw (same i h .0) (f i h)) (rw (ap (λ (d : Cap). d .name .0) new) m);
+    stop = λ h. ap (λ (d : Cap). d .name .0) (getD-set-other T k (k + 1) c emptyRow (λ (e : k + 1 ≡ k). omega arith) ∙ z (k + 1) (omega arith) h);
+  };
+  placed = places-more T (set T k c) k q places (omega arith) same (subst (λ (x : ℕ). Found T k x q) (ap (λ (d : Cap). d .parent .0) (sym new)) g) p;
+}
+  where
+    old : (j : ℕ) → j < k → getD (set T k c) j emptyRow ≡ getD T j emptyRow
+    old j h = getD-set-other T k j c emptyRow (λ (e : j ≡ k). omega arith)
+
+    same : Alike T (set T k c) k
+    same j h = (ap (λ (d : Cap). d .name .0) (old j h), ap (λ (d : Cap). d .parent .0) (old j h))
+
+    new : getD (set T k c) k emptyRow ≡ c
+    new = getD-set-same T k c emptyRow (omega arith)
+
+-- a read ends no row
+no-end : (s : Span) (user holder : List Derivation) → reached isEnd Reading s user holder ≡ false
+unfolding reached onAncestry strike
+no-end s user [] = refl
+no-end s user (d ∷ above) = go (touches s (d .span) && not (inSubtree (d .name) user)) (no-end s user above)
+  where
+    go : (b : Bool) → onAncestry (λ h. isEnd (strike Reading s user h)) above ≡ false → isEnd (cond b (effectOf Reading) Keep) || onAncestry (λ h. isEnd (strike Reading s user h)) above ≡ false
+    go true e = e
+    go false e = e
+
+pub read-marks : (marks : List ℕ) (T : List Cap) (k u : ℕ) (s : Span) (lowers : ℕ → Bool) → Marked T k marks (struck isEnd Reading (derivations (before T k)) u s) lowers → (j : ℕ) → j < k → getD marks j 0 < 2
+unfolding struck
+read-marks marks T k u s lowers m j l = go (lowers (nameAt T j)) (m .each j l ∙ ap (λ (b : Bool). cond b 2 (cond (lowers (nameAt T j)) 1 0)) (no-end s (ancestry (derivations (before T k)) u) (ancestry (derivations (before T k)) (nameAt T j))))
+  where
+    go : (b : Bool) → getD marks j 0 ≡ cond b 1 0 → getD marks j 0 < 2
+    go true e = omega arith
+    go false e = omega arith
 
 -- the marks of an access leave what the rules leave
 pub kept-used : (marks : List ℕ) (T : List Cap) (k u : ℕ) (a : Access) (s : Span) → Marked T k marks (struck isEnd a (derivations (before T k)) u s) (struck isLower a (derivations (before T k)) u s)
@@ -163,26 +205,36 @@ module _ (ws : List ℕ) (n : ℕ) (t : Tally) (e : Event) where
         not-1 : judge (rowsOf ws n) (t .issued) e ≡ 1 → ⊥
         not-1 z = first-above (checks (before (rowsIn ws) k) (t .issued) n e) (above-one (before (rowsIn ws) k) (t .issued) n e) (sym (orderly-judge (rowsIn ws) n k (t .issued) (omega (arith, length-in ws)) o e) ∙ same ∙ z)
 
+-- the table is in order after it too
+pub orderly-after : (ws : List ℕ) (n : ℕ) (t : Tally) (e : Event) (k : ℕ) (ws′ : List ℕ) (r : Outcome) (live : ℕ) → Orderly (rowsIn ws) n k (t .issued) → Stepped ws n t e ws′ r → Front (rowsIn ws′) n live → Orderly (rowsIn ws′) n live (r .tally .issued)
+orderly-after ws n t e k ws′ r live o s f = record {
+  few = o .few;
+  front = f;
+  ordered =
+      ap₂ (λ (rows : List Cap) (y : Tally). inOrder rows (y .issued)) (in-first ws′ n (o .few) ∙ s .table) (s .tally)
+      ∙ order-after (heldIn ws n t) e (ap (λ (rows : List Cap). inOrder rows (t .issued)) (sym (in-first ws n (o .few))) ∙ o .ordered);
+}
+
 -- ---- the rows after an event
 
-module _ (n issued : ℕ) (rows : List Cap) where
-  pub next-create : (s : Span) (r : ℕ) (c : Cap) → c ≡ row (record { name = issued + 1; parent = 0; span = s }) r 1 → lentTable n (c ∷ rows) ≡ lentTable n (rowsAfter issued rows (Create s r))
+module _ (issued : ℕ) (rows : List Cap) where
+  pub next-create : (s : Span) (r : ℕ) (c : Cap) → c ≡ row (record { name = issued + 1; parent = 0; span = s }) r 1 → c ∷ rows ≡ rowsAfter issued rows (Create s r)
   unfolding rowsAfter
   next-create s r c e = rw (e, add-one)
 
-  pub next-borrow : (u : Name) (s : Span) (r d : ℕ) (c : Cap) → d ≡ lookup (u .0) rows .depth → c ≡ row (record { name = issued + 1; parent = u .0; span = s }) r (d + 1) → lentTable n (c ∷ rows) ≡ lentTable n (rowsAfter issued rows (Borrow u s r))
+  pub next-borrow : (u : Name) (s : Span) (r d : ℕ) (c : Cap) → d ≡ lookup (u .0) rows .depth → c ≡ row (record { name = issued + 1; parent = u .0; span = s }) r (d + 1) → c ∷ rows ≡ rowsAfter issued rows (Borrow u s r)
   unfolding rowsAfter
   next-borrow u s r d c f e = rw (e, f, add-one, add-one)
 
-  pub next-read : (u : Name) (s : Span) → lentTable n (afterAccess Reading (u .0) s rows) ≡ lentTable n (rowsAfter issued rows (Read u s))
+  pub next-read : (u : Name) (s : Span) → afterAccess Reading (u .0) s rows ≡ rowsAfter issued rows (Read u s)
   unfolding rowsAfter
   next-read u s = refl
 
-  pub next-write : (u : Name) (s : Span) → lentTable n (afterAccess Writing (u .0) s rows) ≡ lentTable n (rowsAfter issued rows (Write u s))
+  pub next-write : (u : Name) (s : Span) → afterAccess Writing (u .0) s rows ≡ rowsAfter issued rows (Write u s)
   unfolding rowsAfter
   next-write u s = refl
 
-  pub next-drop : (u : Name) → lentTable n (revoke (λ x. inSubtree (u .0) (ancestry (derivations rows) x)) (λ x. false) rows) ≡ lentTable n (rowsAfter issued rows (Drop u))
+  pub next-drop : (u : Name) → revoke (λ x. inSubtree (u .0) (ancestry (derivations rows) x)) (λ x. false) rows ≡ rowsAfter issued rows (Drop u)
   unfolding rowsAfter
   next-drop u = refl
 

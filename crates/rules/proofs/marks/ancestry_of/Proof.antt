@@ -1,47 +1,44 @@
--- `ancestry_of` meets its contract: what is left of the ancestry is that of `name`, among the first `top` rows.
+-- `ancestry_of` meets its contract: what is left of the ancestry starts at `at`, among the first `top` rows.
 -- Assumes nothing.
-use mathlib.Core.Path.{_≡_, ap}
+use Prim.Native.Nat.{ℕ}
 use native.Mathlib.Omega.{arith}
-use Rattle.model.specs.declared.Cap.{Cap}
+use lib.ListN.{getD}
 use Rattle.rules.specs.Words.{rowsIn}
-use Rattle.rules.specs.Engine.{parentAt}
-use Rattle.rules.proofs.Laws.Ordered.{rise-sub}
-use Rattle.rules.proofs.Laws.Marks.{Walk, walk-first, walk-step, walk-over, walk-zero}
+use Rattle.rules.proofs.Laws.Marks.{Walk, walk-first, walk-step, walk-over}
 use Rattle.rules.proofs.marks.ancestry_of.Statement.{statement}
 use Rattle.rules.proofs.marks.ancestry_of.Tie as tie
 
 abbrev Inv-loop : tie.InvT-loop
-Inv-loop words k u line₀ top₀ name₀ ancestry top name = Walk (rowsIn words) k u ancestry top name
+Inv-loop words k places u ancestry₀ top₀ at₀ ancestry top at = Walk (rowsIn words) k u ancestry top at
 
 abbrev μ-loop : tie.MeasureT-loop
-μ-loop words k u line₀ top₀ name₀ ancestry top name = top
-
-loop-holds : tie.Need-loop-holds Inv-loop μ-loop
-loop-holds c = walk-first (rowsIn (c .args .words .now)) (c .args .k) (c .args .u) (c .pre .0)
+μ-loop words k places u ancestry₀ top₀ at₀ ancestry top at = top
 
 find-requires : tie.Need-find-requires Inv-loop μ-loop
-find-requires c κs = (omega (arith, c .before .before .pre .0, c .before .loop .inv .fits), rise-sub (rowsIn (c .before .before .args .words .now)) (c .before .before .args .k) (c .before .loop .top) (c .before .loop .inv .fits) (c .before .before .pre .1))
+find-requires c κs = (c .pre .0, c .pre .1)
 
-returns : tie.Need-returns Inv-loop μ-loop
-returns c = let s = c .before .before .before .before in walk-over (rowsIn (s .args .words .now)) (s .args .k) (s .args .u) (s .pre .0) (s .pre .1) (c .before .before .before .loop .ancestry) (c .before .before .before .loop .top) (c .before .before .before .loop .name) (c .before .before .before .loop .inv) (c .before .find .ensures .gone (c .if1 .taken))
+loop-holds : tie.Need-loop-holds Inv-loop μ-loop
+loop-holds c = walk-first (rowsIn (c .before .args .words .now)) (c .before .args .k) (c .before .args .u) (c .find .result) (c .before .pre .0) (c .find .ensures)
 
 array-write-ancestry : tie.Need-array-write-ancestry Inv-loop μ-loop
-array-write-ancestry c = omega (arith, c .before .before .before .before .pre .0, c .before .before .before .loop .inv .fits, c .before .before .before .loop .inv .long, c .if1 .left)
+array-write-ancestry c = omega (arith, c .before .before .before .pre .0, c .before .loop .inv .fits, c .before .loop .inv .long, c .loop-test .taken)
 
-row-at-requires : tie.Need-row-at-requires Inv-loop μ-loop
-row-at-requires c κs = omega (arith, c .before .before .before .before .pre .0, c .before .before .before .loop .inv .fits, c .if1 .left)
+mul-at : tie.Need-mul-at Inv-loop μ-loop
+mul-at c = omega (arith, c .before .before .before .pre .0, c .before .loop .inv .fits, c .before .loop .inv .long, c .loop-test .taken)
+
+element-copy-out-at : tie.Need-element-copy-out-at Inv-loop μ-loop
+element-copy-out-at c = omega (arith, c .before .before .before .pre .0, c .before .loop .inv .fits, c .before .loop .inv .long, c .loop-test .taken)
 
 loop-less : tie.Need-loop-less Inv-loop μ-loop
-loop-less c = omega (arith, c .before .if1 .left)
+loop-less c = omega (arith, c .before .loop-test .taken)
 
 loop-again : tie.Need-loop-again Inv-loop μ-loop
 loop-again c =
-    let s = c .before .before .before .before .before in let T = rowsIn (s .args .words .now) in
-    let e : c .row-at .result .parent .0 ≡ parentAt T (c .before .before .find .result) = ap (λ (d : Cap). d .parent .0) (c .row-at .ensures) in
-    rw e (walk-step T (s .args .k) (s .args .u) (s .pre .0) (s .pre .1) (c .before .before .before .before .loop .ancestry) (c .before .before .before .before .loop .top) (c .before .before .before .before .loop .name) (c .before .before .find .result) (c .before .before .before .before .loop .inv) (c .before .if1 .left) (c .before .before .find .ensures .here (c .before .if1 .left)))
+    let q : ℕ = c .before .before .loop .at in
+    walk-step (rowsIn (c .before .before .before .before .args .words .now)) (c .before .before .before .before .args .k) (c .before .before .before .before .args .u) (c .before .before .before .before .pre .0) (c .before .before .before .before .pre .1) (c .before .before .loop .ancestry) (c .before .before .loop .top) q (getD (c .before .before .before .before .args .places .now) q 0) (c .before .before .loop .inv) (c .before .loop-test .taken) (c .before .before .before .before .pre .2 .each q (omega (arith, c .before .loop-test .taken, c .before .before .loop .inv .fits)))
 
-returns-2 : tie.Need-returns-2 Inv-loop μ-loop
-returns-2 c = let s = c .before .before in walk-zero (rowsIn (s .args .words .now)) (s .args .k) (s .args .u) (s .pre .0) (s .pre .1) (c .before .loop .ancestry) (c .before .loop .top) (rw (c .loop-test .left) at (c .before .loop .inv))
+returns : tie.Need-returns Inv-loop μ-loop
+returns c = walk-over (rowsIn (c .before .before .before .args .words .now)) (c .before .before .before .args .k) (c .before .before .before .args .u) (c .before .before .before .pre .0) (c .before .before .before .pre .1) (c .before .loop .ancestry) (c .before .loop .top) (c .before .loop .at) (c .before .loop .inv) (c .loop-test .left)
 
 pub ancestry-of-spec : {M : Type 1} → statement M
 ancestry-of-spec =
@@ -49,11 +46,11 @@ ancestry-of-spec =
     (tie.spec
     Inv-loop
     μ-loop
-    loop-holds
     find-requires
-    returns
+    loop-holds
     array-write-ancestry
-    row-at-requires
+    mul-at
+    element-copy-out-at
     loop-less
     loop-again
-    returns-2)
+    returns)

@@ -1,37 +1,52 @@
 -- `move_row` meets its contract.
 -- Assumes nothing.
-use mathlib.Core.Path.{refl, ap, _∙_}
-use native.Mathlib.Omega.{arith}
+use mathlib.Core.Path.{refl, sym, ap, _∙_}
 use lib.Dec.{eqb}
 use lib.ListN.{set}
+use lib.Seq.{set-getD}
+use borrow.Author.Needs.{needs}
 use borrow.Author.Tests.{lt-ltb, le-ltb}
+use Rattle.model.specs.Table.{emptyRow}
 use Rattle.model.specs.Effects.{lowered}
 use Rattle.rules.specs.Words.{rowsIn}
 use Rattle.rules.proofs.settle.move_row.Statement.{statement}
 use Rattle.rules.proofs.settle.move_row.Tie as tie
 
-row-at-requires : tie.Need-row-at-requires
-row-at-requires c κs = omega (arith, c .before .before .pre .1)
-
-marked-row-requires : tie.Need-marked-row-requires
-marked-row-requires c κs = tt
-
-set-row-requires : tie.Need-set-row-requires
-set-row-requires c κs = (omega (arith, c .before .before .before .before .before .pre .0, c .before .before .before .before .before .pre .1), c .before .before .before .before .before .pre .2)
+returns : tie.Need-returns
+returns c = rw (le-ltb _ _ (c .if1 .taken)) (refl, refl, c .before .pre .2)
 
 add-result : tie.Need-add-result
-add-result c = omega (arith, c .before .before .before .before .before .before .pre .0, c .before .before .before .before .before .before .pre .1)
-
-returns : tie.Need-returns
-returns c =
-    let s = c .before .before .before .before .before .before in
-    let e = c .before .marked-row .ensures ∙ ap (lowered (eqb (s .args .mark) 1)) (c .before .before .before .row-at .ensures) in
-    rw (lt-ltb _ _ (c .before .before .before .before .before .if1 .taken)) (c .set-row .ensures .0 ∙ ap (set (rowsIn (s .args .words .now)) (s .args .left)) e, refl, c .set-row .ensures .1)
+add-result c = search needs
 
 returns-2 : tie.Need-returns-2
-returns-2 c = rw (le-ltb _ _ (c .if1 .left)) (refl, refl, c .before .pre .2)
+returns-2 c = rw (c .before .if2 .taken, c .if3 .taken) (sym (set-getD (rowsIn (c .before .before .before .args .words .now)) (c .before .before .before .args .i) emptyRow), refl, c .before .before .before .pre .2)
+
+row-at-requires : tie.Need-row-at-requires
+row-at-requires c κs = search needs
+
+marked-row-requires : tie.Need-marked-row-requires
+marked-row-requires c κs = search needs
+
+set-row-requires : tie.Need-set-row-requires
+set-row-requires c κs = search needs
+
+add-result-2 : tie.Need-add-result-2
+add-result-2 c = search needs
+
+returns-3 : tie.Need-returns-3
+returns-3 c =
+    let e = c .before .marked-row .ensures ∙ ap (lowered (eqb (c .before .before .before .before .before .before .before .args .mark) 1)) (c .before .before .before .row-at .ensures) in
+    rw (lt-ltb _ _ (c .before .before .before .before .before .before .if1 .left)) (c .set-row .ensures .0 ∙ ap (set (rowsIn (c .before .before .before .before .before .before .before .args .words .now)) (c .before .before .before .before .before .before .before .args .left)) e, refl, c .set-row .ensures .1)
 
 pub move-row-spec : {M : Type 1} → statement M
 move-row-spec =
     tie.close
-    (tie.spec row-at-requires marked-row-requires set-row-requires add-result returns returns-2)
+    (tie.spec
+    returns
+    add-result
+    returns-2
+    row-at-requires
+    marked-row-requires
+    set-row-requires
+    add-result-2
+    returns-3)

@@ -1,25 +1,30 @@
 -- `append` meets its contract.
 -- Assumes nothing.
-use mathlib.Core.Path.{ap, _∙_}
-use Prim.Native.Nat.{_≤_}
 use native.Mathlib.Omega.{arith}
-use lib.ListN.{length, take}
-use Rattle.model.specs.declared.Cap.{Cap}
-use mathlib.Core.List.{List}
+use borrow.Author.Needs.{needs}
 use Rattle.rules.specs.Words.{rowsIn}
 use Rattle.rules.proofs.Laws.Words.{length-in}
-use Rattle.rules.proofs.Laws.Steps.{appended}
+use Rattle.rules.proofs.Laws.Steps.{appended-settled}
 use Rattle.rules.proofs.steps.append.Statement.{statement}
 use Rattle.rules.proofs.steps.append.Tie as tie
 
 set-row-requires : tie.Need-set-row-requires
-set-row-requires c κs = (omega (arith, c .before .pre .0, c .before .pre .1 .few), c .before .pre .1 .long)
+set-row-requires c κs = search needs
+
+mul-places : tie.Need-mul-places
+mul-places c = search needs
+
+element-write-places : tie.Need-element-write-places
+element-write-places c = search needs
+
+add-result : tie.Need-add-result
+add-result c = search needs
 
 returns : tie.Need-returns
 returns c =
-    let s = c .before .before in let T = rowsIn (s .args .words .now) in
-    let l : s .args .n ≤ length T = omega (arith, length-in (s .args .words .now), s .pre .1 .few) in
-    (ap (λ (z : List Cap). take (s .args .n) z) (c .set-row .ensures .0) ∙ appended T (s .args .n) (s .args .k) (s .args .c) (s .pre .0) l (s .pre .1 .zeros), c .set-row .ensures .1)
+    let s = c .before .before in
+    (rw (c .set-row .ensures .0) (appended-settled (rowsIn (s .args .words .now)) (s .args .n) (s .args .k) (s .args .q) (s .args .c) (s .args .places .now) (s .pre .0) (s .pre .1 .few) (omega (arith, length-in (s .args .words .now), s .pre .1 .few)) (s .pre .1 .zeros) (s .pre .1 .stands .filled) (s .pre .4) (s .pre .3) (s .pre .2)), c .set-row .ensures .1)
 
 pub append-spec : {M : Type 1} → statement M
-append-spec = tie.close (tie.spec set-row-requires returns)
+append-spec =
+    tie.close (tie.spec set-row-requires mul-places element-write-places add-result returns)

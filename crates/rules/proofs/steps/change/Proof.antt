@@ -1,145 +1,178 @@
 -- `change` meets its contract.
 -- Assumes nothing.
 use mathlib.Core.Path.{_≡_, sym, ap, _∙_, subst}
-use Prim.Native.Nat.{_≤_}
+use mathlib.Core.Bool.{false}
+use mathlib.Core.List.{_∷_}
+use Prim.Native.Nat.{_≤_, _<_}
 use native.Mathlib.Omega.{arith}
 use lib.ListN.{length, take}
 use borrow.Author.Needs.{needs}
+use Rattle.model.specs.declared.Cap.{Cap}
 use Rattle.model.specs.declared.Event.{Event}
-use Rattle.model.specs.Table.{lentTable}
+use Rattle.model.specs.declared.Access.the-variants.{Reading, Writing}
+use Rattle.model.specs.Derivation.{ancestry, inSubtree}
+use Rattle.model.specs.Table.{derivations}
 use Rattle.model.specs.Refusals.{judge}
-use Rattle.model.specs.Effects.{rowsAfter}
+use Rattle.model.specs.Effects.{revoke, afterAccess, rowsAfter}
 use Rattle.rules.specs.Words.{rowsIn}
-use Rattle.rules.specs.Engine.{before}
+use Rattle.rules.specs.Engine.{before, Found}
 use Rattle.rules.proofs.Laws.Words.{length-in}
+use Rattle.rules.proofs.Laws.Find.{found-zero}
 use Rattle.rules.proofs.Laws.Judge.{orderly-issued, orderly-few, orderly-rise}
 use Rattle.rules.proofs.Laws.Steps.{ready, room-create, room-borrow, there-borrow, depth-borrow, next-create, next-borrow, next-read, next-write, next-drop}
 use Rattle.rules.proofs.steps.change.Statement.{statement}
 use Rattle.rules.proofs.steps.change.Tie as tie
 
+enum-known-e : tie.Need-enum-known-e
+enum-known-e c = search needs
+
 add-new-row : tie.Need-add-new-row
 add-new-row c =
-    let s = c .before .before .before .before in let ws = s .args .words .now in let T = rowsIn ws in
+    let s = c .before .before .before .before .before in let ws = s .args .words .now in let T = rowsIn ws in
     let l : s .args .n ≤ length T = omega (arith, length-in ws, s .pre .0 .few) in
     let i : s .args .issued ≤ 1000000 = orderly-issued T (s .args .n) (s .args .k) (s .args .issued) l (s .pre .0) in
     omega arith
+
+cast-new-row : tie.Need-cast-new-row
+cast-new-row c = search needs
+
+new-row-requires : tie.Need-new-row-requires
+new-row-requires c κs = search needs
 
 append-requires : tie.Need-append-requires
 append-requires c κs =
-    let s = c .before .before .before .before .before in let ws = s .args .words .now in let T = rowsIn ws in
+    let s = c .before .before .before .before .before .before in let ws = s .args .words .now in let T = rowsIn ws in
     let l : s .args .n ≤ length T = omega (arith, length-in ws, s .pre .0 .few) in
-    let i : s .args .issued ≤ 1000000 = orderly-issued T (s .args .n) (s .args .k) (s .args .issued) l (s .pre .0) in
-    let j = subst (λ (x : Event). judge (take (s .args .n) T) (s .args .issued) x ≡ 0) (c .before .before .before .e .given .1) (s .pre .1) in
-    (room-create ws (s .args .n) (s .args .k) (s .args .issued) (s .pre .0) (c .before .before .before .e .given .0 .0) (c .before .before .before .e .given .0 .1 .0) j, ready ws (s .args .n) (s .args .k) (s .args .issued) (s .pre .0) (s .pre .2))
+    let j = subst (λ (x : Event). judge (take (s .args .n) T) (s .args .issued) x ≡ 0) (c .before .before .before .before .e .given .1) (s .pre .1) in
+    (room-create ws (s .args .n) (s .args .k) (s .args .issued) (s .pre .0) (c .before .before .before .before .e .given .0 .0) (c .before .before .before .before .e .given .0 .1 .0) j, ready ws (s .args .n) (s .args .k) (s .args .issued) (s .pre .0) (s .pre .2), s .pre .3, subst (λ (d : Cap). Found T (s .args .k) (d .parent .0) (s .args .k)) (sym (c .new-row .ensures)) (found-zero T (s .args .k) (orderly-rise T (s .args .n) (s .args .k) (s .args .issued) l (s .pre .0))), subst (λ (d : Cap). 0 < d .name .0) (sym (c .new-row .ensures)) (omega arith))
 
-depth-of-requires : tie.Need-depth-of-requires
-depth-of-requires c κs =
+enum-known-e-2 : tie.Need-enum-known-e-2
+enum-known-e-2 c = search needs
+
+find-requires : tie.Need-find-requires
+find-requires c κs =
     let s = c .before .before .before .before in let ws = s .args .words .now in let T = rowsIn ws in
     let l : s .args .n ≤ length T = omega (arith, length-in ws, s .pre .0 .few) in
-    let i : s .args .issued ≤ 1000000 = orderly-issued T (s .args .n) (s .args .k) (s .args .issued) l (s .pre .0) in
-    let j = subst (λ (x : Event). judge (take (s .args .n) T) (s .args .issued) x ≡ 0) (c .before .before .e2 .given .1) (s .pre .1) in
-    (orderly-few T (s .args .n) (s .args .k) (s .args .issued) l (s .pre .0), orderly-rise T (s .args .n) (s .args .k) (s .args .issued) l (s .pre .0), there-borrow ws (s .args .n) (s .args .k) (s .args .issued) (s .pre .0) (c .before .before .e2 .given .0 .0) (c .before .before .e2 .given .0 .1 .0) (c .before .before .e2 .given .0 .1 .1 .0) j)
+    (orderly-few T (s .args .n) (s .args .k) (s .args .issued) l (s .pre .0), orderly-rise T (s .args .n) (s .args .k) (s .args .issued) l (s .pre .0))
+
+depth-at-requires : tie.Need-depth-at-requires
+depth-at-requires c κs =
+    let s = c .before .before .before .before .before .before in let ws = s .args .words .now in let T = rowsIn ws in
+    let l : s .args .n ≤ length T = omega (arith, length-in ws, s .pre .0 .few) in
+    let j = subst (λ (x : Event). judge (take (s .args .n) T) (s .args .issued) x ≡ 0) (c .before .before .before .before .e2 .given .1) (s .pre .1) in
+    (orderly-few T (s .args .n) (s .args .k) (s .args .issued) l (s .pre .0), orderly-rise T (s .args .n) (s .args .k) (s .args .issued) l (s .pre .0), there-borrow ws (s .args .n) (s .args .k) (s .args .issued) (s .pre .0) (c .before .before .before .before .e2 .given .0 .0) (c .before .before .before .before .e2 .given .0 .1 .0) (c .before .before .before .before .e2 .given .0 .1 .1 .0) j, c .before .find .ensures)
 
 add-new-row-2 : tie.Need-add-new-row-2
 add-new-row-2 c =
-    let s = c .before .before .before .before .before .before in let ws = s .args .words .now in let T = rowsIn ws in
+    let s = c .before .before .before .before .before .before .before .before .before in let ws = s .args .words .now in let T = rowsIn ws in
     let l : s .args .n ≤ length T = omega (arith, length-in ws, s .pre .0 .few) in
     let i : s .args .issued ≤ 1000000 = orderly-issued T (s .args .n) (s .args .k) (s .args .issued) l (s .pre .0) in
     omega arith
 
+cast-new-row-2 : tie.Need-cast-new-row-2
+cast-new-row-2 c = search needs
+
 add-new-row-3 : tie.Need-add-new-row-3
 add-new-row-3 c =
-    let s = c .before .before .before .before .before .before in let ws = s .args .words .now in let T = rowsIn ws in
+    let s = c .before .before .before .before .before .before .before .before .before in let ws = s .args .words .now in let T = rowsIn ws in
     let l : s .args .n ≤ length T = omega (arith, length-in ws, s .pre .0 .few) in
-    let i : s .args .issued ≤ 1000000 = orderly-issued T (s .args .n) (s .args .k) (s .args .issued) l (s .pre .0) in
-    let j = subst (λ (x : Event). judge (take (s .args .n) T) (s .args .issued) x ≡ 0) (c .before .before .before .before .e2 .given .1) (s .pre .1) in
-    omega (arith, c .before .depth-of .ensures, depth-borrow ws (s .args .n) (s .args .k) (s .args .issued) (s .pre .0) (c .before .before .before .before .e2 .given .0 .0) (c .before .before .before .before .e2 .given .0 .1 .0) (c .before .before .before .before .e2 .given .0 .1 .1 .0) j)
+    let j = subst (λ (x : Event). judge (take (s .args .n) T) (s .args .issued) x ≡ 0) (c .before .before .before .before .before .before .before .e2 .given .1) (s .pre .1) in
+    omega (arith, c .before .before .depth-at .ensures, depth-borrow ws (s .args .n) (s .args .k) (s .args .issued) (s .pre .0) (c .before .before .before .before .before .before .before .e2 .given .0 .0) (c .before .before .before .before .before .before .before .e2 .given .0 .1 .0) (c .before .before .before .before .before .before .before .e2 .given .0 .1 .1 .0) j)
+
+new-row-requires-2 : tie.Need-new-row-requires-2
+new-row-requires-2 c κs = search needs
 
 append-requires-2 : tie.Need-append-requires-2
 append-requires-2 c κs =
-    let s = c .before .before .before .before .before .before .before in let ws = s .args .words .now in let T = rowsIn ws in
+    let s = c .before .before .before .before .before .before .before .before .before .before in let ws = s .args .words .now in let T = rowsIn ws in
     let l : s .args .n ≤ length T = omega (arith, length-in ws, s .pre .0 .few) in
-    let i : s .args .issued ≤ 1000000 = orderly-issued T (s .args .n) (s .args .k) (s .args .issued) l (s .pre .0) in
-    let j = subst (λ (x : Event). judge (take (s .args .n) T) (s .args .issued) x ≡ 0) (c .before .before .before .before .before .e2 .given .1) (s .pre .1) in
-    (room-borrow ws (s .args .n) (s .args .k) (s .args .issued) (s .pre .0) (c .before .before .before .before .before .e2 .given .0 .0) (c .before .before .before .before .before .e2 .given .0 .1 .0) (c .before .before .before .before .before .e2 .given .0 .1 .1 .0) j, ready ws (s .args .n) (s .args .k) (s .args .issued) (s .pre .0) (s .pre .2))
+    let j = subst (λ (x : Event). judge (take (s .args .n) T) (s .args .issued) x ≡ 0) (c .before .before .before .before .before .before .before .before .e2 .given .1) (s .pre .1) in
+    (room-borrow ws (s .args .n) (s .args .k) (s .args .issued) (s .pre .0) (c .before .before .before .before .before .before .before .before .e2 .given .0 .0) (c .before .before .before .before .before .before .before .before .e2 .given .0 .1 .0) (c .before .before .before .before .before .before .before .before .e2 .given .0 .1 .1 .0) j, ready ws (s .args .n) (s .args .k) (s .args .issued) (s .pre .0) (s .pre .2), s .pre .3, subst (λ (d : Cap). Found T (s .args .k) (d .parent .0) (c .before .before .before .before .before .find .result)) (sym (c .new-row2 .ensures)) (c .before .before .before .before .before .find .ensures), subst (λ (d : Cap). 0 < d .name .0) (sym (c .new-row2 .ensures)) (omega arith))
 
-access-rows-requires : tie.Need-access-rows-requires
-access-rows-requires c κs =
-    let s = c .before .before .before .before in let ws = s .args .words .now in let T = rowsIn ws in
-    let l : s .args .n ≤ length T = omega (arith, length-in ws, s .pre .0 .few) in
-    let i : s .args .issued ≤ 1000000 = orderly-issued T (s .args .n) (s .args .k) (s .args .issued) l (s .pre .0) in
-    ready ws (s .args .n) (s .args .k) (s .args .issued) (s .pre .0) (s .pre .2)
+enum-known-e-3 : tie.Need-enum-known-e-3
+enum-known-e-3 c = search needs
 
-access-rows-requires-2 : tie.Need-access-rows-requires-2
-access-rows-requires-2 c κs =
-    let s = c .before .before .before .before in let ws = s .args .words .now in let T = rowsIn ws in
+read-rows-requires : tie.Need-read-rows-requires
+read-rows-requires c κs =
+    let s = c .before .before .before .before .before in let ws = s .args .words .now in let T = rowsIn ws in
     let l : s .args .n ≤ length T = omega (arith, length-in ws, s .pre .0 .few) in
-    let i : s .args .issued ≤ 1000000 = orderly-issued T (s .args .n) (s .args .k) (s .args .issued) l (s .pre .0) in
-    ready ws (s .args .n) (s .args .k) (s .args .issued) (s .pre .0) (s .pre .2)
+    (ready ws (s .args .n) (s .args .k) (s .args .issued) (s .pre .0) (s .pre .2), s .pre .3)
+
+enum-known-e-4 : tie.Need-enum-known-e-4
+enum-known-e-4 c = search needs
+
+write-rows-requires : tie.Need-write-rows-requires
+write-rows-requires c κs =
+    let s = c .before .before .before .before .before in let ws = s .args .words .now in let T = rowsIn ws in
+    let l : s .args .n ≤ length T = omega (arith, length-in ws, s .pre .0 .few) in
+    (ready ws (s .args .n) (s .args .k) (s .args .issued) (s .pre .0) (s .pre .2), s .pre .3)
+
+enum-known-e-5 : tie.Need-enum-known-e-5
+enum-known-e-5 c = search needs
 
 drop-rows-requires : tie.Need-drop-rows-requires
 drop-rows-requires c κs =
-    let s = c .before .before .before .before in let ws = s .args .words .now in let T = rowsIn ws in
+    let s = c .before .before .before .before .before in let ws = s .args .words .now in let T = rowsIn ws in
     let l : s .args .n ≤ length T = omega (arith, length-in ws, s .pre .0 .few) in
-    let i : s .args .issued ≤ 1000000 = orderly-issued T (s .args .n) (s .args .k) (s .args .issued) l (s .pre .0) in
-    ready ws (s .args .n) (s .args .k) (s .args .issued) (s .pre .0) (s .pre .2)
+    (ready ws (s .args .n) (s .args .k) (s .args .issued) (s .pre .0) (s .pre .2), s .pre .3)
 
 returns : tie.Need-returns
 returns c =
-    let s = c .before .before .before .before .before .before in let ws = s .args .words .now in let T = rowsIn ws in
+    let s = c .before .before .before .before .before .before .before in let ws = s .args .words .now in let T = rowsIn ws in
     let l : s .args .n ≤ length T = omega (arith, length-in ws, s .pre .0 .few) in
-    let i : s .args .issued ≤ 1000000 = orderly-issued T (s .args .n) (s .args .k) (s .args .issued) l (s .pre .0) in
-    (c .append .ensures .0 ∙ next-create (s .args .n) (s .args .issued) (before T (s .args .k)) (c .before .before .before .before .e .given .0 .0) (c .before .before .before .before .e .given .0 .1 .0) (c .before .new-row .result) (c .before .new-row .ensures) ∙ ap (λ (x : Event). lentTable (s .args .n) (rowsAfter (s .args .issued) (before T (s .args .k)) x)) (sym (c .before .before .before .before .e .given .1)), c .append .ensures .1)
+    let e : (c .before .new-row .result ∷ before T (s .args .k)) ≡ rowsAfter (s .args .issued) (before T (s .args .k)) (s .args .e) = next-create (s .args .issued) (before T (s .args .k)) (c .before .before .before .before .before .e .given .0 .0) (c .before .before .before .before .before .e .given .0 .1 .0) (c .before .new-row .result) (c .before .new-row .ensures) ∙ ap (λ (x : Event). rowsAfter (s .args .issued) (before T (s .args .k)) x) (sym (c .before .before .before .before .before .e .given .1)) in
+    (rw (← e) (c .append .ensures .0), c .append .ensures .1)
 
 returns-2 : tie.Need-returns-2
 returns-2 c =
-    let s = c .before .before .before .before .before .before .before .before in let ws = s .args .words .now in let T = rowsIn ws in
+    let s = c .before .before .before .before .before .before .before .before .before .before .before in let ws = s .args .words .now in let T = rowsIn ws in
     let l : s .args .n ≤ length T = omega (arith, length-in ws, s .pre .0 .few) in
-    let i : s .args .issued ≤ 1000000 = orderly-issued T (s .args .n) (s .args .k) (s .args .issued) l (s .pre .0) in
-    (c .append2 .ensures .0 ∙ next-borrow (s .args .n) (s .args .issued) (before T (s .args .k)) (c .before .before .before .before .before .before .e2 .given .0 .0) (c .before .before .before .before .before .before .e2 .given .0 .1 .0) (c .before .before .before .before .before .before .e2 .given .0 .1 .1 .0) (c .before .before .before .depth-of .result) (c .before .new-row2 .result) (c .before .before .before .depth-of .ensures) (c .before .new-row2 .ensures) ∙ ap (λ (x : Event). lentTable (s .args .n) (rowsAfter (s .args .issued) (before T (s .args .k)) x)) (sym (c .before .before .before .before .before .before .e2 .given .1)), c .append2 .ensures .1)
+    let e : (c .before .new-row2 .result ∷ before T (s .args .k)) ≡ rowsAfter (s .args .issued) (before T (s .args .k)) (s .args .e) = next-borrow (s .args .issued) (before T (s .args .k)) (c .before .before .before .before .before .before .before .before .before .e2 .given .0 .0) (c .before .before .before .before .before .before .before .before .before .e2 .given .0 .1 .0) (c .before .before .before .before .before .before .before .before .before .e2 .given .0 .1 .1 .0) (c .before .before .before .before .depth-at .result) (c .before .new-row2 .result) (c .before .before .before .before .depth-at .ensures) (c .before .new-row2 .ensures) ∙ ap (λ (x : Event). rowsAfter (s .args .issued) (before T (s .args .k)) x) (sym (c .before .before .before .before .before .before .before .before .before .e2 .given .1)) in
+    (rw (← e) (c .append2 .ensures .0), c .append2 .ensures .1)
 
 returns-3 : tie.Need-returns-3
 returns-3 c =
-    let s = c .before .before .before .before .before in let ws = s .args .words .now in let T = rowsIn ws in
+    let s = c .before .before .before .before .before .before in let ws = s .args .words .now in let T = rowsIn ws in
     let l : s .args .n ≤ length T = omega (arith, length-in ws, s .pre .0 .few) in
-    let i : s .args .issued ≤ 1000000 = orderly-issued T (s .args .n) (s .args .k) (s .args .issued) l (s .pre .0) in
-    (c .access-rows .ensures .0 ∙ next-read (s .args .n) (s .args .issued) (before T (s .args .k)) (c .before .before .before .e3 .given .0 .0) (c .before .before .before .e3 .given .0 .1 .0) ∙ ap (λ (x : Event). lentTable (s .args .n) (rowsAfter (s .args .issued) (before T (s .args .k)) x)) (sym (c .before .before .before .e3 .given .1)), c .access-rows .ensures .1)
+    let e : afterAccess Reading (c .before .before .before .before .e3 .given .0 .0 .0) (c .before .before .before .before .e3 .given .0 .1 .0) (before T (s .args .k)) ≡ rowsAfter (s .args .issued) (before T (s .args .k)) (s .args .e) = next-read (s .args .issued) (before T (s .args .k)) (c .before .before .before .before .e3 .given .0 .0) (c .before .before .before .before .e3 .given .0 .1 .0) ∙ ap (λ (x : Event). rowsAfter (s .args .issued) (before T (s .args .k)) x) (sym (c .before .before .before .before .e3 .given .1)) in
+    (rw (← e) (c .read-rows .ensures .0), c .read-rows .ensures .1)
 
 returns-4 : tie.Need-returns-4
 returns-4 c =
-    let s = c .before .before .before .before .before in let ws = s .args .words .now in let T = rowsIn ws in
+    let s = c .before .before .before .before .before .before in let ws = s .args .words .now in let T = rowsIn ws in
     let l : s .args .n ≤ length T = omega (arith, length-in ws, s .pre .0 .few) in
-    let i : s .args .issued ≤ 1000000 = orderly-issued T (s .args .n) (s .args .k) (s .args .issued) l (s .pre .0) in
-    (c .access-rows2 .ensures .0 ∙ next-write (s .args .n) (s .args .issued) (before T (s .args .k)) (c .before .before .before .e4 .given .0 .0) (c .before .before .before .e4 .given .0 .1 .0) ∙ ap (λ (x : Event). lentTable (s .args .n) (rowsAfter (s .args .issued) (before T (s .args .k)) x)) (sym (c .before .before .before .e4 .given .1)), c .access-rows2 .ensures .1)
+    let e : afterAccess Writing (c .before .before .before .before .e4 .given .0 .0 .0) (c .before .before .before .before .e4 .given .0 .1 .0) (before T (s .args .k)) ≡ rowsAfter (s .args .issued) (before T (s .args .k)) (s .args .e) = next-write (s .args .issued) (before T (s .args .k)) (c .before .before .before .before .e4 .given .0 .0) (c .before .before .before .before .e4 .given .0 .1 .0) ∙ ap (λ (x : Event). rowsAfter (s .args .issued) (before T (s .args .k)) x) (sym (c .before .before .before .before .e4 .given .1)) in
+    (rw (← e) (c .write-rows .ensures .0), c .write-rows .ensures .1)
 
 returns-5 : tie.Need-returns-5
 returns-5 c =
-    let s = c .before .before .before .before .before in let ws = s .args .words .now in let T = rowsIn ws in
+    let s = c .before .before .before .before .before .before in let ws = s .args .words .now in let T = rowsIn ws in
     let l : s .args .n ≤ length T = omega (arith, length-in ws, s .pre .0 .few) in
-    let i : s .args .issued ≤ 1000000 = orderly-issued T (s .args .n) (s .args .k) (s .args .issued) l (s .pre .0) in
-    (c .drop-rows .ensures .0 ∙ next-drop (s .args .n) (s .args .issued) (before T (s .args .k)) (c .before .before .before .e5 .given .0 .0) ∙ ap (λ (x : Event). lentTable (s .args .n) (rowsAfter (s .args .issued) (before T (s .args .k)) x)) (sym (c .before .before .before .e5 .given .1)), c .drop-rows .ensures .1)
+    let e : revoke (λ x. inSubtree (c .before .before .before .before .e5 .given .0 .0 .0) (ancestry (derivations (before T (s .args .k))) x)) (λ x. false) (before T (s .args .k)) ≡ rowsAfter (s .args .issued) (before T (s .args .k)) (s .args .e) = next-drop (s .args .issued) (before T (s .args .k)) (c .before .before .before .before .e5 .given .0 .0) ∙ ap (λ (x : Event). rowsAfter (s .args .issued) (before T (s .args .k)) x) (sym (c .before .before .before .before .e5 .given .1)) in
+    (rw (← e) (c .drop-rows .ensures .0), c .drop-rows .ensures .1)
 
 pub change-spec : {M : Type 1} → statement M
 change-spec =
     tie.close
     (tie.spec
-    (λ c. search needs)
+    enum-known-e
     add-new-row
-    (λ c. search needs)
-    (λ c κs. search needs)
+    cast-new-row
+    new-row-requires
     append-requires
-    (λ c. search needs)
-    depth-of-requires
+    enum-known-e-2
+    find-requires
+    depth-at-requires
     add-new-row-2
-    (λ c. search needs)
+    cast-new-row-2
     add-new-row-3
-    (λ c κs. search needs)
+    new-row-requires-2
     append-requires-2
-    (λ c. search needs)
-    access-rows-requires
-    (λ c. search needs)
-    access-rows-requires-2
-    (λ c. search needs)
+    enum-known-e-3
+    read-rows-requires
+    enum-known-e-4
+    write-rows-requires
+    enum-known-e-5
     drop-rows-requires
     returns
     returns-2

@@ -1,24 +1,29 @@
 -- `drop_rows` meets its contract.
 -- Assumes nothing.
-use mathlib.Core.Path.{ap, _∙_}
-use Rattle.model.specs.Table.{lentTable}
-use Rattle.rules.specs.Words.{rowsIn}
+use mathlib.Core.Path.{_≡_}
 use mathlib.Core.Bool.{false}
+use borrow.Author.Needs.{needs}
 use Rattle.model.specs.Derivation.{ancestry, inSubtree}
 use Rattle.model.specs.Table.{derivations}
-use Rattle.rules.specs.Engine.{before}
+use Rattle.model.specs.Effects.{revoke}
+use Rattle.rules.specs.Words.{rowsIn}
+use Rattle.rules.specs.Engine.{before, kept}
 use Rattle.rules.proofs.Laws.Settle.{kept-revoke}
 use Rattle.rules.proofs.steps.drop_rows.Statement.{statement}
 use Rattle.rules.proofs.steps.drop_rows.Tie as tie
 
 marks-of-drop-requires : tie.Need-marks-of-drop-requires
-marks-of-drop-requires c κs = c .before .pre .stands
+marks-of-drop-requires c κs = search needs
 
 settle-requires : tie.Need-settle-requires
-settle-requires c κs = let s = c .before .before .before .before in (s .pre .fits, s .pre .few, s .pre .long, s .pre .zeros)
+settle-requires c κs = search needs
 
 returns : tie.Need-returns
-returns c = let s = c .before .before .before .before .before in let T = rowsIn (s .args .words .now) in (c .settle .ensures .0 ∙ ap (lentTable (s .args .n)) (kept-revoke (c .before .before .before .marks-of-drop .result) (λ x. inSubtree (s .args .u) (ancestry (derivations (before T (s .args .k))) x)) (λ x. false) T (s .args .k) (c .before .before .before .marks-of-drop .ensures)), c .settle .ensures .1)
+returns c =
+    let s = c .before .before .before .before .before .before .before in let T = rowsIn (s .args .words .now) in let marks = c .before .before .before .before .marks-of-drop .result in
+    let e : kept marks T (s .args .k) ≡ revoke (λ x. inSubtree (s .args .u) (ancestry (derivations (before T (s .args .k))) x)) (λ x. false) (before T (s .args .k)) =
+    kept-revoke marks (λ x. inSubtree (s .args .u) (ancestry (derivations (before T (s .args .k))) x)) (λ x. false) T (s .args .k) (c .before .before .before .before .marks-of-drop .ensures .0) in
+    (rw (← e) (c .settle .ensures .0), c .settle .ensures .1)
 
 pub drop-rows-spec : {M : Type 1} → statement M
 drop-rows-spec = tie.close (tie.spec marks-of-drop-requires settle-requires returns)

@@ -1,0 +1,89 @@
+-- `spread_access` meets its contract: the first i are done.
+-- Assumes nothing.
+use mathlib.Core.Path.{_≡_, ap, ap₂, _∙_}
+use mathlib.Core.Bool.{cond}
+use Prim.Native.Nat.{ℕ, _-_, _≤_, max}
+use native.Mathlib.Omega.{arith}
+use lib.Dec.{eqb, ltb}
+use lib.ListN.{getD, length-replicate}
+use Rattle.model.specs.Table.{span}
+use Rattle.rules.specs.Words.{rowsIn}
+use Rattle.rules.specs.Engine.{own, ownOfAccess}
+use Rattle.rules.proofs.Laws.Marks.{Spreading, spread-none, spread-more}
+use Rattle.rules.proofs.marks.spread_access.Statement.{statement}
+use Rattle.rules.proofs.marks.spread_access.Tie as tie
+
+abbrev Inv-loop : tie.InvT-loop
+Inv-loop words k places ancestry a s marks₀ i₀ marks i = (i ≤ k) × Spreading (rowsIn words) i (ownOfAccess (rowsIn words) ancestry a s) marks
+
+abbrev μ-loop : tie.MeasureT-loop
+μ-loop words k places ancestry a s marks₀ i₀ marks i = k - i
+
+loop-holds : tie.Need-loop-holds Inv-loop μ-loop
+loop-holds c = (omega arith, spread-none (rowsIn (c .args .words .now)) (ownOfAccess (rowsIn (c .args .words .now)) (c .args .ancestry .now) (c .args .a) (c .args .s)) _ (length-replicate {A = ℕ} 1024 0))
+
+row-at-requires : tie.Need-row-at-requires Inv-loop μ-loop
+row-at-requires c κs = omega (arith, c .before .before .pre .0, c .loop-test .taken)
+
+span-of-requires : tie.Need-span-of-requires Inv-loop μ-loop
+span-of-requires c κs = tt
+
+element-copy-out-own-mark : tie.Need-element-copy-out-own-mark Inv-loop μ-loop
+element-copy-out-own-mark c = omega (arith, c .before .before .before .before .pre .0, c .before .before .loop-test .taken)
+
+own-mark-requires : tie.Need-own-mark-requires Inv-loop μ-loop
+own-mark-requires c κs = tt
+
+mul-mark-below : tie.Need-mul-mark-below Inv-loop μ-loop
+mul-mark-below c = omega (arith, c .before .before .before .before .before .before .before .pre .0, c .before .before .before .before .before .loop-test .taken)
+
+element-copy-out-mark-below : tie.Need-element-copy-out-mark-below Inv-loop μ-loop
+element-copy-out-mark-below c = omega (arith, c .before .before .before .before .before .before .before .pre .0, c .before .before .before .before .before .loop-test .taken)
+
+mark-below-requires : tie.Need-mark-below-requires Inv-loop μ-loop
+mark-below-requires c κs = omega (arith, c .before .before .before .before .before .before .before .before .pre .0, c .before .before .before .before .before .before .loop-test .taken)
+
+larger-requires : tie.Need-larger-requires Inv-loop μ-loop
+larger-requires c κs = tt
+
+array-write-marks : tie.Need-array-write-marks Inv-loop μ-loop
+array-write-marks c = omega (arith, c .before .before .before .before .before .before .before .before .before .before .pre .0, c .before .before .before .before .before .before .before .before .loop-test .taken, c .before .before .before .before .before .before .before .before .before .loop .inv .1 .long)
+
+add-i : tie.Need-add-i Inv-loop μ-loop
+add-i c = omega (arith, c .before .before .before .before .before .before .before .before .before .before .pre .0, c .before .before .before .before .before .before .before .before .loop-test .taken)
+
+loop-less : tie.Need-loop-less Inv-loop μ-loop
+loop-less c = omega (arith, c .before .before .before .before .before .before .before .before .loop-test .taken)
+
+loop-again : tie.Need-loop-again Inv-loop μ-loop
+loop-again c =
+    let s = c .before .before .before .before .before .before .before .before .before .before in let T = rowsIn (s .args .words .now) in
+    let i : ℕ = c .before .before .before .before .before .before .before .before .before .loop .i in
+    let q : ℕ = getD (s .args .places .now) i 0 in
+    let o : c .before .before .before .before .own-mark .result ≡ ownOfAccess T (s .args .ancestry .now) (s .args .a) (s .args .s) i = c .before .before .before .before .own-mark .ensures ∙ ap (λ t. own (s .args .a) (s .args .s) t (eqb (getD (s .args .ancestry .now) i 0) 1)) (c .before .before .before .before .before .before .span-of .ensures ∙ ap span (c .before .before .before .before .before .before .before .row-at .ensures)) in
+    let e : c .larger .result ≡ max (ownOfAccess T (s .args .ancestry .now) (s .args .a) (s .args .s) i) (cond (ltb q i) (getD (c .before .before .before .before .before .before .before .before .before .loop .marks) q 0) 0) = c .larger .ensures ∙ ap₂ (λ (x y : ℕ). max x y) o (c .before .mark-below .ensures) in
+    (omega (arith, c .before .before .before .before .before .before .before .before .loop-test .taken), rw e (spread-more T (s .args .k) i q (ownOfAccess T (s .args .ancestry .now) (s .args .a) (s .args .s)) (c .before .before .before .before .before .before .before .before .before .loop .marks) (s .pre .1) (s .pre .0) (c .before .before .before .before .before .before .before .before .loop-test .taken) (s .pre .2 .each i (c .before .before .before .before .before .before .before .before .loop-test .taken)) (c .before .before .before .before .before .before .before .before .before .loop .inv .1)))
+
+returns : tie.Need-returns Inv-loop μ-loop
+returns c = let e : c .before .loop .i ≡ c .before .before .args .k = omega (arith, c .before .loop .inv .0, c .loop-test .left) in rw (← e) (c .before .loop .inv .1 .done)
+
+pub spread-access-spec : {M : Type 1} → statement M
+spread-access-spec =
+    tie.close
+    (tie.spec
+    Inv-loop
+    μ-loop
+    loop-holds
+    row-at-requires
+    span-of-requires
+    element-copy-out-own-mark
+    own-mark-requires
+    mul-mark-below
+    element-copy-out-mark-below
+    mark-below-requires
+    larger-requires
+    array-write-marks
+    add-i
+    loop-less
+    loop-again
+    returns)
