@@ -14,6 +14,8 @@ use Rattle.model.specs.Step.{Verdict, State}
 use Rattle.model.specs.Step
 use Rattle.model.specs.Answers.{number, verdictOf}
 use Rattle.rules.specs.declared.Outcome.{Outcome}
+use Rattle.rules.specs.Words.{rowsIn}
+use Rattle.rules.specs.Engine.{Places, Orderly}
 use Rattle.rules.specs.Steps.{heldIn}
 use Rattle.text.specs.Result.{Result, value, refused}
 use Rattle.text.specs.Line.{linesOf}
@@ -85,6 +87,12 @@ ranOf (Refused r line) h = record { refusal = number r; number = line; state = h
 pub record Runs (ws : List ℕ) (n : ℕ) (t : Tally) (text ws′ : List ℕ) (r : RunOutcome) : Type 0 where
   pub ran : ranOf (r .answer) (heldIn ws′ n (r .tally)) ≡ run (heldIn ws n t) text
   pub long : length ws′ ≡ 6144
+
+-- words of a table of n rows in order, of which so many live; places has where the parent of each stands
+pub record Known (ws : List ℕ) (n live issued : ℕ) (places : List ℕ) : Type 0 where
+  pub orderly : Orderly (rowsIn ws) n live issued
+  pub placed : Places (rowsIn ws) live places
+  pub long : length ws ≡ 6144
 
 -- a line on the words ws of a table of n rows leaves the words ws′: its refusal, and the state after it
 pub record Takes (ws : List ℕ) (n : ℕ) (t : Tally) (line ws′ : List ℕ) (r : Outcome) : Type 0 where

@@ -3,6 +3,7 @@ use model::Answer;
 use model::Refusal;
 use model::Tally;
 use rules::Outcome;
+use rules::Progress;
 use rules::count;
 use rules::find;
 use rules::ordered;
@@ -11,12 +12,8 @@ use text::lines;
 use text::read;
 use text::read::EventRead;
 ghost use mathlib.Core.Path.{_≡_};
-ghost use mathlib.Core.Bool.{true};
-ghost use Prim.Native.Nat.{_≤_};
 ghost use lib.ListN.{length};
-ghost use Rattle.model.specs.Table.{inOrder};
-ghost use Rattle.rules.specs.Words.{rowsOf};
-ghost use Rattle.trace.specs.Run.{Takes, Runs};
+ghost use Rattle.trace.specs.Run.{Known, Takes, Runs};
 
 // What a run answers: the number of lines allowed, or the refusal and its line number from 1 (0 for refusal 1).
 pub enum RunAnswer {
@@ -31,37 +28,56 @@ pub struct RunOutcome {
 }
 
 // A line on a table in order: the event that it spells, or refusal 2.
-fn take_line(words: &mut [u32; 6144], rows: usize, tally: Tally, line: &[u8]) -> Outcome
-    requires { ⌜ (rows ≤ 1024) × (inOrder (rowsOf (now words) rows) (tally .issued) ≡ true) × (length (now words) ≡ 6144) ⌝ }
-    ensures { λ r. ⌜ Takes (now (words .entry)) rows tally (now (line .entry)) (now (words .exit)) r ⌝ }
+fn take_line(
+    words: &mut [u32; 6144],
+    rows: usize,
+    live: usize,
+    places: &mut [usize; 1024],
+    tally: Tally,
+    line: &[u8],
+) -> Progress
+    requires { ⌜ Known (now words) rows live (tally .issued) (now places) ⌝ }
+    ensures { λ r. ⌜ Takes (now (words .entry)) rows tally (now (line .entry)) (now (words .exit)) (r .outcome)
+        × Known (now (words .exit)) rows (r .live) (r .outcome .tally .issued) (now (places .exit)) ⌝ }
 {
     let found = read::read_event(line);
     match found {
-        EventRead::Event(event) => steps::step_ordered(words, rows, tally, event),
+        EventRead::Event(event) => steps::step_known(words, rows, live, places, tally, event),
         EventRead::Refused(_) => {
             let counted = count::count_refused(tally);
-            Outcome {
+            let outcome = Outcome {
                 tally: counted,
                 answer: Answer::Refused(Refusal::Misspelt),
-            }
+            };
+            Progress { outcome, live }
         }
     }
 }
 
-// The lines of a text on a table in order. An event keeps the order, so it is not checked again.
-fn run_ordered(words: &mut [u32; 6144], rows: usize, tally: Tally, text: &[u8]) -> RunOutcome
-    requires { ⌜ (rows ≤ 1024) × (inOrder (rowsOf (now words) rows) (tally .issued) ≡ true) × (length (now words) ≡ 6144) ⌝ }
+// The lines of a text on a table in order. An event keeps the order, and what is known of the table, so neither is looked for again.
+fn run_ordered(
+    words: &mut [u32; 6144],
+    rows: usize,
+    live: usize,
+    places: &mut [usize; 1024],
+    tally: Tally,
+    text: &[u8],
+) -> RunOutcome
+    requires { ⌜ Known (now words) rows live (tally .issued) (now places) ⌝ }
     ensures { λ r. ⌜ Runs (now (words .entry)) rows tally (now (text .entry)) (now (words .exit)) r ⌝ }
 {
     let mut left = tally;
+    let mut alive = live;
     let mut at = 0;
     let mut count = 0;
     while at < text.len() {
         let line = lines::next_line(&text[at..]);
-        let taken = take_line(words, rows, left, line);
-        left = taken.tally;
+        let taken = take_line(words, rows, alive, places, left, line);
+        let outcome = taken.outcome;
+        alive = taken.live;
+        left = outcome.tally;
         count += 1;
-        let answer = taken.answer;
+        let answer = outcome.answer;
         if let Answer::Refused(refusal) = answer {
             return RunOutcome {
                 tally: left,
@@ -83,8 +99,9 @@ pub fn run_words(words: &mut [u32; 6144], rows: usize, tally: Tally, text: &[u8]
 {
     if rows <= 1024 {
         let live = find::live_count(words, rows);
-        if ordered::in_order(words, rows, live, tally.issued) {
-            return run_ordered(words, rows, tally, text);
+        let mut places = [0usize; 1024];
+        if ordered::check_order(words, rows, live, tally.issued, &mut places) {
+            return run_ordered(words, rows, live, &mut places, tally, text);
         }
     }
     RunOutcome {

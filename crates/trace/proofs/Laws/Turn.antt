@@ -29,9 +29,10 @@ use Rattle.model.proofs.Order.{order-after}
 use Rattle.rules.specs.declared.Outcome.{Outcome}
 use Rattle.rules.specs.Words.{rowsOf}
 use Rattle.rules.specs.Steps.{heldIn, Stepped}
+use Rattle.rules.proofs.Laws.Words.{in-first}
 use Rattle.rules.proofs.Laws.Judge.{numbered}
 use Rattle.trace.specs.declared.run.RunAnswer.the-variants.{Refused as RunRefused}
-use Rattle.trace.specs.Run.{takeRead, takeLine, runLines, lent, ranOf, Takes}
+use Rattle.trace.specs.Run.{takeRead, takeLine, runLines, lent, ranOf, Known, Takes}
 
 -- a line keeps a table in order
 pub line-order : (h : State) (l : List ℕ) → inOrder (h .table) (h .tally .issued) ≡ true → inOrder (takeLine lent h l .state .table) (takeLine lent h l .state .tally .issued) ≡ true
@@ -40,6 +41,10 @@ line-order h l o = go (readEvent l)
     go : (r : Result Event) → inOrder (takeRead lent h r .state .table) (takeRead lent h r .state .tally .issued) ≡ true
     go (value e) = order-after h e o
     go (refused k) = o
+
+-- what is known of words says that their table is in order
+pub known-order : {ws : List ℕ} {n live issued : ℕ} {places : List ℕ} → Known ws n live issued places → inOrder (rowsOf ws n) issued ≡ true
+known-order {ws} {n} {live} {issued} k = ap (λ (rows : List Cap). inOrder rows issued) (sym (in-first ws n (k .orderly .few))) ∙ k .orderly .ordered
 
 module _ (ws : List ℕ) (n : ℕ) (t : Tally) (line : List ℕ) where
   -- a line that spells an event goes by the event's step
@@ -53,10 +58,6 @@ module _ (ws : List ℕ) (n : ℕ) (t : Tally) (line : List ℕ) where
   -- a line that spells none is refused
   pub taken-misspelt : {y : Tally} → readEvent line ≡ refused 2 → y ≡ countRefused t → length ws ≡ 6144 → Takes ws n t line ws (record { tally = y; answer = Refused Misspelt })
   taken-misspelt q c l = record { refusal = rw q; state = rw (q, c); long = l }
-
--- a line that was taken left the table in order
-pub taken-order : {ws : List ℕ} {n : ℕ} {t : Tally} {line ws′ : List ℕ} {r : Outcome} → Takes ws n t line ws′ r → inOrder (rowsOf ws n) (t .issued) ≡ true → inOrder (rowsOf ws′ n) (r .tally .issued) ≡ true
-taken-order {ws} {n} {t} {line} k o = ap (λ (h : State). inOrder (h .table) (h .tally .issued)) (k .state) ∙ line-order (heldIn ws n t) line o
 
 -- line is the next line of what is left of s from a position on
 module _ (s : List ℕ) (at : ℕ) (more : at < length s) (line : List ℕ) (is : line ≡ nextLine (take (length s - at) (drop at s))) where

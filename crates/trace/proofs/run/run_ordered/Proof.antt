@@ -1,5 +1,5 @@
--- `trace::run::run_ordered` meets its contract. The invariant: the table is in order, and the lines that are left, with those taken
--- so far, give the run of the whole text.
+-- `trace::run::run_ordered` meets its contract. The invariant: the table is in order and known, and the lines that are left, with those
+-- taken so far, give the run of the whole text.
 -- Assumes nothing.
 use mathlib.Core.Path.{_≡_, refl, _∙_}
 use mathlib.Core.Bool.{true}
@@ -13,18 +13,22 @@ use Rattle.model.specs.Table.{inOrder}
 use Rattle.rules.specs.Words.{rowsOf}
 use Rattle.rules.specs.Steps.{heldIn}
 use Rattle.text.specs.Line.{linesOf}
-use Rattle.trace.specs.Run.{lent, runLines, runFrom, run}
-use Rattle.trace.proofs.Laws.Turn.{taken-order, line-some, line-inside, turn-on, turn-ends, run-ends}
+use Rattle.trace.specs.Run.{lent, runLines, runFrom, run, Known}
+use Rattle.trace.proofs.Laws.Turn.{known-order, line-some, line-inside, turn-on, turn-ends, run-ends}
 use Rattle.trace.proofs.run.run_ordered.Statement.{statement}
 use Rattle.trace.proofs.run.run_ordered.Tie as tie
+use Rattle.trace.proofs.run.run_ordered.Reads as reads
+use Rattle.trace.proofs.run.run_ordered.Lts as lts
+use Rattle.text.proofs.lines.next_line.Reads as next-line-reads
+use Rattle.trace.proofs.run.take_line.Reads as take-line-reads
 
 abbrev Inv-loop : tie.InvT-loop
-Inv-loop words₀ rows text left₀ at₀ count₀ words left at count =
-    (at ≤ length text) × (count ≤ at) × (length words ≡ 6144) × (inOrder (rowsOf words rows) (left .issued) ≡ true)
+Inv-loop words₀ rows live places₀ text left₀ alive₀ at₀ count₀ words places left alive at count =
+    (at ≤ length text) × (count ≤ at) × Known words rows alive (left .issued) places
     × (runLines lent count (heldIn words rows left) (linesOf (drop at text)) ≡ runLines lent 0 (heldIn words₀ rows left₀) (linesOf text))
 
 abbrev μ-loop : tie.MeasureT-loop
-μ-loop words₀ rows text left₀ at₀ count₀ words left at count = length text - at
+μ-loop words₀ rows live places₀ text left₀ alive₀ at₀ count₀ words places left alive at count = length text - at
 
 -- a run of a table in order goes by its lines
 whole : (ws : List ℕ) (n : ℕ) (t : Tally) (text : List ℕ) → inOrder (rowsOf ws n) (t .issued) ≡ true → runLines lent 0 (heldIn ws n t) (linesOf text) ≡ run (heldIn ws n t) text
@@ -32,54 +36,46 @@ unfolding runFrom
 whole ws n t text o = rw o
 
 loop-holds : tie.Need-loop-holds Inv-loop μ-loop
-loop-holds c = (omega arith, omega arith, c .before .pre .2, c .before .pre .1, refl)
+loop-holds c = (omega arith, omega arith, c .before .pre, refl)
+
+sub-next-line : tie.Need-sub-next-line Inv-loop μ-loop
+sub-next-line c = search needs
+
+part-next-line-start : tie.Need-part-next-line-start Inv-loop μ-loop
+part-next-line-start c = search needs
+
+part-next-line-end : tie.Need-part-next-line-end Inv-loop μ-loop
+part-next-line-end c = search needs
+
+next-line-requires : tie.Need-next-line-requires Inv-loop μ-loop
+next-line-requires c κs = search needs
 
 take-line-requires : tie.Need-take-line-requires Inv-loop μ-loop
-take-line-requires c κs = (c .before .before .before .before .before .before .pre .0, c .before .before .before .before .loop .inv .3, c .before .before .before .before .loop .inv .2)
+take-line-requires c κs = c .before .before .before .before .before .loop .inv .2
 
 add-count : tie.Need-add-count Inv-loop μ-loop
-add-count c = omega (arith, c .before .before .before .before .before .before .loop .inv .1, c .before .before .before .before .before .before .loop .inv .0, c .before .before .before .before .before .before .before .before .good)
+add-count c = omega (arith, c .before .before .before .before .before .before .before .before .loop .inv .1, c .before .before .before .before .before .before .before .before .loop .inv .0, c .before .before .before .before .before .before .before .before .before .before .good)
+
+enum-known-answer : tie.Need-enum-known-answer Inv-loop μ-loop
+enum-known-answer c = search needs
 
 returns : tie.Need-returns Inv-loop μ-loop
-returns c =
-    let s = c .before .before .before .before .before .before .before .before .before .before .before in
-    let l = c .before .before .before .before .before .before .before .before .before .loop in
-    let line = c .before .before .before .before .before .before .next-line in
-    record { ran = turn-ends (s .args .text .now) (l .at) (c .before .before .before .before .before .before .before .before .loop-test .taken) (line .result .now) (line .ensures) (l .count) (c .before .before .before .before .take-line .ensures) (c .before .answer .given .1) ∙ l .inv .4 ∙ whole (s .args .words .now) (s .args .rows) (s .args .tally) (s .args .text .now) (s .pre .1); long = c .before .before .before .before .take-line .ensures .long }
+returns c = record { ran = turn-ends (c .before .before .before .before .before .before .before .before .before .before .before .before .before .args .text .now) (c .before .before .before .before .before .before .before .before .before .before .before .loop .at) (c .before .before .before .before .before .before .before .before .before .before .loop-test .taken) (c .before .before .before .before .before .before .before .before .next-line .result .now) (c .before .before .before .before .before .before .before .before .next-line .ensures) (c .before .before .before .before .before .before .before .before .before .before .before .loop .count) (c .before .before .before .before .before .take-line .ensures .0) (c .before .answer .given .1) ∙ c .before .before .before .before .before .before .before .before .before .before .before .loop .inv .3 ∙ whole (c .before .before .before .before .before .before .before .before .before .before .before .before .before .args .words .now) (c .before .before .before .before .before .before .before .before .before .before .before .before .before .args .rows) (c .before .before .before .before .before .before .before .before .before .before .before .before .before .args .tally) (c .before .before .before .before .before .before .before .before .before .before .before .before .before .args .text .now) (known-order (c .before .before .before .before .before .before .before .before .before .before .before .before .before .pre)); long = c .before .before .before .before .before .take-line .ensures .0 .long }
+
+enum-told : tie.Need-enum-told Inv-loop μ-loop
+enum-told c = search needs
 
 add-at : tie.Need-add-at Inv-loop μ-loop
-add-at c =
-    let s = c .before .before .before .before .before .before .before .before .before .before in
-    let l = c .before .before .before .before .before .before .before .before .loop in
-    let line = c .before .before .before .before .before .next-line in
-    omega (arith, line-inside (s .args .text .now) (l .at) (c .before .before .before .before .before .before .before .loop-test .taken) (line .result .now) (line .ensures))
+add-at c = omega (arith, line-inside (c .before .before .before .before .before .before .before .before .before .before .before .before .args .text .now) (c .before .before .before .before .before .before .before .before .before .before .loop .at) (c .before .before .before .before .before .before .before .before .before .loop-test .taken) (c .before .before .before .before .before .before .before .next-line .result .now) (c .before .before .before .before .before .before .before .next-line .ensures))
 
 loop-less : tie.Need-loop-less Inv-loop μ-loop
-loop-less c =
-    let s = c .before .before .before .before .before .before .before .before .before .before in
-    let l = c .before .before .before .before .before .before .before .before .loop in
-    let line = c .before .before .before .before .before .next-line in
-    omega (arith, line-some (s .args .text .now) (l .at) (c .before .before .before .before .before .before .before .loop-test .taken) (line .result .now) (line .ensures), line-inside (s .args .text .now) (l .at) (c .before .before .before .before .before .before .before .loop-test .taken) (line .result .now) (line .ensures))
+loop-less c = omega (arith, line-some (c .before .before .before .before .before .before .before .before .before .before .before .before .args .text .now) (c .before .before .before .before .before .before .before .before .before .before .loop .at) (c .before .before .before .before .before .before .before .before .before .loop-test .taken) (c .before .before .before .before .before .before .before .next-line .result .now) (c .before .before .before .before .before .before .before .next-line .ensures), line-inside (c .before .before .before .before .before .before .before .before .before .before .before .before .args .text .now) (c .before .before .before .before .before .before .before .before .before .before .loop .at) (c .before .before .before .before .before .before .before .before .before .loop-test .taken) (c .before .before .before .before .before .before .before .next-line .result .now) (c .before .before .before .before .before .before .before .next-line .ensures))
 
 loop-again : tie.Need-loop-again Inv-loop μ-loop
-loop-again c =
-    let s = c .before .before .before .before .before .before .before .before .before .before in
-    let l = c .before .before .before .before .before .before .before .before .loop in
-    let line = c .before .before .before .before .before .next-line in
-    let inside = line-inside (s .args .text .now) (l .at) (c .before .before .before .before .before .before .before .loop-test .taken) (line .result .now) (line .ensures) in
-    let some = line-some (s .args .text .now) (l .at) (c .before .before .before .before .before .before .before .loop-test .taken) (line .result .now) (line .ensures) in (
-      inside,
-      omega (arith, some, l .inv .1),
-      c .before .before .before .take-line .ensures .long,
-      taken-order (c .before .before .before .take-line .ensures) (l .inv .3),
-      turn-on (s .args .text .now) (l .at) (c .before .before .before .before .before .before .before .loop-test .taken) (line .result .now) (line .ensures) (l .count) (c .before .before .before .take-line .ensures) (c .enum-told .given .1) ∙ l .inv .4,
-    )
+loop-again c = (line-inside (c .before .before .before .before .before .before .before .before .before .before .before .before .args .text .now) (c .before .before .before .before .before .before .before .before .before .before .loop .at) (c .before .before .before .before .before .before .before .before .before .loop-test .taken) (c .before .before .before .before .before .before .before .next-line .result .now) (c .before .before .before .before .before .before .before .next-line .ensures), omega (arith, line-some (c .before .before .before .before .before .before .before .before .before .before .before .before .args .text .now) (c .before .before .before .before .before .before .before .before .before .before .loop .at) (c .before .before .before .before .before .before .before .before .before .loop-test .taken) (c .before .before .before .before .before .before .before .next-line .result .now) (c .before .before .before .before .before .before .before .next-line .ensures), c .before .before .before .before .before .before .before .before .before .before .loop .inv .1), c .before .before .before .before .take-line .ensures .1, turn-on (c .before .before .before .before .before .before .before .before .before .before .before .before .args .text .now) (c .before .before .before .before .before .before .before .before .before .before .loop .at) (c .before .before .before .before .before .before .before .before .before .loop-test .taken) (c .before .before .before .before .before .before .before .next-line .result .now) (c .before .before .before .before .before .before .before .next-line .ensures) (c .before .before .before .before .before .before .before .before .before .before .loop .count) (c .before .before .before .before .take-line .ensures .0) (c .enum-told .given .1) ∙ c .before .before .before .before .before .before .before .before .before .before .loop .inv .3)
 
 returns-2 : tie.Need-returns-2 Inv-loop μ-loop
-returns-2 c =
-    let s = c .before .before .before in
-    let l = c .before .loop in
-    record { ran = run-ends (s .args .text .now) (l .at) (l .count) (heldIn (l .words) (s .args .rows) (l .left)) (c .loop-test .left) ∙ l .inv .4 ∙ whole (s .args .words .now) (s .args .rows) (s .args .tally) (s .args .text .now) (s .pre .1); long = l .inv .2 }
+returns-2 c = record { ran = run-ends (c .before .before .before .args .text .now) (c .before .loop .at) (c .before .loop .count) (heldIn (c .before .loop .words) (c .before .before .before .args .rows) (c .before .loop .left)) (c .loop-test .left) ∙ c .before .loop .inv .3 ∙ whole (c .before .before .before .args .words .now) (c .before .before .before .args .rows) (c .before .before .before .args .tally) (c .before .before .before .args .text .now) (known-order (c .before .before .before .pre)); long = c .before .loop .inv .2 .long }
 
 pub run-ordered-spec : {M : Type 1} → statement M
 run-ordered-spec =
@@ -88,15 +84,15 @@ run-ordered-spec =
     Inv-loop
     μ-loop
     loop-holds
-    (λ c. search needs)
-    (λ c. search needs)
-    (λ c. search needs)
-    (λ c κs. search needs)
+    sub-next-line
+    part-next-line-start
+    part-next-line-end
+    next-line-requires
     take-line-requires
     add-count
-    (λ c. search needs)
+    enum-known-answer
     returns
-    (λ c. search needs)
+    enum-told
     add-at
     loop-less
     loop-again

@@ -16,17 +16,31 @@ use Rattle.trace.specs.declared.run.RunAnswer.the-variants.{Refused}
 use Rattle.trace.specs.Run.{runFrom, Runs}
 use Rattle.trace.proofs.run.run_words.Statement.{statement}
 use Rattle.trace.proofs.run.run_words.Tie as tie
+use Rattle.trace.proofs.run.run_words.Reads as reads
+use Rattle.trace.proofs.run.run_words.Lts as lts
+use Rattle.rules.proofs.find.live_count.Reads as live-count-reads
+use Rattle.rules.proofs.ordered.check_order.Reads as check-order-reads
+use Rattle.trace.proofs.run.run_ordered.Reads as run-ordered-reads
 
 -- a table out of order
 refused : (ws : List ℕ) (n : ℕ) (t : Tally) (text : List ℕ) → inOrder (rowsOf ws n) (t .issued) ≡ false → length ws ≡ 6144 → Runs ws n t text ws (record { tally = t; answer = Refused Disordered 0 })
 unfolding runFrom
 refused ws n t text d l = record { ran = rw d; long = l }
 
+live-count-requires : tie.Need-live-count-requires
+live-count-requires c κs = search needs
+
+check-order-requires : tie.Need-check-order-requires
+check-order-requires c κs = search needs
+
 run-ordered-requires : tie.Need-run-ordered-requires
-run-ordered-requires c κs = (c .before .before .before .before .before .before .if1 .taken, rw (← in-first (c .before .before .before .before .before .before .before .before .args .words .now) (c .before .before .before .before .before .before .before .before .args .rows) (c .before .before .before .before .before .before .if1 .taken)) (sym (c .before .before .in-order .ensures) ∙ c .before .if2 .taken), c .before .before .before .before .before .before .before .before .pre)
+run-ordered-requires c κs = record { orderly = record { few = c .before .before .before .before .before .before .before .before .if1 .taken; front = c .before .before .before .before .before .before .live-count .ensures; ordered = sym (c .before .before .before .check-order .ensures .0) ∙ c .before .before .if2 .taken }; placed = c .before .before .before .check-order .ensures .1 .known (c .before .before .if2 .taken); long = c .before .before .before .before .before .before .before .before .before .before .pre }
+
+returns : tie.Need-returns
+returns c = search needs
 
 returns-2 : tie.Need-returns-2
-returns-2 c = refused (c .before .before .before .before .before .before .before .args .words .now) (c .before .before .before .before .before .before .before .args .rows) (c .before .before .before .before .before .before .before .args .tally) (c .before .before .before .before .before .before .before .args .text .now) (rw (← in-first (c .before .before .before .before .before .before .before .args .words .now) (c .before .before .before .before .before .before .before .args .rows) (c .before .before .before .before .before .if1 .taken)) (sym (c .before .in-order .ensures) ∙ c .if2 .left)) (c .before .before .before .before .before .before .before .pre)
+returns-2 c = refused (c .before .before .before .before .before .before .before .before .args .words .now) (c .before .before .before .before .before .before .before .before .args .rows) (c .before .before .before .before .before .before .before .before .args .tally) (c .before .before .before .before .before .before .before .before .args .text .now) (rw (← in-first (c .before .before .before .before .before .before .before .before .args .words .now) (c .before .before .before .before .before .before .before .before .args .rows) (c .before .before .before .before .before .before .if1 .taken)) (sym (c .before .check-order .ensures .0) ∙ c .if2 .left)) (c .before .before .before .before .before .before .before .before .pre)
 
 returns-3 : tie.Need-returns-3
 returns-3 c = refused (c .before .before .args .words .now) (c .before .before .args .rows) (c .before .before .args .tally) (c .before .before .args .text .now) (too-many (c .before .before .args .words .now) (c .before .before .args .rows) (c .before .before .args .tally .issued) (c .if1 .left)) (c .before .before .pre)
@@ -35,9 +49,9 @@ pub run-words-spec : {M : Type 1} → statement M
 run-words-spec =
     tie.close
     (tie.spec
-    (λ c κs. search needs)
-    (λ c κs. search needs)
+    live-count-requires
+    check-order-requires
     run-ordered-requires
-    (λ c. search needs)
+    returns
     returns-2
     returns-3)
