@@ -1,9 +1,9 @@
 // Rows by their names: how many there are, and where a name stands.
 use crate::words::row_at;
 ghost use mathlib.Core.Path.{_≡_};
-ghost use mathlib.Core.Bool.{cond, _&&_};
+ghost use mathlib.Core.Bool.{cond};
 ghost use Prim.Native.Nat.{_+_, _<_, _≤_};
-ghost use lib.Dec.{eqb, ltb};
+ghost use lib.Dec.{ltb};
 ghost use Rattle.rules.specs.Words.{rowsIn};
 ghost use Rattle.rules.specs.Engine.{nameAt, Rise, Front, Found};
 
@@ -52,21 +52,7 @@ pub fn find(words: &[u32; 6144], k: usize, x: u32) -> usize
     if c.name.0 == x { base } else { k }
 }
 
-// The row at q, one of the first k, has the name x.
-fn stands_at(words: &[u32; 6144], k: usize, x: u32, q: usize) -> bool
-    requires { ⌜ k ≤ 1024 ⌝ }
-    ensures { λ r. ⌜ r ≡ ltb q k && eqb (nameAt (rowsIn (now (words .entry))) q) x ⌝ }
-{
-    if q < k {
-        let c = row_at(words, q);
-        c.name.0 == x
-    } else {
-        false
-    }
-}
-
-// The same as `find`, with the likely places tried first: the hint; where x stands if no name before it has ended; the last row.
-// No row is named 0.
+// The same, with a place that is tried first. No row is named 0.
 pub fn find_near(words: &[u32; 6144], k: usize, x: u32, hint: usize) -> usize
     requires { ⌜ (k ≤ 1024) × Rise (rowsIn (now words)) k ⌝ }
     ensures { λ r. ⌜ Found (rowsIn (now (words .entry))) k x r ⌝ }
@@ -74,19 +60,11 @@ pub fn find_near(words: &[u32; 6144], k: usize, x: u32, hint: usize) -> usize
     if x == 0 {
         return k;
     }
-    if stands_at(words, k, x, hint) {
-        return hint;
-    }
-    let dense = x as usize - 1;
-    if stands_at(words, k, x, dense) {
-        return dense;
-    }
-    if k == 0 {
-        return k;
-    }
-    let last = k - 1;
-    if stands_at(words, k, x, last) {
-        return last;
+    if hint < k {
+        let c = row_at(words, hint);
+        if c.name.0 == x {
+            return hint;
+        }
     }
     find(words, k, x)
 }

@@ -3,16 +3,16 @@
 use mathlib.Core.Path.{_≡_}
 use mathlib.Core.Logic.{_⊎_, inl, inr}
 use mathlib.Core.List.{List}
-use mathlib.Core.Bool.{Bool, true, false, cond, _&&_}
+use mathlib.Core.Bool.{Bool, true, false, cond}
 use Prim.Native.Nat.{ℕ, _+_, _-_, _*_, _/_, _≤_, _<_}
 use native.Mathlib.Omega.{arith}
-use lib.Dec.{eqb, ltb}
-use borrow.Author.Tests.{eqb-true, ltb-true, ltb-false}
+use lib.Dec.{ltb}
+use borrow.Author.Tests.{ltb-true, ltb-false}
 use Rattle.model.specs.declared.Cap.{Cap}
 use Rattle.model.specs.Lists.{any}
 use Rattle.model.specs.Table.{named}
 use Rattle.rules.specs.Engine.{nameAt, before, Rise, Found}
-use Rattle.model.proofs.Lists.{test, clash, and-both}
+use Rattle.model.proofs.Lists.{test, clash}
 use Rattle.rules.proofs.Laws.Prefix.{none-named}
 
 -- the name x, if it is there, is at one of `size` places from `base` on
@@ -84,10 +84,6 @@ module _ (T : List Cap) (k x : ℕ) (r : Rise T k) where
 
   pub found-at : (m : ℕ) → m < k → nameAt T m ≡ x → Found T k x m
   found-at m l e = record { fits = omega arith; here = λ b. e; gone = λ b. absurd (omega arith) }
-
--- the same, as a test
-pub found-if : (T : List Cap) (k x q : ℕ) → Rise T k → ltb q k && eqb (nameAt T q) x ≡ true → Found T k x q
-found-if T k x q r h = let p = and-both (ltb q k) (eqb (nameAt T q) x) h in found-at T k x r q (ltb-true q k (p .0)) (eqb-true (nameAt T q) x (p .1))
 
 -- no name stands among no rows
 pub found-empty : (T : List Cap) (x : ℕ) → Found T 0 x 0
