@@ -96,26 +96,41 @@ fn row_in_order(words: &[u32; 6144], i: usize, c: Cap, q: usize) -> bool
     }
 }
 
+// Where to note a name: names that stand near each other get places of their own.
+fn slot(name: u32) -> usize
+    ensures { λ r. ⌜ r < 2048 ⌝ }
+{
+    (name % 2048) as usize
+}
+
+fn wide(x: u16) -> usize
+    ensures { λ r. ⌜ r ≡ x ⌝ }
+{
+    x as usize
+}
+
 // Each of the first k rows against the rows before it. The place of each row's parent is noted.
 fn rows_in_order(words: &[u32; 6144], k: usize, issued: u32, places: &mut [usize; 1024]) -> bool
     requires { ⌜ (k ≤ 1024) × Filled (rowsIn (now words)) k × (length (now places) ≡ 1024) ⌝ }
     ensures { λ r. ⌜ (r ≡ rowsInOrder (suc issued) (before (rowsIn (now (words .entry))) k)) × PlacesIf r (rowsIn (now (words .entry))) k (now (places .exit)) ⌝ }
 {
+    // Where names were seen last, for a first guess at a parent's place.
+    let mut seen = [0u16; 2048];
     let mut last: u32 = 0;
-    let mut hint: usize = 0;
     let mut i: usize = 0;
     while i < k {
         let c = row_at(words, i);
         if c.name.0 <= last {
             return false;
         }
-        let q = find_near(words, i, c.parent.0, hint);
+        let guess = wide(seen[slot(c.parent.0)]);
+        let q = find_near(words, i, c.parent.0, guess);
         if !row_in_order(words, i, c, q) {
             return false;
         }
         places[i] = q;
+        seen[slot(c.name.0)] = i as u16;
         last = c.name.0;
-        hint = q;
         i += 1;
     }
     last <= issued
