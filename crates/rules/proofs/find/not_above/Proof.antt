@@ -11,21 +11,6 @@ use Rattle.rules.proofs.Laws.Find.{further, times, times-le}
 use Rattle.rules.proofs.find.not_above.Statement.{statement}
 use Rattle.rules.proofs.find.not_above.Tie as tie
 
-add-row-at : tie.Need-add-row-at
-add-row-at c = search needs
-
-row-at-requires : tie.Need-row-at-requires
-row-at-requires c κs = search needs
-
-add-further : tie.Need-add-further
-add-further c = search needs
-
-cast-further : tie.Need-cast-further
-cast-further c = search needs
-
-sub-further : tie.Need-sub-further
-sub-further c = search needs
-
 mul-result : tie.Need-mul-result
 mul-result c =
     let s = c .before .before in let x : ℕ = s .args .x in let n : ℕ = c .before .row-at .result .name .0 in
@@ -54,11 +39,11 @@ pub not-above-spec : {M : Type 1} → statement M
 not-above-spec =
     tie.close
     (tie.spec
-    add-row-at
-    row-at-requires
-    add-further
-    cast-further
-    sub-further
+    (λ c. search needs)
+    (λ c κs. search needs)
+    (λ c. search needs)
+    (λ c. search needs)
+    (λ c. search needs)
     mul-result
     add-result
     returns)

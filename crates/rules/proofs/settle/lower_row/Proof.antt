@@ -15,18 +15,9 @@ use Rattle.rules.proofs.settle.lower_row.Tie as tie
 returns : tie.Need-returns
 returns c = rw (ne-eqb (c .before .args .mark) 1 (c .if1 .taken)) (sym (set-getD (rowsIn (c .before .args .words .now)) (c .before .args .i) emptyRow), c .before .pre .1)
 
-row-at-requires : tie.Need-row-at-requires
-row-at-requires c κs = search needs
-
-marked-row-requires : tie.Need-marked-row-requires
-marked-row-requires c κs = search needs
-
-set-row-requires : tie.Need-set-row-requires
-set-row-requires c κs = search needs
-
 returns-2 : tie.Need-returns-2
 returns-2 c = (c .set-row .ensures .0 ∙ ap (set (rowsIn (c .before .before .before .before .before .before .args .words .now)) (c .before .before .before .before .before .before .args .i)) (c .before .marked-row .ensures ∙ ap (lowered (eqb (c .before .before .before .before .before .before .args .mark) 1)) (c .before .before .before .row-at .ensures)), c .set-row .ensures .1)
 
 pub lower-row-spec : {M : Type 1} → statement M
 lower-row-spec =
-    tie.close (tie.spec returns row-at-requires marked-row-requires set-row-requires returns-2)
+    tie.close (tie.spec returns (λ c κs. search needs) (λ c κs. search needs) (λ c κs. search needs) returns-2)

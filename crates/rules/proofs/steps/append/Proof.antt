@@ -8,18 +8,6 @@ use Rattle.rules.proofs.Laws.Steps.{appended-settled}
 use Rattle.rules.proofs.steps.append.Statement.{statement}
 use Rattle.rules.proofs.steps.append.Tie as tie
 
-set-row-requires : tie.Need-set-row-requires
-set-row-requires c κs = search needs
-
-mul-places : tie.Need-mul-places
-mul-places c = search needs
-
-element-write-places : tie.Need-element-write-places
-element-write-places c = search needs
-
-add-result : tie.Need-add-result
-add-result c = search needs
-
 returns : tie.Need-returns
 returns c =
     let s = c .before .before in
@@ -27,4 +15,4 @@ returns c =
 
 pub append-spec : {M : Type 1} → statement M
 append-spec =
-    tie.close (tie.spec set-row-requires mul-places element-write-places add-result returns)
+    tie.close (tie.spec (λ c κs. search needs) (λ c. search needs) (λ c. search needs) (λ c. search needs) returns)

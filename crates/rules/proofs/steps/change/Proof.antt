@@ -23,9 +23,6 @@ use Rattle.rules.proofs.Laws.Steps.{ready, room-create, room-borrow, th
 use Rattle.rules.proofs.steps.change.Statement.{statement}
 use Rattle.rules.proofs.steps.change.Tie as tie
 
-enum-known-e : tie.Need-enum-known-e
-enum-known-e c = search needs
-
 add-new-row : tie.Need-add-new-row
 add-new-row c =
     let s = c .before .before .before .before .before in let ws = s .args .words .now in let T = rowsIn ws in
@@ -33,21 +30,12 @@ add-new-row c =
     let i : s .args .issued ≤ 1000000 = orderly-issued T (s .args .n) (s .args .k) (s .args .issued) l (s .pre .0) in
     omega arith
 
-cast-new-row : tie.Need-cast-new-row
-cast-new-row c = search needs
-
-new-row-requires : tie.Need-new-row-requires
-new-row-requires c κs = search needs
-
 append-requires : tie.Need-append-requires
 append-requires c κs =
     let s = c .before .before .before .before .before .before in let ws = s .args .words .now in let T = rowsIn ws in
     let l : s .args .n ≤ length T = omega (arith, length-in ws, s .pre .0 .few) in
     let j = subst (λ (x : Event). judge (take (s .args .n) T) (s .args .issued) x ≡ 0) (c .before .before .before .before .e .given .1) (s .pre .1) in
     (room-create ws (s .args .n) (s .args .k) (s .args .issued) (s .pre .0) (c .before .before .before .before .e .given .0 .0) (c .before .before .before .before .e .given .0 .1 .0) j, ready ws (s .args .n) (s .args .k) (s .args .issued) (s .pre .0) (s .pre .2), s .pre .3, subst (λ (d : Cap). Found T (s .args .k) (d .parent .0) (s .args .k)) (sym (c .new-row .ensures)) (found-zero T (s .args .k) (orderly-rise T (s .args .n) (s .args .k) (s .args .issued) l (s .pre .0))), subst (λ (d : Cap). 0 < d .name .0) (sym (c .new-row .ensures)) (omega arith))
-
-enum-known-e-2 : tie.Need-enum-known-e-2
-enum-known-e-2 c = search needs
 
 find-requires : tie.Need-find-requires
 find-requires c κs =
@@ -69,18 +57,12 @@ add-new-row-2 c =
     let i : s .args .issued ≤ 1000000 = orderly-issued T (s .args .n) (s .args .k) (s .args .issued) l (s .pre .0) in
     omega arith
 
-cast-new-row-2 : tie.Need-cast-new-row-2
-cast-new-row-2 c = search needs
-
 add-new-row-3 : tie.Need-add-new-row-3
 add-new-row-3 c =
     let s = c .before .before .before .before .before .before .before .before .before in let ws = s .args .words .now in let T = rowsIn ws in
     let l : s .args .n ≤ length T = omega (arith, length-in ws, s .pre .0 .few) in
     let j = subst (λ (x : Event). judge (take (s .args .n) T) (s .args .issued) x ≡ 0) (c .before .before .before .before .before .before .before .e2 .given .1) (s .pre .1) in
     omega (arith, c .before .before .depth-at .ensures, depth-borrow ws (s .args .n) (s .args .k) (s .args .issued) (s .pre .0) (c .before .before .before .before .before .before .before .e2 .given .0 .0) (c .before .before .before .before .before .before .before .e2 .given .0 .1 .0) (c .before .before .before .before .before .before .before .e2 .given .0 .1 .1 .0) j)
-
-new-row-requires-2 : tie.Need-new-row-requires-2
-new-row-requires-2 c κs = search needs
 
 append-requires-2 : tie.Need-append-requires-2
 append-requires-2 c κs =
@@ -89,26 +71,17 @@ append-requires-2 c κs =
     let j = subst (λ (x : Event). judge (take (s .args .n) T) (s .args .issued) x ≡ 0) (c .before .before .before .before .before .before .before .before .e2 .given .1) (s .pre .1) in
     (room-borrow ws (s .args .n) (s .args .k) (s .args .issued) (s .pre .0) (c .before .before .before .before .before .before .before .before .e2 .given .0 .0) (c .before .before .before .before .before .before .before .before .e2 .given .0 .1 .0) (c .before .before .before .before .before .before .before .before .e2 .given .0 .1 .1 .0) j, ready ws (s .args .n) (s .args .k) (s .args .issued) (s .pre .0) (s .pre .2), s .pre .3, subst (λ (d : Cap). Found T (s .args .k) (d .parent .0) (c .before .before .before .before .before .find .result)) (sym (c .new-row2 .ensures)) (c .before .before .before .before .before .find .ensures), subst (λ (d : Cap). 0 < d .name .0) (sym (c .new-row2 .ensures)) (omega arith))
 
-enum-known-e-3 : tie.Need-enum-known-e-3
-enum-known-e-3 c = search needs
-
 read-rows-requires : tie.Need-read-rows-requires
 read-rows-requires c κs =
     let s = c .before .before .before .before .before in let ws = s .args .words .now in let T = rowsIn ws in
     let l : s .args .n ≤ length T = omega (arith, length-in ws, s .pre .0 .few) in
     (ready ws (s .args .n) (s .args .k) (s .args .issued) (s .pre .0) (s .pre .2), s .pre .3)
 
-enum-known-e-4 : tie.Need-enum-known-e-4
-enum-known-e-4 c = search needs
-
 write-rows-requires : tie.Need-write-rows-requires
 write-rows-requires c κs =
     let s = c .before .before .before .before .before in let ws = s .args .words .now in let T = rowsIn ws in
     let l : s .args .n ≤ length T = omega (arith, length-in ws, s .pre .0 .few) in
     (ready ws (s .args .n) (s .args .k) (s .args .issued) (s .pre .0) (s .pre .2), s .pre .3)
-
-enum-known-e-5 : tie.Need-enum-known-e-5
-enum-known-e-5 c = search needs
 
 drop-rows-requires : tie.Need-drop-rows-requires
 drop-rows-requires c κs =
@@ -155,24 +128,24 @@ pub change-spec : {M : Type 1} → statement M
 change-spec =
     tie.close
     (tie.spec
-    enum-known-e
+    (λ c. search needs)
     add-new-row
-    cast-new-row
-    new-row-requires
+    (λ c. search needs)
+    (λ c κs. search needs)
     append-requires
-    enum-known-e-2
+    (λ c. search needs)
     find-requires
     depth-at-requires
     add-new-row-2
-    cast-new-row-2
+    (λ c. search needs)
     add-new-row-3
-    new-row-requires-2
+    (λ c κs. search needs)
     append-requires-2
-    enum-known-e-3
+    (λ c. search needs)
     read-rows-requires
-    enum-known-e-4
+    (λ c. search needs)
     write-rows-requires
-    enum-known-e-5
+    (λ c. search needs)
     drop-rows-requires
     returns
     returns-2

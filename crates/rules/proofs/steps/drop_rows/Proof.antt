@@ -12,12 +12,6 @@ use Rattle.rules.proofs.Laws.Settle.{kept-revoke}
 use Rattle.rules.proofs.steps.drop_rows.Statement.{statement}
 use Rattle.rules.proofs.steps.drop_rows.Tie as tie
 
-marks-of-drop-requires : tie.Need-marks-of-drop-requires
-marks-of-drop-requires c κs = search needs
-
-settle-requires : tie.Need-settle-requires
-settle-requires c κs = search needs
-
 returns : tie.Need-returns
 returns c =
     let s = c .before .before .before .before .before .before .before in let T = rowsIn (s .args .words .now) in let marks = c .before .before .before .before .marks-of-drop .result in
@@ -26,4 +20,4 @@ returns c =
     (rw (← e) (c .settle .ensures .0), c .settle .ensures .1)
 
 pub drop-rows-spec : {M : Type 1} → statement M
-drop-rows-spec = tie.close (tie.spec marks-of-drop-requires settle-requires returns)
+drop-rows-spec = tie.close (tie.spec (λ c κs. search needs) (λ c κs. search needs) returns)

@@ -13,12 +13,6 @@ use Rattle.rules.proofs.Laws.Steps.{read-marks, kept-used}
 use Rattle.rules.proofs.steps.read_rows.Statement.{statement}
 use Rattle.rules.proofs.steps.read_rows.Tie as tie
 
-marks-of-access-requires : tie.Need-marks-of-access-requires
-marks-of-access-requires c κs = search needs
-
-lower-requires : tie.Need-lower-requires
-lower-requires c κs = search needs
-
 returns : tie.Need-returns
 returns c =
     let s = c .before .before .before .before .before in let T = rowsIn (s .args .words .now) in let marks = c .before .before .before .marks-of-access .result in let m = c .before .before .before .marks-of-access .ensures .0 in
@@ -26,4 +20,4 @@ returns c =
     (rw (← e) (lowered-settled marks T (rowsIn (c .lower .last .0)) (s .args .n) (s .args .k) (s .args .places .now) (s .pre .0 .fits) (omega (arith, length-in (c .lower .last .0), s .pre .0 .few)) (s .pre .0 .zeros) (s .pre .0 .stands .filled) (c .lower .ensures .0) (read-marks marks T (s .args .k) (s .args .u) (s .args .s) _ m) (s .pre .1)), c .lower .ensures .1)
 
 pub read-rows-spec : {M : Type 1} → statement M
-read-rows-spec = tie.close (tie.spec marks-of-access-requires lower-requires returns)
+read-rows-spec = tie.close (tie.spec (λ c κs. search needs) (λ c κs. search needs) returns)

@@ -17,18 +17,6 @@ use Rattle.rules.proofs.Laws.Steps.{allowed-zero, stepped-allowed, step
 use Rattle.rules.proofs.steps.step_known.Statement.{statement}
 use Rattle.rules.proofs.steps.step_known.Tie as tie
 
-judge-requires : tie.Need-judge-requires
-judge-requires c κs = search needs
-
-enum-known-a : tie.Need-enum-known-a
-enum-known-a c = search needs
-
-count-refused-requires : tie.Need-count-refused-requires
-count-refused-requires c κs = search needs
-
-enum-known-a-2 : tie.Need-enum-known-a-2
-enum-known-a-2 c = search needs
-
 change-requires : tie.Need-change-requires
 change-requires c κs =
     let s = c .before .before .before .before .before .before .before in let ws = s .args .words .now in let o = s .pre .0 in
@@ -56,10 +44,10 @@ pub step-known-spec : {M : Type 1} → statement M
 step-known-spec =
     tie.close
     (tie.spec
-    judge-requires
-    enum-known-a
-    count-refused-requires
-    enum-known-a-2
+    (λ c κs. search needs)
+    (λ c. search needs)
+    (λ c κs. search needs)
+    (λ c. search needs)
     change-requires
     count-allowed-requires
     returns

@@ -10,12 +10,6 @@ use Rattle.rules.proofs.Laws.Steps.{kept-used}
 use Rattle.rules.proofs.steps.write_rows.Statement.{statement}
 use Rattle.rules.proofs.steps.write_rows.Tie as tie
 
-marks-of-access-requires : tie.Need-marks-of-access-requires
-marks-of-access-requires c κs = search needs
-
-settle-requires : tie.Need-settle-requires
-settle-requires c κs = search needs
-
 returns : tie.Need-returns
 returns c =
     let s = c .before .before .before .before .before .before .before in let T = rowsIn (s .args .words .now) in let marks = c .before .before .before .before .marks-of-access .result in
@@ -23,4 +17,4 @@ returns c =
     (rw (← e) (c .settle .ensures .0), c .settle .ensures .1)
 
 pub write-rows-spec : {M : Type 1} → statement M
-write-rows-spec = tie.close (tie.spec marks-of-access-requires settle-requires returns)
+write-rows-spec = tie.close (tie.spec (λ c κs. search needs) (λ c κs. search needs) returns)
