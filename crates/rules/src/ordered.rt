@@ -96,7 +96,7 @@ fn row_in_order(words: &[u32; 6144], i: usize, c: Cap, q: usize) -> bool
     }
 }
 
-// Where to note a name: names that stand near each other get places of their own.
+// The slot of a name: of 2,048 names in a row, each has its own.
 fn slot(name: u32) -> usize
     ensures { λ r. ⌜ r < 2048 ⌝ }
 {

@@ -135,25 +135,15 @@ fn change(
     ensures { λ r. ⌜ Settled (rowsIn (now (words .exit))) n r (rowsAfter issued (before (rowsIn (now (words .entry))) k) e) (now (places .exit)) × (length (now (words .exit)) ≡ 6144) ⌝ }
 {
     match e {
-        Event::Create(s, r) => append(
-            words,
-            n,
-            k,
-            places,
-            new_row(issued + 1, 0, s, r as u32, 1),
-            k,
-        ),
+        Event::Create(s, r) => {
+            let c = new_row(issued + 1, 0, s, r as u32, 1);
+            append(words, n, k, places, c, k)
+        }
         Event::Borrow(u, s, r) => {
             let q = find(words, k, u.0);
             let d = depth_at(words, k, u.0, q);
-            append(
-                words,
-                n,
-                k,
-                places,
-                new_row(issued + 1, u.0, s, r as u32, d + 1),
-                q,
-            )
+            let c = new_row(issued + 1, u.0, s, r as u32, d + 1);
+            append(words, n, k, places, c, q)
         }
         Event::Read(u, s) => {
             read_rows(words, n, k, places, u.0, s);
