@@ -11,7 +11,7 @@ ghost use mathlib.Core.Path.{_≡_};
 ghost use mathlib.Core.List.{[], _∷_};
 ghost use Prim.Native.Nat.{ℕ, suc, _+_, _-_, _*_, _≤_, _<_};
 ghost use lib.ListN.{length, drop};
-ghost use Rattle.listing.specs.Forms.{Reading, childrenText, rowOf, follows, readForm, readRun, readLines};
+ghost use Rattle.listing.specs.Forms.{childrenText, rowOf, follows, readForm, readRun, readLines};
 ghost use Rattle.listing.specs.Stored.{Reads, newest, Stored};
 
 // How many bytes of the text are left, and how many rows were stored.

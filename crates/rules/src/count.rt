@@ -4,11 +4,7 @@ use model::Tally;
 ghost use mathlib.Core.Path.{_≡_};
 ghost use Prim.Native.Nat.{_≤_};
 ghost use Rattle.model.specs.Counts.{countRefused};
-ghost use Rattle.model.specs.Table;
-ghost use Rattle.model.specs.Refusals;
-ghost use Rattle.model.specs.Effects;
 ghost use Rattle.model.specs.Counts;
-ghost use Rattle.model.specs.Step;
 
 // One more; 4,294,967,295 stays.
 fn count_up(n: u32) -> u32

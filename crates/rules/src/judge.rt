@@ -19,15 +19,11 @@ ghost use Rattle.model.specs.Lists.{first};
 ghost use Rattle.model.specs.Refusals.{notARight, illegalSpan, checks};
 ghost use Rattle.model.specs.Effects.{newName};
 ghost use Rattle.model.specs.Step.{verdict};
-ghost use Rattle.model.specs.Table;
 ghost use Rattle.model.specs.Refusals;
-ghost use Rattle.model.specs.Effects;
-ghost use Rattle.model.specs.Counts;
-ghost use Rattle.model.specs.Step;
 ghost use Rattle.model.specs.declared.Event;
 ghost use Rattle.model.specs.Answers.{verdictOf};
 ghost use Rattle.rules.specs.Words.{rowsIn};
-ghost use Rattle.rules.specs.Engine.{before, Rise, LiveRows, Orderly};
+ghost use Rattle.rules.specs.Engine.{before, Rise, Orderly};
 ghost use Rattle.rules.specs.Stands.{Stands, Serves, saidOf};
 
 // The place of a name, or why it has none.

@@ -28,14 +28,10 @@ ghost use Prim.Native.Nat.{_<_, _≤_};
 ghost use lib.ListN.{length, take};
 ghost use Rattle.model.specs.Lists.{any};
 ghost use Rattle.model.specs.Derivation.{ancestry, inSubtree};
-ghost use Rattle.model.specs.Table.{row, derivations, named, lookup, inOrder};
+ghost use Rattle.model.specs.Table.{row, derivations, named, lookup};
 ghost use Rattle.model.specs.Effects.{revoke, afterAccess, rowsAfter};
-ghost use Rattle.model.specs.Table;
 ghost use Rattle.model.specs.Refusals;
-ghost use Rattle.model.specs.Effects;
-ghost use Rattle.model.specs.Counts;
-ghost use Rattle.model.specs.Step;
-ghost use Rattle.rules.specs.Words.{rowsIn, rowsOf};
+ghost use Rattle.rules.specs.Words.{rowsIn};
 ghost use Rattle.rules.specs.Engine.{before, Rise, Found, Places, Orderly, Ready, Settled};
 ghost use Rattle.rules.specs.Steps.{Stepped};
 
@@ -207,12 +203,4 @@ pub fn step(words: &mut [u32; 6144], n: usize, t: Tally, e: Event) -> Outcome
         tally: t,
         answer: Answer::Refused(Refusal::Disordered),
     }
-}
-
-// An event on a table in order, whose places are not at hand: the check is what finds them.
-pub fn step_ordered(words: &mut [u32; 6144], n: usize, t: Tally, e: Event) -> Outcome
-    requires { ⌜ (n ≤ 1024) × (inOrder (rowsOf (now words) n) (t .issued) ≡ true) × (length (now words) ≡ 6144) ⌝ }
-    ensures { λ r. ⌜ Stepped (now (words .entry)) n t e (now (words .exit)) r ⌝ }
-{
-    step(words, n, t, e)
 }

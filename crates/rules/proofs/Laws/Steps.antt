@@ -3,7 +3,7 @@
 use mathlib.Core.Path.{_≡_, refl, sym, ap, ap₂, subst, _∙_}
 use mathlib.Core.Logic.{_⊎_, inl, inr}
 use mathlib.Core.Bool.{Bool, true, false, not, cond, _&&_, _||_}
-use mathlib.Core.List.{List, [], _∷_, _++_, append-nil}
+use mathlib.Core.List.{List, [], _∷_}
 use Prim.Native.Nat.{ℕ, zero, suc, _+_, _≤_, _<_, min}
 use native.Mathlib.Numerals.{add-one}
 use native.Mathlib.Omega.{arith}
@@ -38,7 +38,7 @@ use Rattle.rules.specs.Engine.{nameAt, before, Filled, Front, Found, Pla
 use Rattle.rules.specs.Steps.{heldIn, Stepped, lends}
 use Rattle.model.proofs.Lists.{test, and-both}
 use Rattle.model.proofs.Judged.{allowed}
-use Rattle.rules.proofs.Laws.Words.{length-in, length-rows, in-first, rows-at}
+use Rattle.rules.proofs.Laws.Words.{length-in, length-rows, in-first}
 use Rattle.rules.proofs.Laws.Records.{stored, loaded-all, stored-all, stored-same, many-disordered, too-many}
 use Rattle.rules.proofs.Laws.Prefix.{before-suc, before-same, length-before, extend}
 use Rattle.model.proofs.Order.{order-after}
