@@ -25,9 +25,8 @@ use Rattle.text.specs.Read.{same, readEvent}
 use Rattle.text.specs.Result.{value, refused}
 use Rattle.text.specs.declared.spelling.Spelling.{Spelling}
 use Rattle.text.specs.declared.spelling.Spelling.the-variants.{Plain, Named}
-use Rattle.text.proofs.Laws.Lines.{spell-line}
+use Rattle.text.proofs.Laws.OneLine.{spell-is-line, header-is-no-event}
 use Rattle.text.proofs.Laws.Read.{same-refl, same-true}
-use Rattle.text.proofs.Laws.Examples.{header-is-no-event}
 use Rattle.text.proofs.Laws.OneSpelling.{spelling-reads-back}
 use Rattle.trace.specs.Run.{header, Ran, takeLine, runLines, runTrace, runFrom, lent, run}
 use Rattle.trace.specs.Spellings.{textOf, plainText, namedText, Spelled, oneHigher, SameVerdicts}
@@ -65,8 +64,8 @@ same-lines [] sp before h o i is = record { refusals = refl; numbers = refl; sta
 same-lines (e ∷ es) sp before h o i is =
     let small : suc i < 2 ^ 32 = omega (arith, is, leb-true (h .tally .issued) 1000000 (ordered (h .table) (h .tally .issued) o .names-left)) in
     rw (
-      spell-line (rightlyNamed i e) (textOf (allRightlyNamed (issuedAfter i e) es)),
-      spell-line (unnamed e) (plainText es),
+      spell-is-line (rightlyNamed i e) (textOf (allRightlyNamed (issuedAfter i e) es)),
+      spell-is-line (unnamed e) (plainText es),
       spelling-reads-back Named (rightlyNamed i e) (named-spelled i e (sp .0)) (named-in-range i small e (sp .1)),
       spelling-reads-back Plain (unnamed e) (sp .0) (sp .1),
       answers,
@@ -132,7 +131,7 @@ no-header e h k = go (test (same (spell e) header))
 plain-trace : (h : State) (es : List Event) → Spelled es → runTrace lent h (linesOf (plainText es)) ≡ runLines lent Plain 0 h (linesOf (plainText es))
 unfolding runTrace textOf linesOf
 plain-trace h [] sp = refl
-plain-trace h (e ∷ es) sp = rw (spell-line (unnamed e) (plainText es), no-header (unnamed e) (sp .0) (sp .1))
+plain-trace h (e ∷ es) sp = rw (spell-is-line (unnamed e) (plainText es), no-header (unnamed e) (sp .0) (sp .1))
 
 named-trace : (h : State) (i : ℕ) (es : List Event) → runTrace lent h (linesOf (namedText i es)) ≡ runLines lent Named 1 h (linesOf (textOf (allRightlyNamed i es)))
 unfolding runTrace
