@@ -52,7 +52,14 @@ pub fn named_event_of(
 ) -> Event
     ensures { λ r. ⌜ r ≡ namedEventOf kind written name start length right ⌝ }
 {
-    event_with(NewName::Written(Name(written)), kind, name, start, length, right)
+    event_with(
+        NewName::Written(Name(written)),
+        kind,
+        name,
+        start,
+        length,
+        right,
+    )
 }
 
 fn fields_of(event: Event) -> [u32; 5]

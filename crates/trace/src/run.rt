@@ -121,7 +121,16 @@ fn run_text(
     ensures { λ r. ⌜ Runs (now (words .entry)) rows tally (now (text .entry)) (now (words .exit)) r ⌝ }
 {
     if is_named(text) {
-        run_ordered(words, rows, live, places, tally, Spelling::Named, 1, &text[10..])
+        run_ordered(
+            words,
+            rows,
+            live,
+            places,
+            tally,
+            Spelling::Named,
+            1,
+            &text[10..],
+        )
     } else {
         run_ordered(words, rows, live, places, tally, Spelling::Plain, 0, text)
     }

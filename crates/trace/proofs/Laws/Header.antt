@@ -18,7 +18,7 @@ use Rattle.text.specs.Line.{through, nextLine, linesOf}
 use Rattle.text.specs.Read.{same}
 use Rattle.text.specs.declared.spelling.Spelling.the-variants.{Plain, Named}
 use Rattle.text.proofs.Laws.Line.{lines-next, through-le}
-use Rattle.text.proofs.Laws.Read.{same-true}
+use Rattle.text.proofs.Laws.Read.{same-refl, same-true}
 use Rattle.trace.specs.declared.run.RunOutcome.{RunOutcome}
 use Rattle.trace.specs.Run.{header, Checker, runLines, runTrace, runFrom, lent, run, Runs, RunsLines}
 
@@ -38,7 +38,7 @@ module _ (text : List ℕ) (h : same (nextLine text) header ≡ true) where
 
   pub trace-named : {S : Type 0} (c : Checker S) (s : S) → runTrace c s (linesOf text) ≡ runLines c Named 1 s (linesOf (drop 10 text))
   unfolding runTrace
-  trace-named c s = rw header-lines refl
+  trace-named c s = rw (header-lines, same-refl header)
 
 -- any other is one of lines that write no names
 pub trace-plain : (text : List ℕ) → same (nextLine text) header ≡ false → {S : Type 0} (c : Checker S) (s : S) → runTrace c s (linesOf text) ≡ runLines c Plain 0 s (linesOf text)

@@ -28,7 +28,7 @@ use Rattle.text.specs.declared.spelling.Spelling.the-variants.{Plain, Named}
 use Rattle.text.proofs.Laws.OneLine.{spell-is-line, header-is-no-event}
 use Rattle.text.proofs.Laws.Read.{same-refl, same-true}
 use Rattle.text.proofs.Laws.OneSpelling.{spelling-reads-back}
-use Rattle.trace.specs.Run.{header, Ran, takeLine, runLines, runTrace, runFrom, lent, run}
+use Rattle.trace.specs.Run.{header, Taken, Ran, takeLine, runLines, runTrace, runFrom, lent, run}
 use Rattle.trace.specs.Spellings.{textOf, plainText, namedText, Spelled, oneHigher, SameVerdicts}
 
 -- ---- an event that has a spelling without its name has one with its right name
@@ -99,6 +99,7 @@ unfolding runLines
 refused-line k before h [] = inl refl
 refused-line k before h (l ∷ ls) = go (eqb (t .refusal) 0) (refused-line k (before + 1) (t .state) ls)
   where
+    t : Taken State
     t = takeLine lent k h l
 
     go : (b : Bool) → (runLines lent k (before + 1) (t .state) ls .refusal ≡ 0) ⊎ (before + 1 < runLines lent k (before + 1) (t .state) ls .number)
@@ -137,17 +138,35 @@ named-trace : (h : State) (i : ℕ) (es : List Event) → runTrace lent h (lines
 unfolding runTrace
 named-trace h i es = rw (header-line (textOf (allRightlyNamed i es)), same-refl header)
 
-pub same-verdicts : (h : State) (es : List Event) → Spelled es → SameVerdicts h es
+module _ (h : State) (es : List Event) (sp : Spelled es) (o : inOrder (h .table) (h .tally .issued) ≡ true) where
+  plain-run : run h (plainText es) ≡ runLines lent Plain 0 h (linesOf (plainText es))
+  unfolding runFrom
+  plain-run = rw o (plain-trace h es sp)
+
+  named-run : run h (namedText (h .tally .issued) es) ≡ runLines lent Named 1 h (linesOf (textOf (allRightlyNamed (h .tally .issued) es)))
+  unfolding runFrom
+  named-run = rw o (named-trace h (h .tally .issued) es)
+
+  in-order : SameVerdicts h es
+  in-order =
+      let s = same-lines es sp 0 h o (h .tally .issued) refl in
+      let p = runLines lent Plain 0 h (linesOf (plainText es)) in
+      record {
+        same-refusal = rw (named-run, plain-run) (s .refusals);
+        one-higher = rw (named-run, plain-run) (s .numbers ∙ higher-is (p .refusal) (p .number) (refused-line Plain 0 h (linesOf (plainText es))));
+        same-state = rw (named-run, plain-run) (s .states);
+      }
+
+refused-run : (h : State) (text : List ℕ) → inOrder (h .table) (h .tally .issued) ≡ false → run h text ≡ record { refusal = 1; number = 0; state = h }
 unfolding runFrom
+refused-run h text d = rw d
+
+pub same-verdicts : (h : State) (es : List Event) → Spelled es → SameVerdicts h es
 same-verdicts h es sp = go (test (inOrder (h .table) (h .tally .issued)))
   where
-    i : ℕ
-    i = h .tally .issued
-
-    go : (inOrder (h .table) i ≡ true) ⊎ (inOrder (h .table) i ≡ false) → SameVerdicts h es
-    go (inl o) =
-        let s = same-lines es sp 0 h o i refl in
-        let p = runLines lent Plain 0 h (linesOf (plainText es)) in
-        rw (o, named-trace h i es, plain-trace h es sp)
-        (record { same-refusal = s .refusals; one-higher = s .numbers ∙ higher-is (p .refusal) (p .number) (refused-line Plain 0 h (linesOf (plainText es))); same-state = s .states })
-    go (inr d) = rw d (record { same-refusal = refl; one-higher = refl; same-state = refl })
+    go : (inOrder (h .table) (h .tally .issued) ≡ true) ⊎ (inOrder (h .table) (h .tally .issued) ≡ false) → SameVerdicts h es
+    go (inl o) = in-order h es sp o
+    go (inr d) =
+        let named = refused-run h (namedText (h .tally .issued) es) d in
+        let plain = refused-run h (plainText es) d in
+        record { same-refusal = rw (named, plain); one-higher = rw (named, plain); same-state = rw (named, plain) }
