@@ -7,11 +7,11 @@ use Rattle.kelzoud.proofs.events.named_fields_of.Tie as tie
 
 returns : tie.Need-returns
 unfolding namedFieldsOf
-returns c = rw (c .before .event .given .1)
+returns c = rw (c .before .before .event .given .1, c .written-in .ensures)
 
 returns-2 : tie.Need-returns-2
 unfolding namedFieldsOf
-returns-2 c = rw (c .before .event2 .given .1)
+returns-2 c = rw (c .before .before .event2 .given .1, c .written-in2 .ensures)
 
 returns-3 : tie.Need-returns-3
 unfolding namedFieldsOf
@@ -30,8 +30,10 @@ named-fields-of-spec =
     tie.close
     (tie.spec
     (λ c. search needs)
+    (λ c κs. search needs)
     (λ c. search needs)
     (λ c. search needs)
+    (λ c κs. search needs)
     (λ c. search needs)
     (λ c. search needs)
     (λ c. search needs)
