@@ -290,6 +290,7 @@ fn read(subject: Subject, line: &str) -> Result<Event, String> {
     let [kind, name, start, length, right] = fields;
     Ok(Event {
         kind: kind as u8,
+        written: None,
         name,
         start,
         length,
