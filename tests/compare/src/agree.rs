@@ -147,10 +147,15 @@ pub fn every_answer_met() -> Result<u64, String> {
     }
 }
 
+/// One event by the oracle alone.
+pub fn oracle_apply(lent: &mut Lent, event: Event) -> Result<u32, Refused> {
+    oracle::apply(&mut lent.rows, &mut lent.tally, oracle_event(event))
+}
+
 /// One event on what is lent, which is then as the event leaves it.
 pub fn apply(subject: Subject, lent: &mut Lent, event: Event) -> Result<u64, String> {
     let (answer, found) = lend(lent, |table, tally| subject.apply(table, tally, event))?;
-    let verdict = oracle::apply(&mut lent.rows, &mut lent.tally, oracle_event(event));
+    let verdict = oracle_apply(lent, event);
     MET[usize::from(verdict.err().unwrap_or(0))].fetch_add(1, Ordering::Relaxed);
     same_answer(packed(verdict), answer)?;
     same_lent(lent, &found)?;

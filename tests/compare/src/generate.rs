@@ -3,7 +3,7 @@
 use interface::Event;
 use oracle::{HEADER, MAX_DEPTH, MAX_NAME, Row, Span, Spelling, Tally};
 
-use crate::agree::{Lent, oracle_event};
+use crate::agree::{self, Lent, oracle_event};
 use crate::random::Random;
 
 /// The shape of a table in order.
@@ -293,15 +293,14 @@ pub fn events(random: &mut Random, mut lent: Lent, count: usize, spelling: Spell
             event = self::event(random, &lent, area, spelling);
             tries -= 1;
         }
-        let _ = oracle::apply(&mut lent.rows, &mut lent.tally, oracle_event(event));
+        let _ = agree::oracle_apply(&mut lent, event);
         events.push(event);
     }
     events
 }
 
 fn is_allowed(lent: &Lent, event: Event) -> bool {
-    let mut copy = lent.clone();
-    oracle::apply(&mut copy.rows, &mut copy.tally, oracle_event(event)).is_ok()
+    agree::oracle_apply(&mut lent.clone(), event).is_ok()
 }
 
 /// The event's line, if it has one.

@@ -13,6 +13,7 @@ mod listings;
 mod random;
 mod report;
 mod runs;
+mod spellings;
 
 use std::env;
 use std::process::ExitCode;
@@ -67,6 +68,7 @@ fn main() -> ExitCode {
     lines::groups(&mut report, subject);
     listings::groups(&mut report, subject);
     runs::groups(&mut report, subject);
+    spellings::groups(&mut report, subject);
     report.group("every answer of an event was met", |_| {
         agree::every_answer_met()
     });
