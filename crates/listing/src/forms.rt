@@ -3,7 +3,7 @@
 use model::Addr;
 use model::Cap;
 use model::Name;
-use rules::words;
+use table::words;
 use text::lines;
 use text::numbers;
 use text::read;

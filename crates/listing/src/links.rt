@@ -1,12 +1,12 @@
 // Where to go from a row when a listing is written: to its first child, and to its next sibling. A row's parent is found by
 // binary search, so that the links of n rows take n log n, and writing goes to each row once.
-use rules::find;
-use rules::words;
+use table::find;
+use table::words;
 ghost use mathlib.Core.Path.{_≡_};
 ghost use Prim.Native.Nat.{_<_, _≤_};
 ghost use lib.ListN.{replicate};
-ghost use Rattle.rules.specs.Words.{rowsOf};
-ghost use Rattle.rules.specs.Engine.{nameAt, parentAt};
+ghost use Rattle.table.specs.Words.{rowsOf};
+ghost use Rattle.table.specs.Rows.{nameAt, parentAt};
 ghost use Rattle.listing.specs.Links.{Live, Linked};
 
 // The row of a row's parent; n for a root.

@@ -7,8 +7,8 @@ use native.Mathlib.Omega.{arith}
 use lib.ListN.{length, replicate, length-replicate}
 use borrow.Author.Needs.{needs}
 use Rattle.model.specs.declared.Cap.{Cap}
-use Rattle.rules.specs.Words.{rowsOf}
-use Rattle.rules.proofs.Laws.Words.{length-rows}
+use Rattle.table.specs.Words.{rowsOf}
+use Rattle.table.proofs.Laws.Words.{length-rows}
 use Rattle.listing.proofs.Laws.Live.{live-order}
 use Rattle.listing.proofs.Laws.Links.{Filling, filling-start, filling-step, filling-end}
 use Rattle.listing.proofs.links.link.Statement.{statement}

@@ -11,10 +11,10 @@ use borrow.Author.Needs.{needs}
 use borrow.Author.Tests.{ltb-true, ltb-false}
 use Rattle.model.specs.declared.Cap.{Cap}
 use Rattle.model.specs.Table.{emptyRow}
-use Rattle.rules.specs.Words.{rowsOf, rowsIn}
-use Rattle.rules.specs.Engine.{nameAt, parentAt, Found}
-use Rattle.rules.proofs.Laws.Words.{length-rows}
-use Rattle.rules.proofs.Laws.Prefix.{named-none}
+use Rattle.table.specs.Words.{rowsOf, rowsIn}
+use Rattle.table.specs.Rows.{nameAt, parentAt, Found}
+use Rattle.table.proofs.Laws.Words.{length-rows}
+use Rattle.table.proofs.Laws.Prefix.{named-none}
 use Rattle.listing.proofs.Laws.Sorted.{InOrder}
 use Rattle.listing.proofs.Laws.Live.{live-order, row-in, rise-in, parent-earlier}
 use Rattle.listing.proofs.links.parent_row.Statement.{statement}

@@ -6,7 +6,7 @@ use mathlib.Core.List.{List, [], reverse, reverse-reverse}
 use lib.ListN.{drop}
 use Rattle.model.specs.declared.Cap.{Cap}
 use Rattle.model.specs.Table.{lentTable}
-use Rattle.rules.specs.Words.{rowsOf, rowsIn}
+use Rattle.table.specs.Words.{rowsOf, rowsIn}
 use Rattle.text.specs.Class.{newline}
 use Rattle.text.specs.Line.{through}
 use Rattle.listing.specs.Sort.{sorted}

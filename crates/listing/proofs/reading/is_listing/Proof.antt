@@ -10,8 +10,8 @@ use lib.Seq.{length-take-le}
 use borrow.Author.Tests.{not-true, not-false}
 use Rattle.model.specs.declared.Cap.{Cap}
 use Rattle.model.specs.Table.{inOrder}
-use Rattle.rules.specs.Words.{rowsOf, rowsIn}
-use Rattle.rules.specs.Engine.{Front}
+use Rattle.table.specs.Words.{rowsOf, rowsIn}
+use Rattle.table.specs.Rows.{Front}
 use Rattle.model.proofs.Lists.{clash}
 use Rattle.text.specs.Read.{same}
 use Rattle.listing.specs.Listing.{listed, listing}

@@ -4,7 +4,7 @@ use mathlib.Core.Path.{refl, sym, ap, _∙_}
 use Prim.Native.Nat.{ℕ}
 use mathlib.Core.List.{List}
 use borrow.Author.Tests.{not-true, not-false}
-use Rattle.rules.specs.Words.{rowsOf, rowsIn}
+use Rattle.table.specs.Words.{rowsOf, rowsIn}
 use Rattle.text.specs.Result.{value}
 use Rattle.text.specs.Decimal.{numberOf}
 use Rattle.listing.proofs.Laws.ReadListing.{stored-none, answers-2, answers-10, answers-given}

@@ -10,7 +10,7 @@ use lib.ListN.{length, drop}
 use borrow.Author.Needs.{needs}
 use Rattle.model.specs.declared.Tally.{Tally}
 use Rattle.model.specs.Table.{inOrder}
-use Rattle.rules.specs.Words.{rowsOf}
+use Rattle.table.specs.Words.{rowsOf}
 use Rattle.rules.specs.Steps.{heldIn}
 use Rattle.text.specs.Line.{linesOf}
 use Rattle.trace.specs.Run.{lent, runLines, runFrom, run, Known}

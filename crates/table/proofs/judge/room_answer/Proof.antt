@@ -1,0 +1,19 @@
+-- `room_answer` meets its contract.
+-- Assumes nothing.
+use native.Mathlib.Numerals.{add-one}
+use borrow.Author.Needs.{needs}
+use borrow.Author.Tests.{le-leb, lt-leb}
+use Rattle.table.proofs.judge.room_answer.Statement.{statement}
+use Rattle.table.proofs.judge.room_answer.Tie as tie
+
+returns : tie.Need-returns
+returns c = rw (le-leb _ _ (c .if1 .taken))
+
+returns-2 : tie.Need-returns-2
+returns-2 c = rw (lt-leb _ _ (c .before .if1 .left), le-leb _ _ (c .if2 .taken))
+
+returns-3 : tie.Need-returns-3
+returns-3 c = rw (lt-leb _ _ (c .before .if1 .left), lt-leb _ _ (c .if2 .left), add-one)
+
+pub room-answer-spec : {M : Type 1} → statement M
+room-answer-spec = tie.close (tie.spec returns returns-2 (λ c. search needs) returns-3)
