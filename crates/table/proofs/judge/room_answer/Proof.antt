@@ -10,10 +10,10 @@ returns : tie.Need-returns
 returns c = rw (le-leb _ _ (c .if1 .taken))
 
 returns-2 : tie.Need-returns-2
-returns-2 c = rw (lt-leb _ _ (c .before .if1 .left), le-leb _ _ (c .if2 .taken))
+returns-2 c = rw (lt-leb _ _ (c .before .if1 .left), le-leb (c .before .before .args .n) (c .before .before .args .k) (c .if2 .taken))
 
 returns-3 : tie.Need-returns-3
-returns-3 c = rw (lt-leb _ _ (c .before .if1 .left), lt-leb _ _ (c .if2 .left), add-one)
+returns-3 c = rw (lt-leb _ _ (c .before .if1 .left), lt-leb (c .before .before .args .n) (c .before .before .args .k) (c .if2 .left), add-one)
 
 pub room-answer-spec : {M : Type 1} → statement M
 room-answer-spec = tie.close (tie.spec returns returns-2 (λ c. search needs) returns-3)
