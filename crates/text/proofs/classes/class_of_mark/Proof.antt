@@ -1,9 +1,8 @@
 -- `text::classes::class_of_mark` meets its contract: antt computes the rule at each byte that is told, and no test of the rule holds of any other.
 -- Assumes nothing.
-use mathlib.Core.Path.{_≡_, sym}
+use mathlib.Core.Path.{_≡_}
 use Prim.Native.Nat.{ℕ, _<_}
 use native.Mathlib.Omega.{arith}
-use lib.Dec.{leb}
 use borrow.Author.Tests.{lt-leb, ne-eqb}
 use Rattle.text.specs.Class.{classOf}
 use Rattle.text.proofs.classes.class_of_mark.Statement.{statement}
