@@ -1,6 +1,5 @@
 // Listings, read: the table that a text can be the listing of is guessed, and accepted when it is in order and writes back to
 // the same bytes.
-use crate::copying;
 use crate::forms;
 use crate::sort;
 use crate::writing;
@@ -65,6 +64,6 @@ pub fn read_listing(text: &[u8], words: &mut [u32; 6144], n: usize) -> ListingRe
     if n < find::live_count(&table, 1024) {
         return ListingRead::Refused(Refusal::TableFull);
     }
-    copying::copy(&table, words);
+    *words = table;
     ListingRead::Issued(issued)
 }
