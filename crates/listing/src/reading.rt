@@ -11,6 +11,7 @@ use text::lines;
 use text::numbers;
 use text::write::Written;
 ghost use mathlib.Core.Path.{_≡_};
+ghost use mathlib.Core.Bool.{true};
 ghost use Prim.Native.Nat.{_≤_};
 ghost use lib.ListN.{length};
 ghost use Rattle.rules.specs.Words.{rowsIn};
@@ -33,6 +34,24 @@ fn guess_table(text: &[u8], words: &mut [u32; 6144])
     sort::sort_rows(words, count);
 }
 
+// Whether two texts have the same bytes. All of them are compared, with no way out on the way, so that the compiler takes many at once.
+fn same_bytes(a: &[u8], b: &[u8]) -> bool
+    ensures { λ r. ⌜ (r ≡ true → now (a .entry) ≡ now (b .entry)) × (now (a .entry) ≡ now (b .entry) → r ≡ true) ⌝ }
+{
+    if a.len() != b.len() {
+        return false;
+    }
+    let mut equal = true;
+    let mut i = 0;
+    while i < a.len() {
+        if a[i] != b[i] {
+            equal = false;
+        }
+        i += 1;
+    }
+    equal
+}
+
 // Whether a text is the listing of a table of 1,024 rows in order.
 fn is_listing(text: &[u8], words: &[u32; 6144], issued: u32) -> bool
     ensures { λ r. ⌜ r ≡ isListing (now (text .entry)) (rowsIn (now (words .entry))) issued ⌝ }
@@ -46,7 +65,7 @@ fn is_listing(text: &[u8], words: &[u32; 6144], issued: u32) -> bool
     let Written::Length(length) = written else {
         return false;
     };
-    check::same(text, &buffer[..length])
+    same_bytes(text, &buffer[..length])
 }
 
 // Reads a listing into a table of n rows. A refusal changes nothing; a listing that is read fixes all the words. Internal: a call

@@ -59,14 +59,14 @@ told c = wrote (c .written .given .0 .0) (c .before .before .before .write-rows 
 array-share-prefix-buffer : tie.Need-array-share-prefix-buffer
 array-share-prefix-buffer c = told (c .before) .inside
 
-slice-aggregate-same : tie.Need-slice-aggregate-same
-slice-aggregate-same c = sym (length-take-le _ _ (told (c .before .before) .inside))
+slice-aggregate-same-bytes : tie.Need-slice-aggregate-same-bytes
+slice-aggregate-same-bytes c = sym (length-take-le _ _ (told (c .before .before) .inside))
 
 returns-3 : tie.Need-returns-3
 returns-3 c =
     let t = told (c .before .before .before) in
     let a = c .before .before .before .before .before .before .before .before .before .before .before .before .args in
-    same-is (c .same .result) _ _ (λ e. (c .same .ensures .0) e ∙ t .front) (λ e. (c .same .ensures .1) (e ∙ sym (t .front)))
+    same-is (c .same-bytes .result) _ _ (λ e. (c .same-bytes .ensures .0) e ∙ t .front) (λ e. (c .same-bytes .ensures .1) (e ∙ sym (t .front)))
     ∙ sym (compared (a .text .now) (a .words .now) (a .issued) (c .before .before .before .before .before .before .before .before .before .before .live-count .result) (c .before .before .before .before .before .before .before .before .before .before .live-count .ensures) (sym (c .before .before .before .before .before .before .before .before .before .in-order .ensures) ∙ not-false (c .before .before .before .before .before .before .before .before .before .in-order .result) (c .before .before .before .before .before .before .before .before .if1 .left)))
 
 pub is-listing-spec : {M : Type 1} → statement M
@@ -82,6 +82,6 @@ is-listing-spec =
     (λ c. search needs)
     returns-2
     array-share-prefix-buffer
-    slice-aggregate-same
+    slice-aggregate-same-bytes
     (λ c κs. search needs)
     returns-3)
