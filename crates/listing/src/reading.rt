@@ -24,14 +24,15 @@ pub enum ListingRead {
     Refused(Refusal),
 }
 
-// Reads the rows of a text into a table of zeros, by rising name.
-fn guess_table(text: &[u8], words: &mut [u32; 6144])
+// Reads the rows of a text into a table of zeros, by rising name, and returns how many there are.
+fn guess_table(text: &[u8], words: &mut [u32; 6144]) -> usize
     requires { ⌜ Stored (now words) 0 ⌝ }
-    ensures { λ _. ⌜ (rowsIn (now (words .exit)) ≡ guessTable (now (text .entry))) × (length (now (words .exit)) ≡ 6144) ⌝ }
+    ensures { λ r. ⌜ (rowsIn (now (words .exit)) ≡ guessTable (now (text .entry))) × Stored (now (words .exit)) r ⌝ }
 {
     let start = lines::count_through(text, classes::NEWLINE);
     let count = forms::read_lines(forms::past(text, start), words);
     sort::sort_rows(words, count);
+    count
 }
 
 // Whether two texts have the same bytes. All of them are compared, with no way out on the way, so that the compiler takes many at once.
@@ -52,12 +53,13 @@ fn same_bytes(a: &[u8], b: &[u8]) -> bool
     equal
 }
 
-// Whether a text is the listing of a table of 1,024 rows in order.
-fn is_listing(text: &[u8], words: &[u32; 6144], issued: u32) -> bool
+// Whether a text is the listing of a table of 1,024 rows in order, of which the first were stored and the others are zeros.
+fn is_listing(text: &[u8], words: &[u32; 6144], count: usize, issued: u32) -> bool
+    requires { ⌜ Stored (now words) count ⌝ }
     ensures { λ r. ⌜ r ≡ isListing (now (text .entry)) (rowsIn (now (words .entry))) issued ⌝ }
 {
-    let live = find::live_count(words, 1024);
-    if !ordered::in_order(words, 1024, live, issued) {
+    let live = find::live_count(words, count);
+    if !ordered::in_order(words, count, live, issued) {
         return false;
     }
     let mut buffer = [0u8; 39936];
@@ -75,9 +77,9 @@ pub fn read_listing(text: &[u8], words: &mut [u32; 6144], n: usize) -> ListingRe
     ensures { λ r. ⌜ ReadsListing (now (text .entry)) n (now (words .entry)) (now (words .exit)) r ⌝ }
 {
     let mut table = [0u32; 6144];
-    guess_table(text, &mut table);
+    let count = guess_table(text, &mut table);
     let issued = numbers::number(lines::after_space(text));
-    if !is_listing(text, &table, issued) {
+    if !is_listing(text, &table, count, issued) {
         return ListingRead::Refused(Refusal::Misspelt);
     }
     if n < find::live_count(&table, 1024) {

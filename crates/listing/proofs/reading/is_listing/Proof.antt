@@ -2,7 +2,7 @@
 -- Assumes nothing.
 use mathlib.Core.Path.{_≡_, refl, sym, ap, _∙_}
 use mathlib.Core.Bool.{true, false}
-use mathlib.Core.List.{List}
+use mathlib.Core.List.{List, reverse}
 use Prim.Native.Nat.{ℕ}
 use native.Mathlib.Omega.{arith}
 use lib.ListN.{take, length-replicate}
@@ -14,38 +14,41 @@ use Rattle.rules.specs.Words.{rowsOf, rowsIn}
 use Rattle.rules.specs.Engine.{Front}
 use Rattle.model.proofs.Lists.{clash}
 use Rattle.text.specs.Read.{same}
-use Rattle.listing.specs.Listing.{listed, listing}
+use Rattle.listing.specs.Listing.{listed}
 use Rattle.listing.specs.ReadListing.{isListing}
-use Rattle.listing.proofs.Laws.Front.{all-rows, front-live, front-listing}
+use Rattle.listing.specs.Stored.{Stored}
+use Rattle.listing.proofs.Laws.Front.{front-live, front-listing}
+use Rattle.listing.proofs.Laws.Padded.{stored-live, stored-order}
 use Rattle.text.proofs.Laws.Write.{Wrote, wrote, wrote-none}
 use Rattle.text.proofs.Laws.Read.{same-is}
 use borrow.Author.Needs.{needs}
 use Rattle.listing.proofs.reading.is_listing.Statement.{statement}
 use Rattle.listing.proofs.reading.is_listing.Tie as tie
 
-module _ (s ws : List ℕ) (issued : ℕ) where
+module _ (s : List ℕ) {ws : List ℕ} {count : ℕ} (st : Stored ws count) (issued : ℕ) where
   -- a table that is not in order, and one that is
-  disordered : inOrder (take 1024 (rowsIn ws)) issued ≡ false → false ≡ isListing s (rowsIn ws) issued
+  disordered : inOrder (take count (rowsIn ws)) issued ≡ false → false ≡ isListing s (rowsIn ws) issued
   unfolding isListing
-  disordered h = sym (rw (ap (λ (t : List Cap). inOrder t issued) (sym (all-rows ws)) ∙ h))
+  disordered h = sym (rw (stored-order st issued ∙ h))
 
-  module _ (k : ℕ) (f : Front (rowsIn ws) 1024 k) (h : inOrder (take 1024 (rowsIn ws)) issued ≡ true) where
+  module _ (k : ℕ) (f : Front (rowsIn ws) count k) (h : inOrder (take count (rowsIn ws)) issued ≡ true) where
     compared : isListing s (rowsIn ws) issued ≡ same s (listed (rowsOf ws k) issued)
     unfolding isListing
     compared =
-        rw (ap (λ (t : List Cap). inOrder t issued) (sym (all-rows ws)) ∙ h)
-        (ap (λ (t : List Cap). same s (listing t issued)) (sym (all-rows ws)) ∙ ap (same s) (front-listing ws 1024 k (omega arith) f issued h))
+        rw (stored-order st issued ∙ h)
+        (ap (λ (rows : List Cap). same s (listed (reverse rows) issued)) (stored-live st) ∙ ap (same s) (front-listing ws count k (st .few) f issued h))
 
 returns : tie.Need-returns
 returns c =
     let a = c .before .before .before .before .args in
-    disordered (a .text .now) (a .words .now) (a .issued) (sym (c .before .in-order .ensures) ∙ not-true (c .before .in-order .result) (c .if1 .taken))
+    disordered (a .text .now) (c .before .before .before .before .pre) (a .issued) (sym (c .before .in-order .ensures) ∙ not-true (c .before .in-order .result) (c .if1 .taken))
 
 write-rows-requires : tie.Need-write-rows-requires
 write-rows-requires c κs =
-    let a = c .before .before .before .before .before .args in
+    let s = c .before .before .before .before .before in
+    let a = s .args in
     let f = c .before .before .before .live-count .ensures in
-    (f .fits, front-live (a .words .now) 1024 (c .before .before .before .live-count .result) (omega arith) f (a .issued) (sym (c .before .before .in-order .ensures) ∙ not-false (c .before .before .in-order .result) (c .before .if1 .left)))
+    (omega (arith, f .fits, s .pre .few), front-live (a .words .now) (a .count) (c .before .before .before .live-count .result) (s .pre .few) f (a .issued) (sym (c .before .before .in-order .ensures) ∙ not-false (c .before .before .in-order .result) (c .before .if1 .left)))
 
 returns-2 : tie.Need-returns-2
 returns-2 c =
@@ -65,9 +68,10 @@ slice-aggregate-same-bytes c = sym (length-take-le _ _ (told (c .before .before)
 returns-3 : tie.Need-returns-3
 returns-3 c =
     let t = told (c .before .before .before) in
-    let a = c .before .before .before .before .before .before .before .before .before .before .before .before .args in
+    let start = c .before .before .before .before .before .before .before .before .before .before .before .before in
+    let a = start .args in
     same-is (c .same-bytes .result) _ _ (λ e. (c .same-bytes .ensures .0) e ∙ t .front) (λ e. (c .same-bytes .ensures .1) (e ∙ sym (t .front)))
-    ∙ sym (compared (a .text .now) (a .words .now) (a .issued) (c .before .before .before .before .before .before .before .before .before .before .live-count .result) (c .before .before .before .before .before .before .before .before .before .before .live-count .ensures) (sym (c .before .before .before .before .before .before .before .before .before .in-order .ensures) ∙ not-false (c .before .before .before .before .before .before .before .before .before .in-order .result) (c .before .before .before .before .before .before .before .before .if1 .left)))
+    ∙ sym (compared (a .text .now) (start .pre) (a .issued) (c .before .before .before .before .before .before .before .before .before .before .live-count .result) (c .before .before .before .before .before .before .before .before .before .before .live-count .ensures) (sym (c .before .before .before .before .before .before .before .before .before .in-order .ensures) ∙ not-false (c .before .before .before .before .before .before .before .before .before .in-order .result) (c .before .before .before .before .before .before .before .before .if1 .left)))
 
 pub is-listing-spec : {M : Type 1} → statement M
 is-listing-spec =
