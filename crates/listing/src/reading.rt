@@ -12,9 +12,13 @@ use text::numbers;
 use text::write::Written;
 ghost use mathlib.Core.Path.{_≡_};
 ghost use mathlib.Core.Bool.{true};
+ghost use mathlib.Core.Logic.{_⊎_};
 ghost use Prim.Native.Nat.{_≤_};
 ghost use lib.ListN.{length};
-ghost use Rattle.rules.specs.Words.{rowsIn};
+ghost use Rattle.rules.specs.Words.{rowsOf, rowsIn};
+ghost use Rattle.text.specs.Read.{same};
+ghost use Rattle.listing.specs.Links.{Live};
+ghost use Rattle.listing.specs.Listing.{listed};
 ghost use Rattle.listing.specs.Stored.{Stored};
 ghost use Rattle.listing.specs.ReadListing.{isListing, guessTable, ReadsListing};
 
@@ -53,6 +57,19 @@ fn same_bytes(a: &[u8], b: &[u8]) -> bool
     equal
 }
 
+// Whether the first n rows, all of them live, have a text as their listing. It is written into a buffer that the text fits into, or
+// else every listing.
+fn writes_back(text: &[u8], words: &[u32; 6144], n: usize, issued: u32, out: &mut [u8]) -> bool
+    requires { ⌜ (n ≤ 1024) × Live (rowsOf (now words) n) × ((length (now text) ≤ length (now out)) ⊎ (39936 ≤ length (now out))) ⌝ }
+    ensures { λ r. ⌜ r ≡ same (now (text .entry)) (listed (rowsOf (now (words .entry)) n) issued) ⌝ }
+{
+    let written = writing::write_rows(words, n, issued, out);
+    let Written::Length(length) = written else {
+        return false;
+    };
+    same_bytes(text, &out[..length])
+}
+
 // Whether a text is the listing of a table of 1,024 rows in order, of which the first were stored and the others are zeros.
 fn is_listing(text: &[u8], words: &[u32; 6144], count: usize, issued: u32) -> bool
     requires { ⌜ Stored (now words) count ⌝ }
@@ -62,12 +79,12 @@ fn is_listing(text: &[u8], words: &[u32; 6144], count: usize, issued: u32) -> bo
     if !ordered::in_order(words, count, live, issued) {
         return false;
     }
-    let mut buffer = [0u8; 39936];
-    let written = writing::write_rows(words, live, issued, &mut buffer);
-    let Written::Length(length) = written else {
-        return false;
-    };
-    same_bytes(text, &buffer[..length])
+    if text.len() <= 2048 {
+        let mut short = [0u8; 2048];
+        return writes_back(text, words, live, issued, &mut short);
+    }
+    let mut long = [0u8; 39936];
+    writes_back(text, words, live, issued, &mut long)
 }
 
 // Reads a listing into a table of n rows. A refusal changes nothing; a listing that is read fixes all the words. Internal: a call
