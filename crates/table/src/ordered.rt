@@ -95,14 +95,15 @@ fn row_in_order(words: &[u32; 6144], i: usize, c: Cap, q: usize) -> bool
     }
 }
 
-// The slot of a name: of 2,048 names in a row, each has its own.
-fn slot(name: u32) -> usize
+// Internal. The slot of a name: of 2,048 names in a row, each has its own.
+pub fn slot(name: u32) -> usize
     ensures { λ r. ⌜ r < 2048 ⌝ }
 {
     (name % 2048) as usize
 }
 
-fn wide(x: u16) -> usize
+// Internal. A note as a place.
+pub fn wide(x: u16) -> usize
     ensures { λ r. ⌜ r ≡ x ⌝ }
 {
     x as usize
