@@ -23,7 +23,7 @@ use Rattle.model.proofs.Lists.{All, All-map, All-of, clash, passes, any
 use Rattle.model.proofs.Addresses.{touches-none}
 use Rattle.model.proofs.Ancestries.{same, below-differs, ancestry-here, ancestry-past, ancestry-below}
 use Rattle.model.proofs.Strikes.{user-spared}
-use Rattle.model.proofs.Notes.{revoke-cong}
+use Rattle.model.proofs.Notes.{taken-cong}
 use Rattle.model.proofs.Lent.{Named}
 use Rattle.model.proofs.Order.{rowsInOrder-falling, lookup-left}
 use Rattle.model.proofs.Rows.{lookup-each, no-ancestry, no-ancestry-above}
@@ -80,17 +80,17 @@ module _ (issued : ℕ) (rows : List Cap) (n : Named rows) (h : rowsInOrder (suc
   pub create-rows : rowsAfter issued rows (Create w s r) ≡ row (root issued s) r 1 ∷ filter (λ c. not (hit (c .name .0))) rows
   unfolding rowsAfter revoke afterAccess struck
   create-rows = ap {B = List Cap} (λ l. row (root issued s) r 1 ∷ l) (
-      revoke-cong (struck isEnd Writing (derivations rows) (suc issued) s) (struck isLower Writing (derivations rows) (suc issued) s) hit (λ x. false) rows
+      taken-cong (struck isEnd Writing (derivations rows) (suc issued) s) (struck isLower Writing (derivations rows) (suc issued) s) hit (λ x. false) rows
       (All-of _ (λ c. rw (no-ancestry-above (suc issued) rows n h (suc issued) (omega arith)) (outside-ends s (ancestry (derivations rows) (c .name .0)), outside-lowers s (ancestry (derivations rows) (c .name .0)))) rows)
       ∙ map-id _)
 
   -- It is a write from outside every subtree but its own: a write through the new row, once it stands, leaves the same.
   pub create-written : afterAccess Writing (suc issued) s (row (root issued s) r 1 ∷ rows) ≡ rowsAfter issued rows (Create w s r)
-  unfolding rowsAfter afterAccess struck
+  unfolding rowsAfter revoke afterAccess struck
   create-written =
       revoke-past (ends isEnd) (ends isLower) (row new r 1) rows (user-spared isEnd refl Writing s user) (user-spared isLower refl Writing s user)
       ∙ ap {B = List Cap} (λ l. row new r 1 ∷ l)
-      (revoke-cong (ends isEnd) (ends isLower) (struck isEnd Writing (derivations rows) (suc issued) s) (struck isLower Writing (derivations rows) (suc issued) s) rows
+      (taken-cong (ends isEnd) (ends isLower) (struck isEnd Writing (derivations rows) (suc issued) s) (struck isLower Writing (derivations rows) (suc issued) s) rows
       (All-map _ _ (λ c q. (older isEnd (c .name .0) (q .0), older isLower (c .name .0) (q .0))) rows (lookup-each (suc issued) rows h)))
     where
       new : Derivation

@@ -15,8 +15,7 @@ use Rattle.model.specs.declared.NewName.{NewName}
 use Rattle.model.specs.declared.Event.{Event}
 use Rattle.model.specs.declared.Event.the-variants.{Create, Borrow, Read, Write, Drop}
 use Rattle.model.specs.Lists.{all}
-use Rattle.model.specs.Strike.{isLower, isEnd, struck}
-use Rattle.model.specs.Table.{derivations, named, liveRows}
+use Rattle.model.specs.Table.{named, liveRows}
 use Rattle.model.specs.Refusals.{refusals, judge}
 use Rattle.model.specs.Effects.{revoke, afterAccess, rowsAfter}
 use Rattle.model.proofs.Lists.{listed, first-none, length-filter}
@@ -45,7 +44,7 @@ revoke-fits ends lowers rows n h = rw length-map (omega (arith, length-filter (�
 -- an access leaves no more rows than there were
 pub access-fits : (a : Access) (u : ℕ) (s : Span) (rows : List Cap) → length (afterAccess a u s rows) ≤ length rows
 unfolding afterAccess
-access-fits a u s rows = revoke-fits (struck isEnd a (derivations rows) u s) (struck isLower a (derivations rows) u s) rows (length rows) (omega arith)
+access-fits a u s rows = revoke-fits _ _ rows (length rows) (omega arith)
 
 new-fits : (ends lowers : ℕ → Bool) (rows : List Cap) (n : ℕ) → length rows < n → suc (length (revoke ends lowers rows)) ≤ n
 new-fits ends lowers rows n h = omega (arith, revoke-fits ends lowers rows (length rows) (omega arith))

@@ -12,7 +12,7 @@ use Rattle.model.specs.declared.Cap.{Cap}
 use Rattle.model.specs.Lists.{filter, any}
 use Rattle.model.specs.Derivation.{Derivation, ancestry}
 use Rattle.model.specs.Table.{row}
-use Rattle.model.specs.Effects.{lowered, revoke}
+use Rattle.model.specs.Effects.{lowered}
 use Rattle.model.specs.History.{Note, New, Accessed, Dropped, derivedBy, derivations, makes, makesWritable, later, user, Takes, ends, lowers, hits, lives, writable, rowOf, alive, rows}
 use Rattle.model.proofs.Lists.{All, All-map, All-sub, All-filter, All-mapped, and-neither, filter-cong, filter-filter, filter-map, filter-append, map-cong}
 use Rattle.model.proofs.Ancestries.{Falling, same, below-differs, ancestry-here, ancestry-past, ancestry-step}
@@ -163,20 +163,18 @@ left B w c = not (hits ends B (c .name .0) w)
 abbrev pub revokedBy : List Derivation → Note → List Cap → List Cap
 revokedBy B w rows = map (lower B w) (filter (left B w) rows)
 
--- rows from which the same is taken
-pub revoke-cong : (end lower end′ lower′ : ℕ → Bool) (rows : List Cap) → All (λ c. (end (c .name .0) ≡ end′ (c .name .0)) × (lower (c .name .0) ≡ lower′ (c .name .0))) rows
-    → revoke end lower rows ≡ revoke end′ lower′ rows
-unfolding revoke
-revoke-cong end lower end′ lower′ rows h =
+-- it is the same where the same names end and the same are lowered
+pub taken-cong : (end lower end′ lower′ : ℕ → Bool) (rows : List Cap) → All (λ c. (end (c .name .0) ≡ end′ (c .name .0)) × (lower (c .name .0) ≡ lower′ (c .name .0))) rows
+    → map (λ c. lowered (lower (c .name .0)) c) (filter (λ c. not (end (c .name .0))) rows) ≡ map (λ c. lowered (lower′ (c .name .0)) c) (filter (λ c. not (end′ (c .name .0))) rows)
+taken-cong end lower end′ lower′ rows h =
     ap (map (λ c. lowered (lower (c .name .0)) c)) (filter-cong (λ c. not (end (c .name .0))) (λ c. not (end′ (c .name .0))) rows (All-map _ _ (λ c e. ap not (e .0)) rows h))
     ∙ map-cong (λ c. lowered (lower (c .name .0)) c) (λ c. lowered (lower′ (c .name .0)) c) (filter (λ c. not (end′ (c .name .0))) rows)
     (All-sub (λ c. not (end′ (c .name .0))) _ rows (All-map _ _ (λ c e. ap (λ hit. lowered hit c) (e .1)) rows h))
 
 -- so by other derivations with the same ancestries
 pub revokedBy-cong : (B C : List Derivation) (w : Note) (rows : List Cap) → All (λ c. (takes : Takes) → hits takes B (c .name .0) w ≡ hits takes C (c .name .0) w) rows → revokedBy B w rows ≡ revokedBy C w rows
-unfolding revoke
 revokedBy-cong B C w rows h =
-    revoke-cong (λ x. hits ends B x w) (λ x. hits lowers B x w) (λ x. hits ends C x w) (λ x. hits lowers C x w) rows (All-map _ _ (λ c e. (e ends, e lowers)) rows h)
+    taken-cong (λ x. hits ends B x w) (λ x. hits lowers B x w) (λ x. hits ends C x w) (λ x. hits lowers C x w) rows (All-map _ _ (λ c e. (e ends, e lowers)) rows h)
 
 -- the row that a note makes, and the others without what it takes from them
 module _ (n : ℕ) (w : Note) (notes : List Note) (s : Sound n (w ∷ notes)) where

@@ -267,7 +267,7 @@ access-rowsInOrder bound rows n h a u s =
 
 pub access-named : (rows : List Cap) → Named rows → (a : Access) (u : ℕ) (s : Span) → Named (afterAccess a u s rows)
 unfolding afterAccess
-access-named rows n a u s = revoke-named (struck isEnd a (derivations rows) u s) (struck isLower a (derivations rows) u s) rows n
+access-named rows n a u s = revoke-named _ _ rows n
 
 -- ---- the whole table
 
