@@ -33,7 +33,7 @@ pub allowed : (t : List Cap) (i : ℕ) (e : Event) → judge t i e ≡ 0 → (k 
 unfolding judge
 allowed t i e h = first-none (refusals t i e) (numbered t i e) h
 
-length-live : (t : List Cap) → length (liveRows t) ≤ length t
+pub length-live : (t : List Cap) → length (liveRows t) ≤ length t
 unfolding liveRows
 length-live t = rw length-reverse (length-filter (λ c. not (named 0 c)) t)
 

@@ -34,7 +34,7 @@ use Rattle.model.specs.Step
 use Rattle.model.proofs.Lists.{All, All-map, All-of, All-sub, All-mapped, All-unmap, test, clash, unless, passes, and-both, or-neither, filter-reverse, filter-none, any-map, any-kept}
 use Rattle.model.proofs.Ancestries.{Falling, ancestry-step}
 use Rattle.model.proofs.Lent.{Named, live-lent, length-lent, lookup-named}
-use Rattle.model.proofs.Judged.{allowed, next-fits}
+use Rattle.model.proofs.Judged.{allowed, length-live, access-fits, next-fits}
 use Rattle.model.proofs.Match.{counted-issued}
 
 -- ---- the lent table is arranged
@@ -338,17 +338,18 @@ module _ (t : List Cap) (i : ℕ) (o : Ordered t i) where
   next-rowsInOrder (Write u s) h = used-rowsInOrder Writing (u .0) s
   next-rowsInOrder (Drop u) h = revoke-rowsInOrder _ _ (suc i) (liveRows t) (below-spreads (suc i) (liveRows t) (live-named t) (o .rise) (u .0)) (All-of _ (λ c e. e) (liveRows t)) (o .rise)
 
-  order-next : (e : Event) → judge t i e ≡ 0 → inOrder (lentTable (length t) (rowsAfter i (liveRows t) e)) (issuedAfter i e) ≡ true
+  -- a table as long as t with rows that fit and rise
+  lent-inOrder : (rows : List Cap) (j : ℕ) → length rows ≤ length t → Named rows → leb j 1000000 ≡ true → rowsInOrder (suc j) rows ≡ true → inOrder (lentTable (length t) rows) j ≡ true
   unfolding inOrder
-  order-next e h =
-      rw (
-        length-lent (length t) (rowsAfter i (liveRows t) e) (next-fits t i e h),
-        o .few,
-        liveRowsFirst-lent (length t) (rowsAfter i (liveRows t) e) (next-named e),
-        names-enough e h,
-        live-lent (length t) (rowsAfter i (liveRows t) e) (next-named e),
-      )
-      (next-rowsInOrder e h)
+  lent-inOrder rows j l n b h = rw (length-lent (length t) rows l, o .few, liveRowsFirst-lent (length t) rows n, b, live-lent (length t) rows n) h
+
+  order-next : (e : Event) → judge t i e ≡ 0 → inOrder (lentTable (length t) (rowsAfter i (liveRows t) e)) (issuedAfter i e) ≡ true
+  order-next e h = lent-inOrder (rowsAfter i (liveRows t) e) (issuedAfter i e) (next-fits t i e h) (next-named e) (names-enough e h) (next-rowsInOrder e h)
+
+  -- an access through any name leaves a table in order; so does the half of a create that takes rows away
+  pub access-inOrder : (a : Access) (u : ℕ) (s : Span) → inOrder (lentTable (length t) (afterAccess a u s (liveRows t))) i ≡ true
+  access-inOrder a u s =
+      lent-inOrder (afterAccess a u s (liveRows t)) i (omega (arith, access-fits a u s (liveRows t), length-live t)) (access-named (liveRows t) (live-named t) a u s) (o .names-left) (used-rowsInOrder a u s)
 
 order-outcome : (h : State) (e : Event) (j : ℕ) → judge (h .table) (h .tally .issued) e ≡ j → inOrder (h .table) (h .tally .issued) ≡ true
     → inOrder (Step.outcome j h e .table) (Step.outcome j h e .tally .issued) ≡ true
