@@ -29,6 +29,11 @@ notARight r = not (isRight r)
 abbrev pub illegalSpan : Span → Bool
 illegalSpan s = not (legal s)
 
+-- 12. "the written name is not the issued number plus one"
+abbrev pub misnamed : ℕ → NewName → Bool
+misnamed issued Unwritten = false
+misnamed issued (Written x) = not (eqb (x .0) (suc issued))
+
 -- The others are judged on the live rows.
 module _ (rows : List Cap) (issued : ℕ) where
   -- 4. name 0 or above the issued number
@@ -55,11 +60,6 @@ module _ (rows : List Cap) (issued : ℕ) where
   abbrev pub namesSpent : Bool
   namesSpent = leb 1000000 issued
 
-  -- 12. "the written name is not the issued number plus one"
-  abbrev pub misnamed : NewName → Bool
-  misnamed Unwritten = false
-  misnamed (Written x) = not (eqb (x .0) (suc issued))
-
   -- 10. create or borrow with no empty row, of so many rows
   abbrev pub tableFull : ℕ → Bool
   tableFull size = leb size (length rows)
@@ -76,7 +76,7 @@ module _ (rows : List Cap) (issued : ℕ) where
   usable u s r = within u s ++ ((7, readOnly u r) ∷ [])
 
   abbrev pub room : ℕ → NewName → List (ℕ × Bool)
-  room size w = (9, namesSpent) ∷ (12, misnamed w) ∷ (10, tableFull size) ∷ []
+  room size w = (9, namesSpent) ∷ (12, misnamed issued w) ∷ (10, tableFull size) ∷ []
 
   -- those that each event meets after 1
   abbrev pub checks : ℕ → Event → List (ℕ × Bool)

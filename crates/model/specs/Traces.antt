@@ -1,5 +1,5 @@
--- Document 01, "Traces to try", those with a star; "Eleven ways to be turned down", the examples that are events; cards 1
--- and 4; and capcheck's example.
+-- Document 01, "Traces to try", those with a star; "Eleven ways to be turned down", the examples that are events; cards 1, 2 and 4; and
+-- capcheck's example.
 -- One table, and one computed proof over it (proofs/Traces).
 -- Assumes nothing.
 use Prim.Native.Nat.{ℕ, zero, suc}
@@ -86,8 +86,8 @@ starred =
     ∷ created 1024 ((borrow 1 0 8 RW, 0, 2) ∷ (borrow 1 0 8 RW, 0, 3) ∷ (read 2 0 1, 0, 0) ∷ (read 3 0 1, 0, 0) ∷ []) ((1, RW) ∷ (2, ro) ∷ (3, ro) ∷ [])
     -- 5
     ∷ created 1024 ((borrow 1 0 32 RW, 0, 2) ∷ (borrow 2 16 16 RW, 0, 3) ∷ (write 1 0 1, 0, 0) ∷ []) ((1, RW) ∷ [])
-    -- 6
-    ∷ created 1024 ((drop 1, 0, 0) ∷ (read 1 0 0, 3, 0) ∷ []) []
+    -- 6, where card 2 gives 5
+    ∷ created 1024 ((drop 1, 0, 0) ∷ (read 1 0 0, 5, 0) ∷ []) []
     -- 7
     ∷ trace 1024 ((create 4294967295 1 RW, 0, 1) ∷ (create 4294967295 2 RW, 3, 0) ∷ []) ((1, RW) ∷ [])
     -- 8
@@ -122,8 +122,8 @@ refused =
     from (record { table = namedThree ∷ namedThree ∷ []; tally = noCounts 3 }) ((read 3 0 8, 1, 0) ∷ []) ((3, RW) ∷ (3, RW) ∷ [])
     -- 2: an event whose right is neither 1 nor 2
     ∷ created 2 ((borrow 1 0 8 0, 2, 0) ∷ (create 0 8 3, 2, 0) ∷ []) ((1, RW) ∷ [])
-    -- 3
-    ∷ created 2 ((read 1 0 0, 3, 0) ∷ []) ((1, RW) ∷ [])
+    -- 3: an end above 4,294,967,296; its example in document 01 is allowed by card 2
+    ∷ created 2 ((read 1 4294967295 2, 3, 0) ∷ (read 1 0 0, 0, 0) ∷ []) ((1, RW) ∷ [])
     -- 4
     ∷ created 2 ((read 9 0 8, 4, 0) ∷ []) ((1, RW) ∷ [])
     -- 5
@@ -150,9 +150,18 @@ written =
     ∷ created 1 ((createNamed 3 0 8 RW, 12, 0) ∷ (createNamed 2 0 8 RW, 10, 0) ∷ []) ((1, RW) ∷ [])
     ∷ []
 
+-- Card 2: a span of length 0 touches nothing; it lies inside another up to that one's end; liveness and right are judged as before
+unfoldable pub empty : List Trace
+empty =
+    trace 4 ((create 0 8 RW, 0, 1) ∷ (borrow 1 0 8 RW, 0, 2) ∷ (write 1 4 0, 0, 0) ∷ []) ((1, RW) ∷ (2, RW) ∷ [])
+    ∷ trace 4 ((create 0 8 RW, 0, 1) ∷ (borrow 1 8 0 RW, 0, 2) ∷ (borrow 1 9 0 RW, 6, 0) ∷ (write 1 0 8, 0, 0) ∷ []) ((1, RW) ∷ (2, RW) ∷ [])
+    ∷ trace 4 ((create 0 8 RW, 0, 1) ∷ (borrow 1 0 0 ro, 0, 2) ∷ (write 2 0 0, 7, 0) ∷ (drop 2, 0, 0) ∷ (read 2 0 0, 5, 0) ∷ []) ((1, RW) ∷ [])
+    ∷ trace 4 ((create 4294967295 1 RW, 0, 1) ∷ (create 4294967295 0 RW, 0, 2) ∷ (read 1 4294967295 0, 0, 0) ∷ []) ((1, RW) ∷ (2, RW) ∷ [])
+    ∷ []
+
 -- Card 4: a create over a live root ends it and its untouched child; one beside it ends nothing; one over a part of a child ends the
--- child and its parent, which it touches too, and leaves another root alone; one across a root's end ends that root; and into a full
--- table it is 10, though it would free rows
+-- child and its parent, which it touches too, and leaves another root alone; one across a root's end ends that root; one of length 0
+-- ends nothing; and into a full table it is 10, though it would free rows
 unfoldable pub reused : List Trace
 reused =
     created 1024 ((borrow 1 0 8 RW, 0, 2) ∷ (create 32 16 RW, 0, 3) ∷ (read 2 0 8, 5, 0) ∷ []) ((3, RW) ∷ [])
@@ -160,6 +169,7 @@ reused =
     ∷ created 1024 ((create 64 64 RW, 0, 2) ∷ (borrow 1 0 16 RW, 0, 3) ∷ (create 8 4 RW, 0, 4) ∷ (read 3 0 8, 5, 0) ∷ (read 1 32 8, 5, 0) ∷ []) ((2, RW) ∷ (4, RW) ∷ [])
     ∷ created 1024 ((create 63 2 ro, 0, 2) ∷ []) ((2, ro) ∷ [])
     ∷ created 2 ((borrow 1 0 8 RW, 0, 2) ∷ (create 0 64 RW, 10, 0) ∷ (drop 2, 0, 0) ∷ (create 0 64 RW, 0, 3) ∷ (borrow 3 0 8 RW, 0, 4) ∷ []) ((3, RW) ∷ (4, RW) ∷ [])
+    ∷ created 4 ((create 8 0 RW, 0, 2) ∷ (create 8 1 RW, 0, 3) ∷ []) ((2, RW) ∷ (3, RW) ∷ [])
     ∷ []
 
 -- "The bracket text": what capcheck is shown on
@@ -170,7 +180,7 @@ printed =
     ((1, RW) ∷ (2, ro) ∷ (3, RW) ∷ [])
 
 unfoldable pub traces : List Trace
-traces = starred ++ (refused ++ (written ++ (reused ++ (printed ∷ []))))
+traces = starred ++ (refused ++ (written ++ (empty ++ (reused ++ (printed ∷ [])))))
 
 -- ---- when a trace goes as it says
 
