@@ -534,7 +534,7 @@ const MISNAMED: [Step; 12] = [
     ("(borrow 4294967295 1 0 8 rw)", Err(12)),
     ("(create 3 0 8 rw)", Err(12)),
     ("(borrow 3 01 0 8 rw)", Err(2)),
-    ("(create 3 0 0 rw)", Err(3)),
+    ("(create 3 4294967295 2 rw)", Err(3)),
     ("(borrow 3 2 0 8 rw)", Err(4)),
     ("(borrow 3 1 60 8 rw)", Err(6)),
     ("(create 0 8 rw)", Err(2)),
