@@ -190,7 +190,7 @@ impl Ordered<'_> {
 
     /// Closes the gaps that the marked rows leave, and clears the rows that come free.
     fn remove(&mut self, marks: &Marks) {
-        if !marks.contains(&true) {
+        if !marks[..self.index.live].contains(&true) {
             return;
         }
         let mut moved_to = [NO_ROW; MAX_ROWS];
