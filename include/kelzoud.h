@@ -14,7 +14,7 @@
  *
  * Every call answers with a number and a value in one 64-bit word: see kz_number and kz_value. The
  * number is 0 when the call was allowed, else that of a refusal. A call that is refused changes
- * nothing that was lent, except as kz_apply and kz_run say.
+ * nothing that was lent, except as kz_apply, kz_apply_named and kz_run say.
  */
 #ifndef KELZOUD_H
 #define KELZOUD_H
@@ -33,9 +33,13 @@ enum {
     KZ_MAX_DEPTH = 64,      /* depth of a capability */
     KZ_MAX_INPUT = 65536,   /* bytes of input that kz_check runs */
     KZ_MAX_LINE = 45,       /* bytes of an event line, its newline included */
+    KZ_MAX_NAMED_LINE = 56, /* the same where new names are written out */
     KZ_MAX_LISTING = 34834, /* bytes of a listing */
     KZ_MAX_CHECK = 34853    /* bytes that kz_check writes */
 };
+
+/* The first line of a text in which new names are written out. */
+#define KZ_NAMED_HEADER "(trace 2)\n"
 
 /* Rights. */
 enum {
@@ -52,7 +56,7 @@ enum {
     KZ_DROP = 5
 };
 
-/* The numbers of refusals. Where several apply, the lowest is given. */
+/* The refusals in the order in which they are judged: where several apply, the first is given. */
 enum kz_refusal {
     KZ_DISORDERED = 1,       /* the table is not in order, or has more than KZ_MAX_ROWS rows */
     KZ_MISSPELT = 2,         /* a line or listing not in the one spelling; an unknown kind or right */
@@ -63,6 +67,7 @@ enum kz_refusal {
     KZ_READ_ONLY = 7,        /* a write through a read-only capability, or a read-write borrow of it */
     KZ_TOO_DEEP = 8,         /* a borrow from depth KZ_MAX_DEPTH */
     KZ_NAMES_SPENT = 9,      /* a create or borrow when KZ_MAX_NAME names are issued */
+    KZ_MISNAMED = 12,        /* a written new name that is not the issued number plus one */
     KZ_TABLE_FULL = 10,      /* a create or borrow when no row is empty; a listing with too many rows */
     KZ_BUFFER_TOO_SHORT = 11 /* a text that is longer than the output buffer */
 };
@@ -106,14 +111,27 @@ typedef struct kz_tally {
  *
  * Allowed: the value is the new name for a create or borrow, else 0. The table and the tally follow
  * the event.
- * Refused, with value 0: KZ_DISORDERED changes nothing. KZ_MISSPELT to KZ_TABLE_FULL add one to the
- * refused count and change nothing else.
+ * Refused, with value 0: KZ_DISORDERED changes nothing. Any other refusal adds one to the refused
+ * count and changes nothing else.
  */
 uint64_t kz_apply(kz_cap *table, size_t rows, kz_tally *tally, uint8_t kind, uint32_t name,
                   uint32_t start, uint32_t length, uint8_t right);
 
 /*
+ * One event from a log that writes new names out: kz_apply, with besides in `written` the name that a
+ * create or borrow is to get. Where that is not the issued number plus one, as 0 never is, the event
+ * is refused KZ_MISNAMED. For the other kinds `written` is not looked at.
+ */
+uint64_t kz_apply_named(kz_cap *table, size_t rows, kz_tally *tally, uint8_t kind,
+                        uint32_t written, uint32_t name, uint32_t start, uint32_t length,
+                        uint8_t right);
+
+/*
  * A run of event lines, until one is refused. The table is then as after the last allowed line.
+ *
+ * In a text whose first line is KZ_NAMED_HEADER the other lines are those of kz_write_named, else all
+ * lines are those of kz_write_event. That first line is counted as a line; it is no event and raises
+ * no count. Anywhere else it is refused KZ_MISSPELT.
  *
  * Allowed: the value is the number of lines. An empty text is a run of no lines.
  * Refused: the value is the number of the refused line, from 1, which adds one to the refused count;
@@ -123,7 +141,9 @@ uint64_t kz_run(kz_cap *table, size_t rows, kz_tally *tally, const uint8_t *text
 
 /*
  * Writes the line of an event, its newline included, to the start of `out`; the bytes after it stay.
- * What the kind lacks is not looked at.
+ * What the kind lacks is not looked at. The lines are `(create START LENGTH RIGHT)`,
+ * `(borrow NAME START LENGTH RIGHT)`, `(read NAME START LENGTH)`, `(write NAME START LENGTH)` and
+ * `(drop NAME)`.
  *
  * Allowed: the value is the length written.
  * Refused: KZ_MISSPELT for an unknown kind or right, else KZ_BUFFER_TOO_SHORT. `out` is untouched.
@@ -139,6 +159,21 @@ uint64_t kz_write_event(uint8_t kind, uint32_t name, uint32_t start, uint32_t le
  * Refused: KZ_MISSPELT. `fields` is untouched.
  */
 uint64_t kz_read_event(const uint8_t *line, size_t line_len, uint32_t fields[5]);
+
+/*
+ * kz_write_event with the new name of a create or borrow written after the word:
+ * `(create WRITTEN START LENGTH RIGHT)`, `(borrow WRITTEN NAME START LENGTH RIGHT)`. Any number may be
+ * written; whether it is the right one is judged on a table. For the other kinds `written` is not
+ * looked at, and the line is the same as without.
+ */
+uint64_t kz_write_named(uint8_t kind, uint32_t written, uint32_t name, uint32_t start,
+                        uint32_t length, uint8_t right, uint8_t *out, size_t out_len);
+
+/*
+ * kz_read_event of a line of kz_write_named. `fields` gets kind, written, name, start, length and
+ * right, with 0 for what the kind lacks.
+ */
+uint64_t kz_read_named(const uint8_t *line, size_t line_len, uint32_t fields[6]);
 
 /*
  * Writes the listing of a table and its issued number to the start of `out`; the bytes after it
@@ -205,6 +240,20 @@ static inline uint64_t kz_write(kz_cap *table, size_t rows, kz_tally *tally, uin
 
 static inline uint64_t kz_drop(kz_cap *table, size_t rows, kz_tally *tally, uint32_t name) {
     return kz_apply(table, rows, tally, KZ_DROP, name, 0, 0, 0);
+}
+
+/* kz_apply_named for the two kinds that make a name. */
+
+static inline uint64_t kz_create_named(kz_cap *table, size_t rows, kz_tally *tally,
+                                       uint32_t written, uint32_t start, uint32_t length,
+                                       uint8_t right) {
+    return kz_apply_named(table, rows, tally, KZ_CREATE, written, 0, start, length, right);
+}
+
+static inline uint64_t kz_borrow_named(kz_cap *table, size_t rows, kz_tally *tally,
+                                       uint32_t written, uint32_t name, uint32_t start,
+                                       uint32_t length, uint8_t right) {
+    return kz_apply_named(table, rows, tally, KZ_BORROW, written, name, start, length, right);
 }
 
 #ifdef __cplusplus

@@ -54,6 +54,26 @@ static void check_events(void) {
     CHECK(tally.reads == 1 && tally.writes == 1 && tally.drops == 1 && tally.refused == 4);
 }
 
+static void check_named_events(void) {
+    kz_cap table[2];
+    kz_tally tally;
+    memset(table, 0, sizeof table);
+    memset(&tally, 0, sizeof tally);
+    CHECK(kz_create_named(table, 2, &tally, 0, 0, 64, KZ_RW) == refused(KZ_MISNAMED, 0));
+    CHECK(kz_create_named(table, 2, &tally, 2, 0, 64, KZ_RW) == refused(KZ_MISNAMED, 0));
+    CHECK(kz_create_named(table, 2, &tally, 1, 0, 64, KZ_RW) == 1);
+    CHECK(kz_borrow_named(table, 2, &tally, 1, 1, 0, 8, KZ_RO) == refused(KZ_MISNAMED, 0));
+    CHECK(kz_borrow_named(table, 2, &tally, 1, 2, 0, 8, KZ_RO) == refused(KZ_UNISSUED, 0));
+    CHECK(kz_borrow_named(table, 2, &tally, 2, 1, 0, 8, KZ_RO) == 2);
+    CHECK(kz_create_named(table, 2, &tally, 4, 0, 8, KZ_RW) == refused(KZ_MISNAMED, 0));
+    CHECK(kz_create_named(table, 2, &tally, 3, 0, 8, KZ_RW) == refused(KZ_TABLE_FULL, 0));
+    CHECK(kz_apply_named(table, 2, &tally, KZ_WRITE, 9, 1, 0, 8, 0) == 0);
+    CHECK(kz_apply_named(table, 2, &tally, 0, 3, 1, 0, 8, KZ_RW) == refused(KZ_MISSPELT, 0));
+    tally.issued = KZ_MAX_NAME;
+    CHECK(kz_create_named(table, 2, &tally, 7, 0, 8, KZ_RW) == refused(KZ_NAMES_SPENT, 0));
+    CHECK(tally.creates == 1 && tally.borrows == 1 && tally.writes == 1 && tally.refused == 8);
+}
+
 static void check_text(void) {
     static const uint8_t trace[] = "(create 0 8 rw)\n(read 1 0 9)\n";
     static const char listing[] = "(issued 1)\n(1 0 8 rw)\n";
@@ -78,10 +98,37 @@ static void check_text(void) {
     CHECK(memcmp(out, "(refused 6 2)\n", 14) == 0);
 }
 
+static void check_named_text(void) {
+    static const uint8_t trace[] = KZ_NAMED_HEADER "(create 1 0 8 rw)\n(borrow 3 1 0 4 ro)\n";
+    static const uint8_t borrow[] = "(borrow 3 1 0 4 ro)\n";
+    const size_t length = sizeof trace - 1;
+    const size_t borrow_length = sizeof borrow - 1;
+    uint32_t fields[6];
+    uint8_t out[64];
+    kz_cap table[2];
+    kz_tally tally;
+    memset(table, 0, sizeof table);
+    memset(&tally, 0, sizeof tally);
+    CHECK(kz_read_named(borrow, borrow_length, fields) == 0);
+    CHECK(fields[0] == KZ_BORROW && fields[1] == 3 && fields[2] == 1 && fields[3] == 0);
+    CHECK(fields[4] == 4 && fields[5] == KZ_RO);
+    CHECK(kz_read_event(borrow, borrow_length, fields) == refused(KZ_MISSPELT, 0));
+    CHECK(kz_write_named(KZ_BORROW, 3, 1, 0, 4, KZ_RO, out, sizeof out) == borrow_length);
+    CHECK(memcmp(out, borrow, borrow_length) == 0);
+    CHECK(kz_write_named(KZ_DROP, 3, 1, 0, 0, 0, out, sizeof out) == 9);
+    CHECK(kz_read_named(out, 9, fields) == 0);
+    CHECK(fields[0] == KZ_DROP && fields[1] == 0 && fields[2] == 1 && fields[5] == 0);
+    CHECK(kz_run(table, 2, &tally, trace, length) == refused(KZ_MISNAMED, 3));
+    CHECK(tally.issued == 1 && tally.creates == 1 && tally.refused == 1);
+    CHECK(kz_run(table, 2, &tally, trace, sizeof KZ_NAMED_HEADER - 1) == 1);
+    CHECK(kz_check(trace, length, out, sizeof out) == 15 + 22);
+    CHECK(memcmp(out, "(refused 12 3)\n(issued 1)\n(1 0 8 rw)\n", 15 + 22) == 0);
+}
+
 static void check_null(void) {
     static const char listing[] = "(issued 0)\n";
     const uint8_t *text = (const uint8_t *)listing;
-    uint32_t fields[5];
+    uint32_t fields[6];
     uint8_t out[64];
     kz_tally tally;
     memset(&tally, 0, sizeof tally);
@@ -89,6 +136,10 @@ static void check_null(void) {
     CHECK(kz_run(NULL, 0, &tally, NULL, 0) == 0);
     CHECK(kz_write_event(KZ_DROP, 1, 0, 0, 0, NULL, 0) == refused(KZ_BUFFER_TOO_SHORT, 0));
     CHECK(kz_read_event(NULL, 0, fields) == refused(KZ_MISSPELT, 0));
+    CHECK(kz_create_named(NULL, 0, &tally, 1, 0, 64, KZ_RW) == refused(KZ_TABLE_FULL, 0));
+    CHECK(kz_write_named(KZ_CREATE, 1, 0, 0, 8, 3, NULL, 0) == refused(KZ_MISSPELT, 0));
+    CHECK(kz_write_named(KZ_CREATE, 1, 0, 0, 8, KZ_RW, NULL, 0) == refused(KZ_BUFFER_TOO_SHORT, 0));
+    CHECK(kz_read_named(NULL, 0, fields) == refused(KZ_MISSPELT, 0));
     CHECK(kz_write_listing(NULL, 0, 0, out, sizeof out) == sizeof listing - 1);
     CHECK(kz_write_listing(NULL, 0, 0, NULL, 0) == refused(KZ_BUFFER_TOO_SHORT, 0));
     CHECK(kz_read_listing(NULL, 0, NULL, 0, &tally) == refused(KZ_MISSPELT, 0));
@@ -97,7 +148,7 @@ static void check_null(void) {
     CHECK(kz_check(NULL, 0, out, sizeof out) == sizeof listing - 1 + 12);
 }
 
-/* A table whose listing is as long as a listing can be. */
+/* A table whose listing is as long as a listing can be, and the longest lines. */
 static void check_longest(void) {
     static kz_cap table[KZ_MAX_ROWS];
     static uint8_t out[KZ_MAX_LISTING];
@@ -112,12 +163,16 @@ static void check_longest(void) {
     CHECK(kz_write_listing(table, KZ_MAX_ROWS, KZ_MAX_NAME, out, sizeof out) == sizeof out);
     CHECK(kz_write_event(KZ_BORROW, 4294967295u, 4294967295u, 4294967295u, KZ_RW, out,
                          KZ_MAX_LINE) == KZ_MAX_LINE);
+    CHECK(kz_write_named(KZ_BORROW, 4294967295u, 4294967295u, 4294967295u, 4294967295u, KZ_RW, out,
+                         KZ_MAX_NAMED_LINE) == KZ_MAX_NAMED_LINE);
 }
 
 int main(void) {
     check_layout();
     check_events();
+    check_named_events();
     check_text();
+    check_named_text();
     check_null();
     check_longest();
     return failures != 0;

@@ -106,6 +106,7 @@ pub fn run(lent: Lent, text: Vec<u8>) -> Box<dyn Batch> {
 fn events() -> [Event; 5] {
     [1, 2, 3, 4, 5].map(|kind| Event {
         kind,
+        written: None,
         name: 40,
         start: 4_294_901_760,
         length: 8,

@@ -92,6 +92,7 @@ fn borrowed(random: &mut Random, parent: &Cap) -> Cap {
 pub fn event_on_first_tree(kind: u8) -> Event {
     Event {
         kind,
+        written: None,
         name: 1,
         start: 0,
         length: TREE_LENGTH,

@@ -23,7 +23,8 @@ impl Kind {
         })
     }
 
-    pub const fn has_right(self) -> bool {
+    /// Whether a capability is made, with a right and a new name.
+    pub const fn makes(self) -> bool {
         matches!(self, Kind::Create | Kind::Borrow)
     }
 
@@ -40,6 +41,8 @@ impl Kind {
 #[derive(Clone, Copy, Debug, Default, PartialEq, Eq)]
 pub struct Event {
     pub kind: u8,
+    /// The name of what is made, where it is written out.
+    pub written: Option<u32>,
     pub name: u32,
     pub start: u32,
     pub length: u32,
@@ -51,10 +54,10 @@ impl Event {
         Span::new(self.start, self.length)
     }
 
-    /// The kind of an event that has a spelling: a known kind, and a known right if it has one.
-    pub(crate) fn spelt_kind(&self) -> Option<Kind> {
+    /// The kind of an event whose kind is known, and its right if it has one.
+    pub(crate) fn known_kind(&self) -> Option<Kind> {
         let kind = Kind::from_number(self.kind)?;
-        let known_right = !kind.has_right() || matches!(self.right, 1 | 2);
+        let known_right = !kind.makes() || matches!(self.right, 1 | 2);
         known_right.then_some(kind)
     }
 }
@@ -73,4 +76,5 @@ pub enum Refusal {
     NamesSpent = 9,
     TableFull = 10,
     BufferTooShort = 11,
+    Misnamed = 12,
 }

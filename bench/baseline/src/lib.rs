@@ -13,7 +13,7 @@ mod step;
 mod text;
 
 pub use event::{Event, Kind, Refusal};
-pub use lines::{read_event, write_event};
+pub use lines::{Spelling, read_event, write_event};
 pub use listing::{read_listing, write_listing};
 pub use order::{Cap, MAX_DEPTH, MAX_NAME, MAX_ROWS};
 pub use run::{check, run};

@@ -1,17 +1,30 @@
-//! Event lines.
+//! Event lines, in the two spellings.
 
 use crate::event::{Event, Kind, Refusal};
 use crate::text::{Reader, Writer};
+
+/// Whether creates and borrows are spelt with their new names.
+#[derive(Clone, Copy, Debug, PartialEq, Eq)]
+pub enum Spelling {
+    Plain,
+    Named,
+}
 
 /// Above the longest line, a borrow of four numbers of ten digits.
 const LINE_CAPACITY: usize = 64;
 
 /// Writes the event's line: its length, or the refusal.
-pub fn write_event(event: Event, out: &mut [u8]) -> Result<u32, Refusal> {
-    let kind = event.spelt_kind().ok_or(Refusal::Misspelt)?;
+pub fn write_event(event: Event, spelling: Spelling, out: &mut [u8]) -> Result<u32, Refusal> {
+    let kind = event.known_kind().ok_or(Refusal::Misspelt)?;
+    if kind.makes() && event.written.is_some() != (spelling == Spelling::Named) {
+        return Err(Refusal::Misspelt);
+    }
     let mut line = [0; LINE_CAPACITY];
     let mut writer = Writer::new(&mut line);
     writer.put(opening(kind));
+    if let (true, Some(written)) = (kind.makes(), event.written) {
+        writer.next_number(written);
+    }
     if kind.has_name() {
         writer.next_number(event.name);
     }
@@ -19,7 +32,7 @@ pub fn write_event(event: Event, out: &mut [u8]) -> Result<u32, Refusal> {
         writer.next_number(event.start);
         writer.next_number(event.length);
     }
-    if kind.has_right() {
+    if kind.makes() {
         writer.next_right(u32::from(event.right));
     }
     writer.put(b")\n");
@@ -40,9 +53,9 @@ fn opening(kind: Kind) -> &'static [u8] {
 }
 
 /// Reads exactly one line, its newline included.
-pub fn read_event(line: &[u8]) -> Result<Event, Refusal> {
+pub fn read_event(line: &[u8], spelling: Spelling) -> Result<Event, Refusal> {
     let mut reader = Reader::new(line);
-    let event = next_event(&mut reader).ok_or(Refusal::Misspelt)?;
+    let event = next_event(&mut reader, spelling).ok_or(Refusal::Misspelt)?;
     match reader.is_at_end() {
         true => Ok(event),
         false => Err(Refusal::Misspelt),
@@ -50,7 +63,7 @@ pub fn read_event(line: &[u8]) -> Result<Event, Refusal> {
 }
 
 /// Reads the next line of a text.
-pub(crate) fn next_event(reader: &mut Reader) -> Option<Event> {
+pub(crate) fn next_event(reader: &mut Reader, spelling: Spelling) -> Option<Event> {
     // The letter after the bracket tells the kinds apart.
     let kind = match reader.peek(1)? {
         b'c' => Kind::Create,
@@ -65,6 +78,9 @@ pub(crate) fn next_event(reader: &mut Reader) -> Option<Event> {
         kind: kind as u8,
         ..Event::default()
     };
+    if kind.makes() && spelling == Spelling::Named {
+        event.written = Some(reader.next_number()?);
+    }
     if kind.has_name() {
         event.name = reader.next_number()?;
     }
@@ -72,7 +88,7 @@ pub(crate) fn next_event(reader: &mut Reader) -> Option<Event> {
         event.start = reader.next_number()?;
         event.length = reader.next_number()?;
     }
-    if kind.has_right() {
+    if kind.makes() {
         event.right = reader.next_right()?;
     }
     reader.skip(b")\n")?;

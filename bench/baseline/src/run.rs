@@ -1,7 +1,7 @@
 //! Runs of lines, and what `capcheck` prints.
 
 use crate::event::Refusal;
-use crate::lines::next_event;
+use crate::lines::{Spelling, next_event};
 use crate::listing::write_after;
 use crate::order::{Cap, EMPTY, Index, MAX_ROWS};
 use crate::step::{Ordered, Tally};
@@ -9,6 +9,9 @@ use crate::text::{Reader, Writer};
 
 /// The longest input that `check` runs, in bytes.
 const MAX_INPUT: usize = 65_536;
+
+/// The first line of a trace whose creates and borrows are spelt with their new names.
+const HEADER: &[u8] = b"(trace 2)\n";
 
 /// How many lines were allowed, or the refusal and its line.
 type Answer = Result<u32, (Refusal, u32)>;
@@ -29,9 +32,12 @@ pub fn run(table: &mut [Cap], tally: &mut Tally, text: &[u8]) -> Answer {
 
 fn run_lines(mut ordered: Ordered, text: &[u8]) -> Answer {
     let mut reader = Reader::new(text);
-    let mut allowed = 0;
+    let (spelling, mut allowed) = match reader.skip(HEADER) {
+        Some(()) => (Spelling::Named, 1),
+        None => (Spelling::Plain, 0),
+    };
     while !reader.is_at_end() {
-        let outcome = match next_event(&mut reader) {
+        let outcome = match next_event(&mut reader, spelling) {
             Some(event) => ordered.step(event),
             None => Err(ordered.refuse(Refusal::Misspelt)),
         };

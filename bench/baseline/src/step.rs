@@ -63,7 +63,7 @@ impl Ordered<'_> {
 
     /// The event's kind and the row that it goes through (0 for a create), or the first refusal.
     fn judge(&self, event: Event) -> Result<(Kind, usize), Refusal> {
-        let kind = event.spelt_kind().ok_or(Refusal::Misspelt)?;
+        let kind = event.known_kind().ok_or(Refusal::Misspelt)?;
         if kind.has_span() && !event.span().is_legal() {
             return Err(Refusal::IllegalSpan);
         }
@@ -71,8 +71,8 @@ impl Ordered<'_> {
             true => self.judge_user(event, kind)?,
             false => 0,
         };
-        if kind.has_right() {
-            self.judge_room()?;
+        if kind.makes() {
+            self.judge_room(event.written)?;
         }
         Ok((kind, user))
     }
@@ -100,9 +100,13 @@ impl Ordered<'_> {
         Ok(at)
     }
 
-    fn judge_room(&self) -> Result<(), Refusal> {
+    fn judge_room(&self, written: Option<u32>) -> Result<(), Refusal> {
         if self.tally.issued == MAX_NAME {
             return Err(Refusal::NamesSpent);
+        }
+        let next = self.tally.issued + 1;
+        if written.is_some_and(|name| name != next) {
+            return Err(Refusal::Misnamed);
         }
         if self.index.live == self.table.len() {
             return Err(Refusal::TableFull);

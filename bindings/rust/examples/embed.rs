@@ -100,10 +100,12 @@ impl Simulator {
         let name = |register: usize| self.names[register];
         match operation {
             Allocate { .. } => Event::Create {
+                written: None,
                 span,
                 right: ReadWrite,
             },
             Borrow { from, right, .. } => Event::Borrow {
+                written: None,
                 parent: name(from),
                 span,
                 right,

@@ -5,7 +5,7 @@ use core::fmt;
 
 use crate::Name;
 
-/// Why something was refused. Where several reasons apply, the one with the lowest number is given.
+/// Why something was refused. Where several reasons apply, the first of these is given.
 #[derive(Clone, Copy, Debug, PartialEq, Eq, Hash)]
 #[repr(u8)]
 pub enum Refusal {
@@ -27,6 +27,8 @@ pub enum Refusal {
     TooDeep = 8,
     /// A create or borrow when [`MAX_NAME`](crate::MAX_NAME) names are issued.
     NamesSpent = 9,
+    /// A written name is not the issued number plus one.
+    Misnamed = 12,
     /// A create or borrow when no row is empty, or a listing with more capabilities than rows.
     TableFull = 10,
     /// A text is longer than the output buffer.
@@ -34,7 +36,7 @@ pub enum Refusal {
 }
 
 impl Refusal {
-    /// The refusal's number, 1 to 11.
+    /// The refusal's number, 1 to 12.
     pub const fn number(self) -> u8 {
         self as u8
     }
@@ -53,6 +55,7 @@ impl Refusal {
             9 => Refusal::NamesSpent,
             10 => Refusal::TableFull,
             11 => Refusal::BufferTooShort,
+            12 => Refusal::Misnamed,
             _ => return None,
         })
     }
@@ -68,6 +71,7 @@ impl Refusal {
             Refusal::ReadOnly => "the capability is read-only",
             Refusal::TooDeep => "borrowed too deep",
             Refusal::NamesSpent => "all names are issued",
+            Refusal::Misnamed => "the written name is not the next",
             Refusal::TableFull => "no row is empty",
             Refusal::BufferTooShort => "the output buffer is too short",
         }
@@ -124,7 +128,7 @@ pub(crate) fn split(answer: u64) -> Result<u32, (Refusal, u32)> {
     match number {
         0 => Ok(value),
         _ => Err((
-            Refusal::from_number(number).expect("refusals are numbered 1 to 11"),
+            Refusal::from_number(number).expect("refusals are numbered 1 to 12"),
             value,
         )),
     }

@@ -10,6 +10,7 @@ use crate::{ffi, Addr, Answer, Cap, Event, Name, Refusal, Right, RunAnswer, Span
 /// An event as the C interface passes it, with 0 for what its kind lacks.
 struct Fields {
     kind: u8,
+    written: u32,
     name: u32,
     start: u32,
     length: u32,
@@ -23,11 +24,12 @@ impl Fields {
             length: 0,
         };
         let (kind, name, span, right) = match event {
-            Event::Create { span, right } => (1, Name(0), span, right as u8),
+            Event::Create { span, right, .. } => (1, Name(0), span, right as u8),
             Event::Borrow {
                 parent,
                 span,
                 right,
+                ..
             } => (2, parent, span, right as u8),
             Event::Read { name, span } => (3, name, span, 0),
             Event::Write { name, span } => (4, name, span, 0),
@@ -35,6 +37,7 @@ impl Fields {
         };
         Fields {
             kind,
+            written: event.written().map_or(0, |written| written.0),
             name: name.0,
             start: span.start.0,
             length: span.length,
@@ -43,7 +46,9 @@ impl Fields {
     }
 }
 
-fn event_of([kind, name, start, length, right]: [u32; 5]) -> Option<Event> {
+/// The event of the fields that the C interface gives, with a written name or without.
+fn event_of(written: Option<Name>, fields: [u32; 5]) -> Option<Event> {
+    let [kind, name, start, length, right] = fields;
     let name = Name(name);
     let span = Span {
         start: Addr(start),
@@ -51,10 +56,12 @@ fn event_of([kind, name, start, length, right]: [u32; 5]) -> Option<Event> {
     };
     Some(match kind {
         1 => Event::Create {
+            written,
             span,
             right: Right::from_number(right)?,
         },
         2 => Event::Borrow {
+            written,
             parent: name,
             span,
             right: Right::from_number(right)?,
@@ -79,10 +86,17 @@ pub fn apply(table: &mut [Cap], tally: &mut Tally, event: Event) -> Answer {
     let e = Fields::of(event);
     let rows = table.len();
     let table = table.as_mut_ptr();
-    let answer = unsafe {
-        ffi::kz_apply(
-            table, rows, tally, e.kind, e.name, e.start, e.length, e.right,
-        )
+    let answer = match event.written() {
+        None => unsafe {
+            ffi::kz_apply(
+                table, rows, tally, e.kind, e.name, e.start, e.length, e.right,
+            )
+        },
+        Some(_) => unsafe {
+            ffi::kz_apply_named(
+                table, rows, tally, e.kind, e.written, e.name, e.start, e.length, e.right,
+            )
+        },
     };
     match value(answer) {
         Ok(0) => Answer::Allowed(None),
@@ -92,6 +106,10 @@ pub fn apply(table: &mut [Cap], tally: &mut Tally, event: Event) -> Answer {
 }
 
 /// A run of event lines on a lent table and tally, until one is refused.
+///
+/// In a text whose first line is [`NAMED_HEADER`](crate::NAMED_HEADER) the other lines are those of
+/// [`write_named`], else all lines are those of [`write_event`]. That first line is counted as a
+/// line; it is no event and raises no count. Anywhere else it is refused.
 ///
 /// The table is then as after the last allowed line. The refused line adds one to the refused
 /// count; [`Refusal::Disordered`] changes nothing.
@@ -105,12 +123,16 @@ pub fn run(table: &mut [Cap], tally: &mut Tally, text: &[u8]) -> RunAnswer {
 }
 
 /// Writes the line of an event, its newline included, to the start of the buffer, and answers its
-/// length. The bytes after it stay.
+/// length. The bytes after it stay. Such a line is at most [`MAX_LINE`](crate::MAX_LINE) bytes long.
 ///
 /// # Errors
 ///
+/// [`Refusal::Misspelt`] for an event with a written name, which has no line of this sort, else
 /// [`Refusal::BufferTooShort`], with the buffer untouched.
 pub fn write_event(event: Event, out: &mut [u8]) -> Result<usize, Refusal> {
+    if event.written().is_some() {
+        return Err(Refusal::Misspelt);
+    }
     let e = Fields::of(event);
     let size = out.len();
     let out = out.as_mut_ptr();
@@ -119,7 +141,7 @@ pub fn write_event(event: Event, out: &mut [u8]) -> Result<usize, Refusal> {
     value(answer).map(|length| length as usize)
 }
 
-/// Reads exactly one line, its newline included.
+/// Reads exactly one line of [`write_event`], its newline included.
 ///
 /// # Errors
 ///
@@ -127,7 +149,43 @@ pub fn write_event(event: Event, out: &mut [u8]) -> Result<usize, Refusal> {
 pub fn read_event(line: &[u8]) -> Result<Event, Refusal> {
     let mut fields = [0; 5];
     value(unsafe { ffi::kz_read_event(line.as_ptr(), line.len(), fields.as_mut_ptr()) })?;
-    Ok(event_of(fields).expect("a line that is read has a known kind and right"))
+    Ok(event_of(None, fields).expect("a line that is read has a known kind and right"))
+}
+
+/// Writes the line of an event with the name of what it makes after the word, its newline included,
+/// to the start of the buffer, and answers its length. The bytes after it stay. Such a line is at
+/// most [`MAX_NAMED_LINE`](crate::MAX_NAMED_LINE) bytes long.
+///
+/// # Errors
+///
+/// [`Refusal::Misspelt`] for a create or borrow without a written name, which has no line of this
+/// sort, else [`Refusal::BufferTooShort`], with the buffer untouched.
+pub fn write_named(event: Event, out: &mut [u8]) -> Result<usize, Refusal> {
+    if event.makes() && event.written().is_none() {
+        return Err(Refusal::Misspelt);
+    }
+    let e = Fields::of(event);
+    let size = out.len();
+    let out = out.as_mut_ptr();
+    let answer = unsafe {
+        ffi::kz_write_named(
+            e.kind, e.written, e.name, e.start, e.length, e.right, out, size,
+        )
+    };
+    value(answer).map(|length| length as usize)
+}
+
+/// Reads exactly one line of [`write_named`], its newline included.
+///
+/// # Errors
+///
+/// [`Refusal::Misspelt`].
+pub fn read_named(line: &[u8]) -> Result<Event, Refusal> {
+    let mut fields = [0; 6];
+    value(unsafe { ffi::kz_read_named(line.as_ptr(), line.len(), fields.as_mut_ptr()) })?;
+    let [kind, written, name, start, length, right] = fields;
+    let event = event_of(Some(Name(written)), [kind, name, start, length, right]);
+    Ok(event.expect("a line that is read has a known kind and right"))
 }
 
 /// Writes the listing of a table and its issued number to the start of the buffer, and answers its

@@ -14,6 +14,18 @@ unsafe extern "C" {
         right: u8,
     ) -> u64;
 
+    pub fn kz_apply_named(
+        table: *mut Cap,
+        rows: usize,
+        tally: *mut Tally,
+        kind: u8,
+        written: u32,
+        name: u32,
+        start: u32,
+        length: u32,
+        right: u8,
+    ) -> u64;
+
     pub fn kz_run(
         table: *mut Cap,
         rows: usize,
@@ -33,6 +45,19 @@ unsafe extern "C" {
     ) -> u64;
 
     pub fn kz_read_event(line: *const u8, line_len: usize, fields: *mut u32) -> u64;
+
+    pub fn kz_write_named(
+        kind: u8,
+        written: u32,
+        name: u32,
+        start: u32,
+        length: u32,
+        right: u8,
+        out: *mut u8,
+        out_len: usize,
+    ) -> u64;
+
+    pub fn kz_read_named(line: *const u8, line_len: usize, fields: *mut u32) -> u64;
 
     pub fn kz_write_listing(
         table: *const Cap,

@@ -12,10 +12,11 @@
 //! let mut tally = Tally::default();
 //! let span = Span { start: Addr(0), length: 64 };
 //!
-//! let create = Event::Create { span, right: Right::ReadWrite };
+//! let create = Event::Create { written: None, span, right: Right::ReadWrite };
 //! assert_eq!(apply(&mut table, &mut tally, create), Answer::Allowed(Some(Name(1))));
 //!
-//! let borrow = Event::Borrow { parent: Name(1), span, right: Right::ReadWrite };
+//! let right = Right::ReadWrite;
+//! let borrow = Event::Borrow { written: None, parent: Name(1), span, right };
 //! assert_eq!(apply(&mut table, &mut tally, borrow), Answer::Allowed(Some(Name(2))));
 //!
 //! // A write through the parent ends the borrow.
@@ -23,6 +24,18 @@
 //! assert_eq!(apply(&mut table, &mut tally, write), Answer::Allowed(None));
 //! let read = Event::Read { name: Name(2), span };
 //! assert_eq!(apply(&mut table, &mut tally, read), Answer::Refused(Refusal::Ended));
+//! ```
+//!
+//! A log may write out the name of what each create and borrow makes, and is then checked for it:
+//!
+//! ```
+//! use kelzoud::{run, Cap, Refusal, RunAnswer, Tally};
+//!
+//! let mut table = [Cap::EMPTY; 16];
+//! let mut tally = Tally::default();
+//! let text = b"(trace 2)\n(create 1 0 64 rw)\n(borrow 3 1 0 8 rw)\n";
+//! let answer = run(&mut table, &mut tally, text);
+//! assert_eq!(answer, RunAnswer::Refused { refusal: Refusal::Misnamed, line: 3 });
 //! ```
 //!
 //! The calls are those of the C library `libkelzoud.a`, which the build script links from the
@@ -37,7 +50,10 @@ mod ffi;
 mod values;
 
 pub use answers::{Answer, Refusal, RunAnswer};
-pub use calls::{apply, check, read_event, read_listing, run, write_event, write_listing};
+pub use calls::{
+    apply, check, read_event, read_listing, read_named, run, write_event, write_listing,
+    write_named,
+};
 pub use values::{Addr, Cap, Event, Name, Right, Span, Tally};
 
 /// The most rows of a table.
@@ -52,8 +68,14 @@ pub const MAX_DEPTH: u32 = 64;
 /// The most bytes of input that [`check`] runs.
 pub const MAX_INPUT: usize = 65_536;
 
-/// The most bytes of an event line, its newline included.
+/// The most bytes of a line of [`write_event`], its newline included.
 pub const MAX_LINE: usize = 45;
+
+/// The most bytes of a line of [`write_named`], its newline included.
+pub const MAX_NAMED_LINE: usize = 56;
+
+/// The first line of a text in which new names are written out.
+pub const NAMED_HEADER: &[u8] = b"(trace 2)\n";
 
 /// The most bytes of a listing.
 pub const MAX_LISTING: usize = 34_834;

@@ -39,10 +39,16 @@ impl Right {
 }
 
 /// An event. Names and spans may be any; those that are wrong are refused.
+///
+/// A log may write out the name of what a create or borrow makes. A written name that is not the one
+/// that is given out next, the issued number plus one, is refused
+/// [`Misnamed`](crate::Refusal::Misnamed).
 #[derive(Clone, Copy, Debug, PartialEq, Eq, Hash)]
 pub enum Event {
     /// Makes a new root.
     Create {
+        /// The root's name, where it is written out.
+        written: Option<Name>,
         /// The root's span.
         span: Span,
         /// The root's right.
@@ -50,6 +56,8 @@ pub enum Event {
     },
     /// Makes a new capability under a live one.
     Borrow {
+        /// The new capability's name, where it is written out.
+        written: Option<Name>,
         /// The capability borrowed from.
         parent: Name,
         /// The new capability's span, inside its parent's.
@@ -77,6 +85,21 @@ pub enum Event {
         /// The capability.
         name: Name,
     },
+}
+
+impl Event {
+    /// Whether the event makes a capability, and so a name.
+    pub const fn makes(self) -> bool {
+        matches!(self, Event::Create { .. } | Event::Borrow { .. })
+    }
+
+    /// The name of what the event makes, where it is written out.
+    pub const fn written(self) -> Option<Name> {
+        match self {
+            Event::Create { written, .. } | Event::Borrow { written, .. } => written,
+            _ => None,
+        }
+    }
 }
 
 /// A row of a table.

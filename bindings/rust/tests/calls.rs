@@ -1,8 +1,9 @@
 //! Each call of the safe interface, with its answers turned into enums.
 
 use kelzoud::{
-    apply, check, read_event, read_listing, run, write_event, write_listing, Addr, Answer, Cap,
-    Event, Name, Refusal, Right, RunAnswer, Span, Tally, MAX_CHECK, MAX_ROWS,
+    apply, check, read_event, read_listing, read_named, run, write_event, write_listing,
+    write_named, Addr, Answer, Cap, Event, Name, Refusal, Right, RunAnswer, Span, Tally, MAX_CHECK,
+    MAX_LINE, MAX_NAMED_LINE, MAX_ROWS, NAMED_HEADER,
 };
 
 fn span(start: u32, length: u32) -> Span {
@@ -12,41 +13,108 @@ fn span(start: u32, length: u32) -> Span {
     }
 }
 
-/// One event of each kind and its line.
-fn spellings() -> [(Event, &'static str); 5] {
+/// One event of each kind, its line, and its line with the name 40 written out.
+fn spellings() -> [(Event, &'static str, &'static str); 5] {
     let name = Name(7);
     let wide = span(0, 64);
-    let right = Right::ReadWrite;
-    let lowered = Right::ReadOnly;
+    let create = Event::Create {
+        written: None,
+        span: wide,
+        right: Right::ReadWrite,
+    };
+    let borrow = Event::Borrow {
+        written: None,
+        parent: name,
+        span: span(8, 4),
+        right: Right::ReadOnly,
+    };
+    let read = Event::Read { name, span: wide };
+    let write = Event::Write { name, span: wide };
+    let drop = Event::Drop { name };
     [
-        (Event::Create { span: wide, right }, "(create 0 64 rw)\n"),
-        (
-            Event::Borrow {
-                parent: name,
-                span: span(8, 4),
-                right: lowered,
-            },
-            "(borrow 7 8 4 ro)\n",
-        ),
-        (Event::Read { name, span: wide }, "(read 7 0 64)\n"),
-        (Event::Write { name, span: wide }, "(write 7 0 64)\n"),
-        (Event::Drop { name }, "(drop 7)\n"),
+        (create, "(create 0 64 rw)\n", "(create 40 0 64 rw)\n"),
+        (borrow, "(borrow 7 8 4 ro)\n", "(borrow 40 7 8 4 ro)\n"),
+        (read, "(read 7 0 64)\n", "(read 7 0 64)\n"),
+        (write, "(write 7 0 64)\n", "(write 7 0 64)\n"),
+        (drop, "(drop 7)\n", "(drop 7)\n"),
     ]
+}
+
+/// The same event with a name written out, where it makes one.
+fn with_name(event: Event, name: u32) -> Event {
+    let written = Some(Name(name));
+    match event {
+        Event::Create { span, right, .. } => Event::Create {
+            written,
+            span,
+            right,
+        },
+        Event::Borrow {
+            parent,
+            span,
+            right,
+            ..
+        } => Event::Borrow {
+            written,
+            parent,
+            span,
+            right,
+        },
+        other => other,
+    }
+}
+
+/// What writes a line, and what reads it.
+type Writer = fn(Event, &mut [u8]) -> Result<usize, Refusal>;
+type Reader = fn(&[u8]) -> Result<Event, Refusal>;
+
+fn check_line(event: Event, line: &str, write: Writer, read: Reader) {
+    let mut out = [b'?'; 64];
+    assert_eq!(write(event, &mut out), Ok(line.len()));
+    assert_eq!(&out[..line.len()], line.as_bytes());
+    assert_eq!(out[line.len()], b'?');
+    assert_eq!(read(line.as_bytes()), Ok(event));
+    let short = &mut out[..line.len() - 1];
+    assert_eq!(write(event, short), Err(Refusal::BufferTooShort));
 }
 
 #[test]
 fn events_are_written_and_read() {
-    for (event, line) in spellings() {
-        let mut out = [b'?'; 64];
-        assert_eq!(write_event(event, &mut out), Ok(line.len()));
-        assert_eq!(&out[..line.len()], line.as_bytes());
-        assert_eq!(out[line.len()], b'?');
-        assert_eq!(read_event(line.as_bytes()), Ok(event));
-        let short = &mut out[..line.len() - 1];
-        assert_eq!(write_event(event, short), Err(Refusal::BufferTooShort));
+    for (event, line, _) in spellings() {
+        check_line(event, line, write_event, read_event);
     }
     assert_eq!(read_event(b"(read 01 0 8)\n"), Err(Refusal::Misspelt));
     assert_eq!(read_event(b""), Err(Refusal::Misspelt));
+}
+
+#[test]
+fn names_are_written_and_read() {
+    for (event, line, named_line) in spellings() {
+        let named = with_name(event, 40);
+        check_line(named, named_line, write_named, read_named);
+        if event.makes() {
+            // Neither spelling has a line for an event of the other, and no line is in both.
+            assert_eq!(write_event(named, &mut []), Err(Refusal::Misspelt));
+            assert_eq!(write_named(event, &mut []), Err(Refusal::Misspelt));
+            assert_eq!(read_event(named_line.as_bytes()), Err(Refusal::Misspelt));
+            assert_eq!(read_named(line.as_bytes()), Err(Refusal::Misspelt));
+        }
+    }
+    assert_eq!(read_named(NAMED_HEADER), Err(Refusal::Misspelt));
+}
+
+#[test]
+fn lines_have_their_longest_lengths() {
+    let borrow = Event::Borrow {
+        written: None,
+        parent: Name(u32::MAX),
+        span: span(u32::MAX, u32::MAX),
+        right: Right::ReadWrite,
+    };
+    let mut out = [0; 64];
+    assert_eq!(write_event(borrow, &mut out), Ok(MAX_LINE));
+    let named = with_name(borrow, u32::MAX);
+    assert_eq!(write_named(named, &mut out), Ok(MAX_NAMED_LINE));
 }
 
 #[test]
@@ -56,8 +124,13 @@ fn events_change_the_table() {
     let mut take = |event| apply(&mut table, &mut tally, event);
     let right = Right::ReadWrite;
     let whole = span(0, 8);
-    let root = Event::Create { span: whole, right };
+    let root = Event::Create {
+        written: None,
+        span: whole,
+        right,
+    };
     let borrow = Event::Borrow {
+        written: None,
         parent: Name(1),
         span: whole,
         right,
@@ -73,6 +146,27 @@ fn events_change_the_table() {
 }
 
 #[test]
+fn written_names_are_judged() {
+    let mut table = [Cap::EMPTY; 2];
+    let mut tally = Tally::default();
+    let mut take = |event| apply(&mut table, &mut tally, event);
+    let root = Event::Create {
+        written: None,
+        span: span(0, 8),
+        right: Right::ReadWrite,
+    };
+    let misnamed = Answer::Refused(Refusal::Misnamed);
+    assert_eq!(take(with_name(root, 0)), misnamed);
+    assert_eq!(take(with_name(root, 2)), misnamed);
+    assert_eq!(take(with_name(root, 1)), Answer::Allowed(Some(Name(1))));
+    assert_eq!(take(root), Answer::Allowed(Some(Name(2))));
+    assert_eq!(take(with_name(root, 2)), misnamed);
+    let full = Answer::Refused(Refusal::TableFull);
+    assert_eq!(take(with_name(root, 3)), full);
+    assert_eq!((tally.issued, tally.creates, tally.refused), (2, 2, 4));
+}
+
+#[test]
 fn runs_stop_at_a_refusal() {
     let mut table = vec![Cap::EMPTY; 4];
     let mut tally = Tally::default();
@@ -81,6 +175,12 @@ fn runs_stop_at_a_refusal() {
     let answer = run(&mut table, &mut tally, b"(create 0 8 ro)\n(write 2 0 8)\n");
     let refusal = Refusal::ReadOnly;
     assert_eq!(answer, RunAnswer::Refused { refusal, line: 2 });
+    let named = b"(trace 2)\n(create 3 0 8 rw)\n(create 5 0 8 rw)\n";
+    let answer = run(&mut table, &mut tally, named);
+    let refusal = Refusal::Misnamed;
+    assert_eq!(answer, RunAnswer::Refused { refusal, line: 3 });
+    let answer = run(&mut table, &mut tally, NAMED_HEADER);
+    assert_eq!(answer, RunAnswer::Allowed { lines: 1 });
     table[3].name = 1;
     let refusal = Refusal::Disordered;
     let answer = run(&mut table, &mut tally, b"");
@@ -125,12 +225,12 @@ fn capcheck_prints_the_verdict_and_the_listing() {
 
 #[test]
 fn refusals_have_their_numbers() {
-    for number in 1..=11 {
+    for number in 1..=12 {
         let refusal = Refusal::from_number(number).unwrap();
         assert_eq!(u32::from(refusal.number()), number);
     }
     assert_eq!(Refusal::from_number(0), None);
-    assert_eq!(Refusal::from_number(12), None);
+    assert_eq!(Refusal::from_number(13), None);
     assert_eq!(
         Refusal::Ended.to_string(),
         "refusal 5, the capability has ended"

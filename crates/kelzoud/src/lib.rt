@@ -6,7 +6,9 @@ use crate::answers::packed_listing;
 use crate::answers::packed_run;
 use crate::answers::packed_written;
 use crate::events::event_of;
+use crate::events::named_event_of;
 use crate::events::put_fields;
+use crate::events::put_named_fields;
 use listing::records::read_listing;
 use listing::records::write_listing;
 use model::Cap;
@@ -14,19 +16,22 @@ use model::Tally;
 use rules::records::apply;
 use text::read::EventRead;
 use text::read::read_event;
+use text::spelling::Spelling;
 use text::write::write_event;
 use trace::check;
 use trace::records::run;
 ghost use mathlib.Core.Path.{_≡_};
 ghost use mathlib.Core.Bool.{true};
-ghost use Rattle.kelzoud.specs.Interface.{packedVerdict, packedResult, packedRead, packedRan, fieldsAfter, eventOf};
+ghost use Rattle.kelzoud.specs.Interface.{packedVerdict, packedResult, packedRead, packedRan, fieldsOf, namedFieldsOf, fieldsAfter, eventOf, namedEventOf};
 ghost use Rattle.listing.specs.ReadInto.{answerInto, stateInto};
 ghost use Rattle.listing.specs.WriteListing.{listingWritten, listingStored};
 ghost use Rattle.model.specs.Step;
 ghost use Rattle.rules.specs.Steps.{lends};
 ghost use Rattle.text.specs.Event.{spell, hasSpelling};
 ghost use Rattle.text.specs.Read.{readEvent};
-ghost use Rattle.text.specs.Write.{written, stored};
+ghost use Rattle.text.specs.Write;
+ghost use Rattle.text.specs.Write.{stored};
+ghost use Rattle.text.specs.declared.spelling.Spelling.the-variants.{Plain, Named};
 ghost use Rattle.trace.specs.Check.{checkText};
 ghost use Rattle.trace.specs.Run;
 
@@ -63,24 +68,80 @@ pub extern "C" fn kz_write_event(
     right: u8,
     out: &mut [u8],
 ) -> u64
-    ensures { λ r. ⌜ (r ≡ packedResult (written (hasSpelling (eventOf kind name start length right)) (spell (eventOf kind name start length right)) (now (out .entry))))
-        × (now (out .exit) ≡ stored (hasSpelling (eventOf kind name start length right)) (spell (eventOf kind name start length right)) (now (out .entry))) ⌝ }
+    ensures { λ r. ⌜ (r ≡ packedResult (Write.written (hasSpelling Plain (eventOf kind name start length right)) (spell (eventOf kind name start length right)) (now (out .entry))))
+        × (now (out .exit) ≡ stored (hasSpelling Plain (eventOf kind name start length right)) (spell (eventOf kind name start length right)) (now (out .entry))) ⌝ }
 {
     let event = event_of(kind, name, start, length, right);
-    let answer = write_event(event, out);
+    let answer = write_event(Spelling::Plain, event, out);
     packed_written(answer)
 }
 
 // Reads a line: an event's kind, name, start, length and right.
 #[no_mangle]
 pub extern "C" fn kz_read_event(line: &[u8], fields: &mut [u32; 5]) -> u64
-    ensures { λ r. ⌜ (r ≡ packedRead (readEvent (now (line .entry))))
-        × (now (fields .exit) ≡ fieldsAfter (readEvent (now (line .entry))) (now (fields .entry))) ⌝ }
+    ensures { λ r. ⌜ (r ≡ packedRead (readEvent Plain (now (line .entry))))
+        × (now (fields .exit) ≡ fieldsAfter fieldsOf (readEvent Plain (now (line .entry))) (now (fields .entry))) ⌝ }
 {
-    let answer = read_event(line);
+    let answer = read_event(Spelling::Plain, line);
     match answer {
         EventRead::Event(event) => {
             put_fields(fields, event);
+            pack(0, 0)
+        }
+        EventRead::Refused(refusal) => pack_refusal(refusal, 0),
+    }
+}
+
+// One event that writes its new name, if it is a create or a borrow.
+#[no_mangle]
+pub extern "C" fn kz_apply_named(
+    table: &mut [Cap],
+    tally: &mut Tally,
+    kind: u8,
+    written: u32,
+    name: u32,
+    start: u32,
+    length: u32,
+    right: u8,
+) -> u64
+    ensures { λ r. ⌜ (now (table .exit) ≡ Step.after (lends (now (table .entry)) (now (tally .entry))) (namedEventOf kind written name start length right) .table)
+        × (now (tally .exit) ≡ Step.after (lends (now (table .entry)) (now (tally .entry))) (namedEventOf kind written name start length right) .tally)
+        × (r ≡ packedVerdict (Step.answer (lends (now (table .entry)) (now (tally .entry))) (namedEventOf kind written name start length right))) ⌝ }
+{
+    let event = named_event_of(kind, written, name, start, length, right);
+    let answer = apply(table, tally, event);
+    packed_answer(answer)
+}
+
+// Writes the spelling of an event in a trace that begins with `(trace 2)`.
+#[no_mangle]
+pub extern "C" fn kz_write_named(
+    kind: u8,
+    written: u32,
+    name: u32,
+    start: u32,
+    length: u32,
+    right: u8,
+    out: &mut [u8],
+) -> u64
+    ensures { λ r. ⌜ (r ≡ packedResult (Write.written (hasSpelling Named (namedEventOf kind written name start length right)) (spell (namedEventOf kind written name start length right)) (now (out .entry))))
+        × (now (out .exit) ≡ stored (hasSpelling Named (namedEventOf kind written name start length right)) (spell (namedEventOf kind written name start length right)) (now (out .entry))) ⌝ }
+{
+    let event = named_event_of(kind, written, name, start, length, right);
+    let answer = write_event(Spelling::Named, event, out);
+    packed_written(answer)
+}
+
+// Reads a line of a trace that begins with `(trace 2)`: an event's kind, written name, name, start, length and right.
+#[no_mangle]
+pub extern "C" fn kz_read_named(line: &[u8], fields: &mut [u32; 6]) -> u64
+    ensures { λ r. ⌜ (r ≡ packedRead (readEvent Named (now (line .entry))))
+        × (now (fields .exit) ≡ fieldsAfter namedFieldsOf (readEvent Named (now (line .entry))) (now (fields .entry))) ⌝ }
+{
+    let answer = read_event(Spelling::Named, line);
+    match answer {
+        EventRead::Event(event) => {
+            put_named_fields(fields, event);
             pack(0, 0)
         }
         EventRead::Refused(refusal) => pack_refusal(refusal, 0),
@@ -122,7 +183,7 @@ pub extern "C" fn kz_read_listing(text: &[u8], table: &mut [Cap], tally: &mut Ta
 // Writes what `capcheck` prints of an input.
 #[no_mangle]
 pub extern "C" fn kz_check(input: &[u8], out: &mut [u8]) -> u64
-    ensures { λ r. ⌜ (r ≡ packedResult (written true (checkText (now (input .entry))) (now (out .entry))))
+    ensures { λ r. ⌜ (r ≡ packedResult (Write.written true (checkText (now (input .entry))) (now (out .entry))))
         × (now (out .exit) ≡ stored true (checkText (now (input .entry))) (now (out .entry))) ⌝ }
 {
     let answer = check(input, out);

@@ -147,8 +147,8 @@ module _ (n : ℕ) (l : leb n 1024 ≡ false) where
   refused-all e = go (rw (sub-zero n, length-replicate n emptyRow, l)) e
     where
       go : disordered (table n []) 0 ≡ true → (e : Event) → judge (table n []) 0 e ≡ 1
-      go d (Create s r) = rw d
-      go d (Borrow u s r) = rw d
+      go d (Create w s r) = rw d
+      go d (Borrow w u s r) = rw d
       go d (Read u s) = rw d
       go d (Write u s) = rw d
       go d (Drop u) = rw d

@@ -17,8 +17,8 @@ use Rattle.model.proofs.Lost.{never-lives-again, never-rw-again}
 
 noted : (i : ℕ) (e : Event) → newName i e ≡ notedName (noteOf i e)
 unfolding noteOf notedName
-noted i (Create s r) = refl
-noted i (Borrow u s r) = refl
+noted i (Create w s r) = refl
+noted i (Borrow w u s r) = refl
 noted i (Read u s) = refl
 noted i (Write u s) = refl
 noted i (Drop u) = refl

@@ -19,8 +19,8 @@ use Rattle.model.proofs.Lists.{listed, first-none, length-filter}
 
 pub numbered : (t : List Cap) (i : ℕ) (e : Event) → all (λ c. ltb 0 (c .0)) (refusals t i e) ≡ true
 unfolding refusals
-numbered t i (Create s r) = refl
-numbered t i (Borrow u s r) = refl
+numbered t i (Create w s r) = refl
+numbered t i (Borrow w u s r) = refl
 numbered t i (Read u s) = refl
 numbered t i (Write u s) = refl
 numbered t i (Drop u) = refl
@@ -40,8 +40,8 @@ revoke-fits ends lowers rows n h = rw length-map (omega (arith, length-filter (�
 
 pub next-fits : (t : List Cap) (i : ℕ) (e : Event) → judge t i e ≡ 0 → length (rowsAfter i (liveRows t) e) ≤ length t
 unfolding rowsAfter afterAccess refusals
-next-fits t i (Create s r) h = leb-false (length t) (length (liveRows t)) (allowed t i (Create s r) h 10)
-next-fits t i (Borrow u s r) h = leb-false (length t) (length (liveRows t)) (allowed t i (Borrow u s r) h 10)
+next-fits t i (Create w s r) h = leb-false (length t) (length (liveRows t)) (allowed t i (Create w s r) h 10)
+next-fits t i (Borrow w u s r) h = leb-false (length t) (length (liveRows t)) (allowed t i (Borrow w u s r) h 10)
 next-fits t i (Read u s) h = revoke-fits _ _ (liveRows t) (length t) (length-live t)
 next-fits t i (Write u s) h = revoke-fits _ _ (liveRows t) (length t) (length-live t)
 next-fits t i (Drop u) h = revoke-fits _ _ (liveRows t) (length t) (length-live t)

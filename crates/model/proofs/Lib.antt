@@ -6,6 +6,7 @@ pub mod Notes
 pub mod Agree
 pub mod Lent
 pub mod Judged
+pub mod Named
 pub mod Precedence
 pub mod Frame
 pub mod Counted

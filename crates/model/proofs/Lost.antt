@@ -32,8 +32,8 @@ module _ (n : ℕ) where
   kept-final (e ∷ es) H k = kept-final es (after n H e) (kept-after H e k)
 
   count-raised : (i : ℕ) (e : Event) → i ≤ issuedAfter i e
-  count-raised i (Create s r) = omega arith
-  count-raised i (Borrow u s r) = omega arith
+  count-raised i (Create w s r) = omega arith
+  count-raised i (Borrow w u s r) = omega arith
   count-raised i (Read u s) = omega arith
   count-raised i (Write u s) = omega arith
   count-raised i (Drop u) = omega arith
@@ -53,8 +53,8 @@ module _ (n : ℕ) where
 -- a name given out is below the floor of each later note
 floor-next : (i : ℕ) (e : Event) {x : ℕ} → x < suc i → x < floor (suc (issuedAfter i e)) (noteOf i e)
 unfolding noteOf
-floor-next i (Create s r) l = l
-floor-next i (Borrow u s r) l = l
+floor-next i (Create w s r) l = l
+floor-next i (Borrow w u s r) l = l
 floor-next i (Read u s) l = l
 floor-next i (Write u s) l = l
 floor-next i (Drop u) l = l

@@ -79,16 +79,16 @@ module _ (n i : ℕ) (notes : List Note) (k : Kept n i notes) where
 
   sound-next : (e : Event) → judge (table n notes) i e ≡ 0 → Sound (suc (issuedAfter i e)) (noteOf i e ∷ notes)
   unfolding refusals noteOf
-  sound-next (Create s r) h = (omega arith, omega arith, k .sound)
-  sound-next (Borrow u s r) h = (omega arith, user-given (u .0) (allowed (table n notes) i (Borrow u s r) h 4), k .sound)
+  sound-next (Create w s r) h = (omega arith, omega arith, k .sound)
+  sound-next (Borrow w u s r) h = (omega arith, user-given (u .0) (allowed (table n notes) i (Borrow w u s r) h 4), k .sound)
   sound-next (Read u s) h = (tt, user-given (u .0) (allowed (table n notes) i (Read u s) h 4), k .sound)
   sound-next (Write u s) h = (tt, user-given (u .0) (allowed (table n notes) i (Write u s) h 4), k .sound)
   sound-next (Drop u) h = (tt, user-given (u .0) (allowed (table n notes) i (Drop u) h 4), k .sound)
 
   through-next : (e : Event) → judge (table n notes) i e ≡ 0 → Through notes (noteOf i e)
   unfolding refusals noteOf
-  through-next (Create s r) h = refl
-  through-next (Borrow u s r) h = rw (user-lives (u .0) (allowed (table n notes) i (Borrow u s r) h 5)) (or-true (eqb (u .0) 0))
+  through-next (Create w s r) h = refl
+  through-next (Borrow w u s r) h = rw (user-lives (u .0) (allowed (table n notes) i (Borrow w u s r) h 5)) (or-true (eqb (u .0) 0))
   through-next (Read u s) h = rw (user-lives (u .0) (allowed (table n notes) i (Read u s) h 5)) (or-true (eqb (u .0) 0))
   through-next (Write u s) h = rw (user-lives (u .0) (allowed (table n notes) i (Write u s) h 5)) (or-true (eqb (u .0) 0))
   through-next (Drop u) h = rw (user-lives (u .0) (allowed (table n notes) i (Drop u) h 5)) (or-true (eqb (u .0) 0))
@@ -108,14 +108,14 @@ module _ (n i : ℕ) (notes : List Note) (k : Kept n i notes) where
     where
       go : (e : Event) → judge (table n notes) i e ≡ 0
           → map (rowOf (noteOf i e ∷ notes)) (derivedBy (noteOf i e)) ++ revokedBy (Table.derivations (rows notes)) (noteOf i e) (rows notes) ≡ rowsAfter i (rows notes) e
-      go (Create s r) h =
+      go (Create w s r) h =
           ap₂ {C = List Cap} (λ c l. c ∷ l)
-          (new-row (root i s) r 0 (sound-next (Create s r) h) (not-false (isRight r) (allowed (table n notes) i (Create s r) h 2)) (rw (ancestry-zero (suc i) (derivations notes) (falling (suc i) notes (k .sound)))))
+          (new-row (root i s) r 0 (sound-next (Create w s r) h) (not-false (isRight r) (allowed (table n notes) i (Create w s r) h 2)) (rw (ancestry-zero (suc i) (derivations notes) (falling (suc i) notes (k .sound)))))
           (map-id _ ∙ all-left (rows notes))
-      go (Borrow u s r) h =
-          let p = allowed (table n notes) i (Borrow u s r) h in
+      go (Borrow w u s r) h =
+          let p = allowed (table n notes) i (Borrow w u s r) h in
           ap₂ {C = List Cap} (λ c l. c ∷ l)
-          (new-row (child i u s) r (lookup (u .0) (rows notes) .depth) (sound-next (Borrow u s r) h) (not-false (isRight r) (p 2)) (depth-found (u .0) (not-false _ (p 5))))
+          (new-row (child i u s) r (lookup (u .0) (rows notes) .depth) (sound-next (Borrow w u s r) h) (not-false (isRight r) (p 2)) (depth-found (u .0) (not-false _ (p 5))))
           (map-id _ ∙ all-left (rows notes))
       go (Read u s) h = refl
       go (Write u s) h = refl
@@ -138,8 +138,8 @@ pub record Match (n : ℕ) (h : State) (H : History.History) : Type 0 where
   pub kept : Kept n (H .count) (H .notes)
 
 pub counted-issued : (e : Event) (t : Tally) → Counts.countAllowed e t .issued ≡ issuedAfter (t .issued) e
-counted-issued (Create s r) t = refl
-counted-issued (Borrow u s r) t = refl
+counted-issued (Create w s r) t = refl
+counted-issued (Borrow w u s r) t = refl
 counted-issued (Read u s) t = refl
 counted-issued (Write u s) t = refl
 counted-issued (Drop u) t = refl

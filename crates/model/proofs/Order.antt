@@ -13,6 +13,7 @@ use Rattle.model.specs.declared.Name.{Name}
 use Rattle.model.specs.declared.Span.{Span}
 use Rattle.model.specs.declared.Cap.{Cap}
 use Rattle.model.specs.declared.Tally.{Tally}
+use Rattle.model.specs.declared.NewName.{NewName}
 use Rattle.model.specs.declared.Event.{Event}
 use Rattle.model.specs.declared.Event.the-variants.{Create, Borrow, Read, Write, Drop}
 use Rattle.model.specs.Lists.{consIf, filter, any, all, final}
@@ -277,30 +278,30 @@ ordered t i h =
 module _ (t : List Cap) (i : ℕ) (o : Ordered t i) where
   next-named : (e : Event) → Named (rowsAfter i (liveRows t) e)
   unfolding rowsAfter afterAccess
-  next-named (Create s r) = (ne-eqb 0 (suc i) (λ (q : 0 ≡ suc i). omega arith), live-named t)
-  next-named (Borrow u s r) = (ne-eqb 0 (suc i) (λ (q : 0 ≡ suc i). omega arith), live-named t)
+  next-named (Create w s r) = (ne-eqb 0 (suc i) (λ (q : 0 ≡ suc i). omega arith), live-named t)
+  next-named (Borrow w u s r) = (ne-eqb 0 (suc i) (λ (q : 0 ≡ suc i). omega arith), live-named t)
   next-named (Read u s) = revoke-named _ _ (liveRows t) (live-named t)
   next-named (Write u s) = revoke-named _ _ (liveRows t) (live-named t)
   next-named (Drop u) = revoke-named _ _ (liveRows t) (live-named t)
 
   names-enough : (e : Event) → judge t i e ≡ 0 → leb (issuedAfter i e) 1000000 ≡ true
   unfolding refusals
-  names-enough (Create s r) h = le-leb (suc i) 1000000 (leb-false 1000000 i (allowed t i (Create s r) h 9))
-  names-enough (Borrow u s r) h = le-leb (suc i) 1000000 (leb-false 1000000 i (allowed t i (Borrow u s r) h 9))
+  names-enough (Create w s r) h = le-leb (suc i) 1000000 (leb-false 1000000 i (allowed t i (Create w s r) h 9))
+  names-enough (Borrow w u s r) h = le-leb (suc i) 1000000 (leb-false 1000000 i (allowed t i (Borrow w u s r) h 9))
   names-enough (Read u s) h = o .names-left
   names-enough (Write u s) h = o .names-left
   names-enough (Drop u) h = o .names-left
 
-  rowInOrder-root : (s : Span) (r : ℕ) → judge t i (Create s r) ≡ 0 → rowInOrder (row (root i s) r 1) (liveRows t) ≡ true
+  rowInOrder-root : (w : NewName) (s : Span) (r : ℕ) → judge t i (Create w s r) ≡ 0 → rowInOrder (row (root i s) r 1) (liveRows t) ≡ true
   unfolding rowInOrder parentInOrder refusals
-  rowInOrder-root s r h =
-      let p = allowed t i (Create s r) h in
+  rowInOrder-root w s r h =
+      let p = allowed t i (Create w s r) h in
       rw (not-false (legal s) (p 3), not-false (isRight r) (p 2))
 
-  rowInOrder-child : (u : Name) (s : Span) (r : ℕ) → judge t i (Borrow u s r) ≡ 0 → rowInOrder (row (child i u s) r (suc (lookup (u .0) (liveRows t) .depth))) (liveRows t) ≡ true
+  rowInOrder-child : (w : NewName) (u : Name) (s : Span) (r : ℕ) → judge t i (Borrow w u s r) ≡ 0 → rowInOrder (row (child i u s) r (suc (lookup (u .0) (liveRows t) .depth))) (liveRows t) ≡ true
   unfolding rowInOrder parentInOrder rowFitsParent refusals
-  rowInOrder-child u s r h =
-      let p = allowed t i (Borrow u s r) h in
+  rowInOrder-child w u s r h =
+      let p = allowed t i (Borrow w u s r) h in
       let c : Cap = lookup (u .0) (liveRows t) in
       rw (
         not-false (legal s) (p 3),
@@ -321,9 +322,9 @@ module _ (t : List Cap) (i : ℕ) (o : Ordered t i) where
 
   next-rowsInOrder : (e : Event) → judge t i e ≡ 0 → rowsInOrder (suc (issuedAfter i e)) (rowsAfter i (liveRows t) e) ≡ true
   unfolding rowsAfter refusals
-  next-rowsInOrder (Create s r) h = risen (suc (suc i)) (row (root i s) r 1) (liveRows t) (record { below-bound = omega arith; in-place = rowInOrder-root s r h; rest = o .rise })
-  next-rowsInOrder (Borrow u s r) h =
-      risen (suc (suc i)) (row (child i u s) r (suc (lookup (u .0) (liveRows t) .depth))) (liveRows t) (record { below-bound = omega arith; in-place = rowInOrder-child u s r h; rest = o .rise })
+  next-rowsInOrder (Create w s r) h = risen (suc (suc i)) (row (root i s) r 1) (liveRows t) (record { below-bound = omega arith; in-place = rowInOrder-root w s r h; rest = o .rise })
+  next-rowsInOrder (Borrow w u s r) h =
+      risen (suc (suc i)) (row (child i u s) r (suc (lookup (u .0) (liveRows t) .depth))) (liveRows t) (record { below-bound = omega arith; in-place = rowInOrder-child w u s r h; rest = o .rise })
   next-rowsInOrder (Read u s) h = used-rowsInOrder Reading (u .0) s
   next-rowsInOrder (Write u s) h = used-rowsInOrder Writing (u .0) s
   next-rowsInOrder (Drop u) h = revoke-rowsInOrder _ _ (suc i) (liveRows t) (below-spreads (suc i) (liveRows t) (live-named t) (o .rise) (u .0)) (All-of _ (λ c e. e) (liveRows t)) (o .rise)

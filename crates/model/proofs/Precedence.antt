@@ -1,6 +1,6 @@
--- The number given is the lowest that applies: its condition holds, and none listed under a lower number does.
+-- The number given is the first in order of precedence that applies: its condition holds, and none that comes before it does.
 -- Assumes nothing.
-use mathlib.Core.Path.{_≡_, refl, sym, _∙_}
+use mathlib.Core.Path.{_≡_, refl, sym, ap}
 use mathlib.Core.Logic.{_⊎_, inl, inr}
 use mathlib.Core.Bool.{Bool, true, false, cond, _&&_}
 use mathlib.Core.List.{List, [], _∷_}
@@ -12,49 +12,55 @@ use Rattle.model.specs.declared.Cap.{Cap}
 use Rattle.model.specs.declared.Event.{Event}
 use Rattle.model.specs.declared.Event.the-variants.{Create, Borrow, Read, Write, Drop}
 use Rattle.model.specs.Lists.{first}
-use Rattle.model.specs.Refusals.{refusals, judge}
+use Rattle.model.specs.Refusals.{place, refusals, judge}
 use Rattle.model.proofs.Lists.{listed, test, clash, and-both}
 
--- ---- checks whose numbers rise, from above a bound
+-- ---- checks whose places rise, from above a bound
 
 abbrev risesFrom : ℕ → List (ℕ × Bool) → Bool
 risesFrom bound [] = true
-risesFrom bound (c ∷ cs) = ltb bound (c .0) && risesFrom (c .0) cs
+risesFrom bound (c ∷ cs) = ltb bound (place (c .0)) && risesFrom (place (c .0)) cs
 
--- no condition is listed at or below the bound
-listed-above : (cs : List (ℕ × Bool)) (bound j : ℕ) → risesFrom bound cs ≡ true → j ≤ bound → listed j cs ≡ false
+apart : (i j : ℕ) → i ≡ j → i < j → ⊥
+apart i j e l = omega arith
+
+-- no condition is listed at or before the bound
+listed-above : (cs : List (ℕ × Bool)) (bound j : ℕ) → risesFrom bound cs ≡ true → place j ≤ bound → listed j cs ≡ false
 listed-above [] bound j h l = refl
 listed-above (c ∷ cs) bound j h l =
-    let p = and-both (ltb bound (c .0)) (risesFrom (c .0) cs) h in
-    let b = ltb-true bound (c .0) (p .0) in
-    rw (ne-eqb j (c .0) (λ (e : j ≡ c .0). omega arith)) (listed-above cs (c .0) j (p .1) (omega arith))
+    let p = and-both (ltb bound (place (c .0))) (risesFrom (place (c .0)) cs) h in
+    let b = ltb-true bound (place (c .0)) (p .0) in
+    rw (ne-eqb j (c .0) (λ (e : j ≡ c .0). apart (place j) (place (c .0)) (ap place e) (omega arith))) (listed-above cs (place (c .0)) j (p .1) (omega arith))
 
-first-lowest : (cs : List (ℕ × Bool)) (bound j : ℕ) → risesFrom bound cs ≡ true → j < first cs → listed j cs ≡ false
+first-lowest : (cs : List (ℕ × Bool)) (bound j : ℕ) → risesFrom bound cs ≡ true → place j < place (first cs) → listed j cs ≡ false
 first-lowest [] bound j h l = refl
-first-lowest (c ∷ cs) bound j h l = go (test (c .1)) (first-lowest cs (c .0) j (p .1))
+first-lowest (c ∷ cs) bound j h l = go (test (c .1)) (first-lowest cs (place (c .0)) j (p .1))
   where
-    p : (ltb bound (c .0) ≡ true) × (risesFrom (c .0) cs ≡ true)
-    p = and-both (ltb bound (c .0)) (risesFrom (c .0) cs) h
+    p : (ltb bound (place (c .0)) ≡ true) × (risesFrom (place (c .0)) cs ≡ true)
+    p = and-both (ltb bound (place (c .0))) (risesFrom (place (c .0)) cs) h
 
     skip : (b : Bool) → listed j cs ≡ false → cond b false (listed j cs) ≡ false
     skip true e = refl
     skip false e = e
 
-    go : (c .1 ≡ true) ⊎ (c .1 ≡ false) → (j < first cs → listed j cs ≡ false) → cond (eqb j (c .0)) (c .1) (listed j cs) ≡ false
+    go : (c .1 ≡ true) ⊎ (c .1 ≡ false) → (place j < place (first cs) → listed j cs ≡ false) → cond (eqb j (c .0)) (c .1) (listed j cs) ≡ false
     go (inl t) ih =
-        let below : j < c .0 = rw t at l in
-        rw (ne-eqb j (c .0) (λ (e : j ≡ c .0). omega arith)) (listed-above cs (c .0) j (p .1) (omega arith))
+        let below : place j < place (c .0) = rw t at l in
+        rw (ne-eqb j (c .0) (λ (e : j ≡ c .0). apart (place j) (place (c .0)) (ap place e) below)) (listed-above cs (place (c .0)) j (p .1) (omega arith))
     go (inr f) ih = rw f (skip (eqb j (c .0)) (ih (rw f at l)))
+
+at-most : (i j : ℕ) → i ≡ j → i ≤ j
+at-most i j e = omega arith
 
 first-holds : (cs : List (ℕ × Bool)) (bound k : ℕ) → risesFrom bound cs ≡ true → first cs ≡ suc k → listed (suc k) cs ≡ true
 first-holds [] bound k h e = absurd (never e)
   where
     never : _≡_ {A = ℕ} 0 (suc k) → ⊥
     never q = omega arith
-first-holds (c ∷ cs) bound k h e = go (test (c .1)) (test (eqb (suc k) (c .0))) (first-holds cs (c .0) k (p .1))
+first-holds (c ∷ cs) bound k h e = go (test (c .1)) (test (eqb (suc k) (c .0))) (first-holds cs (place (c .0)) k (p .1))
   where
-    p : (ltb bound (c .0) ≡ true) × (risesFrom (c .0) cs ≡ true)
-    p = and-both (ltb bound (c .0)) (risesFrom (c .0) cs) h
+    p : (ltb bound (place (c .0)) ≡ true) × (risesFrom (place (c .0)) cs ≡ true)
+    p = and-both (ltb bound (place (c .0))) (risesFrom (place (c .0)) cs) h
 
     go : (c .1 ≡ true) ⊎ (c .1 ≡ false) → (eqb (suc k) (c .0) ≡ true) ⊎ (eqb (suc k) (c .0) ≡ false) → (first cs ≡ suc k → listed (suc k) cs ≡ true)
         → cond (eqb (suc k) (c .0)) (c .1) (listed (suc k) cs) ≡ true
@@ -62,14 +68,14 @@ first-holds (c ∷ cs) bound k h e = go (test (c .1)) (test (eqb (suc k) (c .0))
     go (inr f) (inr n) ih = rw n (ih (rw f at e))
     go (inr f) (inl q) ih =
         let n : suc k ≡ c .0 = eqb-true (suc k) (c .0) q in
-        clash (ih (rw f at e)) (listed-above cs (c .0) (suc k) (p .1) (omega arith))
+        clash (ih (rw f at e)) (listed-above cs (place (c .0)) (suc k) (p .1) (at-most (place (suc k)) (place (c .0)) (ap place n)))
 
 -- ---- the refusals of an event
 
 rising : (t : List Cap) (i : ℕ) (e : Event) → risesFrom 0 (refusals t i e) ≡ true
 unfolding refusals
-rising t i (Create s r) = refl
-rising t i (Borrow u s r) = refl
+rising t i (Create w s r) = refl
+rising t i (Borrow w u s r) = refl
 rising t i (Read u s) = refl
 rising t i (Write u s) = refl
 rising t i (Drop u) = refl
@@ -79,7 +85,7 @@ pub given-holds : (t : List Cap) (i : ℕ) (e : Event) (k : ℕ) → judge t i e
 unfolding judge
 given-holds t i e k h = first-holds (refusals t i e) 0 k (rising t i e) h
 
--- No condition of a lower number holds.
-pub given-lowest : (t : List Cap) (i : ℕ) (e : Event) (j : ℕ) → j < judge t i e → listed j (refusals t i e) ≡ false
+-- No condition that comes before it holds; none at all where the event is allowed, since 0 comes after all.
+pub given-first : (t : List Cap) (i : ℕ) (e : Event) (j : ℕ) → place j < place (judge t i e) → listed j (refusals t i e) ≡ false
 unfolding judge
-given-lowest t i e j l = first-lowest (refusals t i e) 0 j (rising t i e) l
+given-first t i e j l = first-lowest (refusals t i e) 0 j (rising t i e) l

@@ -29,8 +29,8 @@ countIn Refusals t = t .refused
 
 -- the kind of an event
 abbrev pub kindOf : Event → Counter
-kindOf (Create s r) = Creates
-kindOf (Borrow u s r) = Borrows
+kindOf (Create w s r) = Creates
+kindOf (Borrow w u s r) = Borrows
 kindOf (Read u s) = Reads
 kindOf (Write u s) = Writes
 kindOf (Drop u) = Drops

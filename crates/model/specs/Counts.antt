@@ -15,8 +15,8 @@ tally issued creates borrows reads writes drops refused =
 
 -- after an allowed event: the issued number, and one more of its kind
 abbrev pub countAllowed : Event → Tally → Tally
-countAllowed (Create s r) t = tally (suc (t .issued)) (countUp (t .creates)) (t .borrows) (t .reads) (t .writes) (t .drops) (t .refused)
-countAllowed (Borrow u s r) t = tally (suc (t .issued)) (t .creates) (countUp (t .borrows)) (t .reads) (t .writes) (t .drops) (t .refused)
+countAllowed (Create w s r) t = tally (suc (t .issued)) (countUp (t .creates)) (t .borrows) (t .reads) (t .writes) (t .drops) (t .refused)
+countAllowed (Borrow w u s r) t = tally (suc (t .issued)) (t .creates) (countUp (t .borrows)) (t .reads) (t .writes) (t .drops) (t .refused)
 countAllowed (Read u s) t = tally (t .issued) (t .creates) (t .borrows) (countUp (t .reads)) (t .writes) (t .drops) (t .refused)
 countAllowed (Write u s) t = tally (t .issued) (t .creates) (t .borrows) (t .reads) (countUp (t .writes)) (t .drops) (t .refused)
 countAllowed (Drop u) t = tally (t .issued) (t .creates) (t .borrows) (t .reads) (t .writes) (countUp (t .drops)) (t .refused)

@@ -37,24 +37,24 @@ child issued u s = record { name = suc issued; parent = u .0; span = s }
 
 -- the live rows after an allowed event
 unfoldable pub rowsAfter : ℕ → List Cap → Event → List Cap
-rowsAfter issued rows (Create s r) = row (root issued s) r 1 ∷ rows
-rowsAfter issued rows (Borrow u s r) = row (child issued u s) r (suc (lookup (u .0) rows .depth)) ∷ rows
+rowsAfter issued rows (Create w s r) = row (root issued s) r 1 ∷ rows
+rowsAfter issued rows (Borrow w u s r) = row (child issued u s) r (suc (lookup (u .0) rows .depth)) ∷ rows
 rowsAfter issued rows (Read u s) = afterAccess Reading (u .0) s rows
 rowsAfter issued rows (Write u s) = afterAccess Writing (u .0) s rows
 rowsAfter issued rows (Drop u) = revoke (λ x. inSubtree (u .0) (ancestry (derivations rows) x)) (λ x. false) rows
 
 -- "The result carries the new name"; "a read, write or drop answers with name 0"
 abbrev pub newName : ℕ → Event → ℕ
-newName issued (Create s r) = suc issued
-newName issued (Borrow u s r) = suc issued
+newName issued (Create w s r) = suc issued
+newName issued (Borrow w u s r) = suc issued
 newName issued (Read u s) = 0
 newName issued (Write u s) = 0
 newName issued (Drop u) = 0
 
 -- the issued number after an allowed event
 abbrev pub issuedAfter : ℕ → Event → ℕ
-issuedAfter issued (Create s r) = suc issued
-issuedAfter issued (Borrow u s r) = suc issued
+issuedAfter issued (Create w s r) = suc issued
+issuedAfter issued (Borrow w u s r) = suc issued
 issuedAfter issued (Read u s) = issued
 issuedAfter issued (Write u s) = issued
 issuedAfter issued (Drop u) = issued

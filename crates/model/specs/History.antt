@@ -145,8 +145,8 @@ emptyHistory = record { notes = []; count = 0 }
 
 -- the note of an allowed event, when so many names have been counted
 unfoldable pub noteOf : ℕ → Event → Note
-noteOf count (Create s r) = New (root count s) r
-noteOf count (Borrow u s r) = New (child count u s) r
+noteOf count (Create w s r) = New (root count s) r
+noteOf count (Borrow w u s r) = New (child count u s) r
 noteOf count (Read u s) = Accessed Reading (u .0) s
 noteOf count (Write u s) = Accessed Writing (u .0) s
 noteOf count (Drop u) = Dropped (u .0)

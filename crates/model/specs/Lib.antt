@@ -5,6 +5,7 @@ pub mod Strike
 pub mod Table
 pub mod Refusals
 pub mod Effects
+pub mod Named
 pub mod Counts
 pub mod Step
 pub mod Counted

@@ -1,13 +1,16 @@
--- Document 01, "Eleven ways to be turned down", of an event: the conditions 1 to 10, and which of them each event meets.
+-- Document 01, "Eleven ways to be turned down", of an event, and card 1: the conditions 1 to 10 and 12, and which of them each event
+-- meets.
 -- Assumes nothing. (2 is here in its half about events; its other half, and 11, are of the text.)
-use Prim.Native.Nat.{ℕ}
-use mathlib.Core.Bool.{Bool, not, _||_}
+use Prim.Native.Nat.{ℕ, suc}
+use mathlib.Core.Bool.{Bool, false, not, cond, _||_}
 use mathlib.Core.List.{List, [], _∷_, _++_}
 use lib.Dec.{leb, ltb, eqb}
 use lib.ListN.{length}
 use Rattle.model.specs.declared.Name.{Name}
 use Rattle.model.specs.declared.Span.{Span}
 use Rattle.model.specs.declared.Cap.{Cap}
+use Rattle.model.specs.declared.NewName.{NewName}
+use Rattle.model.specs.declared.NewName.the-variants.{Unwritten, Written}
 use Rattle.model.specs.declared.Event.{Event}
 use Rattle.model.specs.declared.Event.the-variants.{Create, Borrow, Read, Write, Drop}
 use Rattle.model.specs.Lists.{any, first}
@@ -25,6 +28,11 @@ notARight r = not (isRight r)
 -- 3. span not legal
 abbrev pub illegalSpan : Span → Bool
 illegalSpan s = not (legal s)
+
+-- 12. "the written name is not the issued number plus one"
+abbrev pub misnamed : ℕ → NewName → Bool
+misnamed issued Unwritten = false
+misnamed issued (Written x) = not (eqb (x .0) (suc issued))
 
 -- The others are judged on the live rows.
 module _ (rows : List Cap) (issued : ℕ) where
@@ -57,7 +65,7 @@ module _ (rows : List Cap) (issued : ℕ) where
   tableFull size = leb size (length rows)
 
   -- Checks in order of precedence, each with its number: the standing of a name; its use on a span; its use with a right, `ro` for
-  -- a borrow of `ro` and `rw` for a write; room for a new name.
+  -- a borrow of `ro` and `rw` for a write; room for a new name, where 12 is "between 9 and 10".
   abbrev pub standing : Name → List (ℕ × Bool)
   standing u = (4, unissued u) ∷ (5, ended u) ∷ []
 
@@ -67,21 +75,33 @@ module _ (rows : List Cap) (issued : ℕ) where
   abbrev pub usable : Name → Span → ℕ → List (ℕ × Bool)
   usable u s r = within u s ++ ((7, readOnly u r) ∷ [])
 
-  abbrev pub room : ℕ → List (ℕ × Bool)
-  room size = (9, namesSpent) ∷ (10, tableFull size) ∷ []
+  abbrev pub room : ℕ → NewName → List (ℕ × Bool)
+  room size w = (9, namesSpent) ∷ (12, misnamed issued w) ∷ (10, tableFull size) ∷ []
 
   -- those that each event meets after 1
   abbrev pub checks : ℕ → Event → List (ℕ × Bool)
-  checks size (Create s r) = (2, notARight r) ∷ (3, illegalSpan s) ∷ room size
-  checks size (Borrow u s r) = (2, notARight r) ∷ usable u s r ++ ((8, tooDeep u) ∷ room size)
+  checks size (Create w s r) = (2, notARight r) ∷ (3, illegalSpan s) ∷ room size w
+  checks size (Borrow w u s r) = (2, notARight r) ∷ usable u s r ++ ((8, tooDeep u) ∷ room size w)
   checks size (Read u s) = within u s
   checks size (Write u s) = usable u s 2
   checks size (Drop u) = standing u
 
+-- The numbers of refusals in order of precedence.
+abbrev pub precedence : List ℕ
+precedence = 1 ∷ 2 ∷ 3 ∷ 4 ∷ 5 ∷ 6 ∷ 7 ∷ 8 ∷ 9 ∷ 12 ∷ 10 ∷ 11 ∷ []
+
+-- the place of a number among others, from 1, or behind them
+abbrev pub placeIn : List ℕ → ℕ → ℕ
+placeIn [] k = 1
+placeIn (j ∷ js) k = cond (eqb k j) 1 (suc (placeIn js k))
+
+abbrev pub place : ℕ → ℕ
+place = placeIn precedence
+
 unfoldable pub refusals : List Cap → ℕ → Event → List (ℕ × Bool)
 refusals table issued e = (1, disordered table issued) ∷ checks (liveRows table) issued (length table) e
 
--- "The lowest number that applies is the one given": the first of the list that holds, or 0 where the event is allowed.
--- The lists rise (proofs/Precedence), so the first is the lowest.
+-- "The lowest number that applies is the one given", where the cards give their numbers places of their own: the first of the list
+-- that holds, or 0 where the event is allowed. The places rise in each list (proofs/Precedence).
 unfoldable pub judge : List Cap → ℕ → Event → ℕ
 judge table issued e = first (refusals table issued e)

@@ -1,4 +1,5 @@
--- Document 01, "Traces to try", those with a star; "Eleven ways to be turned down", the examples that are events; and capcheck's example.
+-- Document 01, "Traces to try", those with a star; "Eleven ways to be turned down", the examples that are events; card 1; and
+-- capcheck's example.
 -- One table, and one computed proof over it (proofs/Traces).
 -- Assumes nothing.
 use Prim.Native.Nat.{ℕ, zero, suc}
@@ -8,6 +9,7 @@ use lib.Dec.{eqb}
 use Rattle.model.specs.declared.Span.{Span}
 use Rattle.model.specs.declared.Cap.{Cap}
 use Rattle.model.specs.declared.Tally.{Tally}
+use Rattle.model.specs.declared.NewName.the-variants.{Unwritten, Written}
 use Rattle.model.specs.declared.Event.{Event}
 use Rattle.model.specs.declared.Event.the-variants.{Create, Borrow, Read, Write, Drop}
 use Rattle.model.specs.Lists.{answers, final}
@@ -27,10 +29,10 @@ abbrev span : ℕ → ℕ → Span
 span start length = record { start = record { 0 = start }; length = length }
 
 abbrev create : ℕ → ℕ → ℕ → Event
-create start length right = Create (span start length) right
+create start length right = Create Unwritten (span start length) right
 
 abbrev borrow : ℕ → ℕ → ℕ → ℕ → Event
-borrow name start length right = Borrow (record { 0 = name }) (span start length) right
+borrow name start length right = Borrow Unwritten (record { 0 = name }) (span start length) right
 
 abbrev read : ℕ → ℕ → ℕ → Event
 read name start length = Read (record { 0 = name }) (span start length)
@@ -40,6 +42,13 @@ write name start length = Write (record { 0 = name }) (span start length)
 
 abbrev drop : ℕ → Event
 drop name = Drop (record { 0 = name })
+
+-- with the name written out
+abbrev createNamed : ℕ → ℕ → ℕ → ℕ → Event
+createNamed new start length right = Create (Written (record { 0 = new })) (span start length) right
+
+abbrev borrowNamed : ℕ → ℕ → ℕ → ℕ → ℕ → Event
+borrowNamed new name start length right = Borrow (Written (record { 0 = new })) (record { 0 = name }) (span start length) right
 
 -- ---- traces
 
@@ -131,6 +140,16 @@ refused =
     ∷ created 2 ((borrow 1 0 8 ro, 0, 2) ∷ (create 0 8 RW, 10, 0) ∷ []) ((1, RW) ∷ (2, ro) ∷ [])
     ∷ []
 
+-- Card 1: the right name is let through; a wrong one, 0 and one above 1,000,000 are 12; 9 comes before 12, and 12 before 10
+unfoldable pub written : List Trace
+written =
+    trace 2 ((createNamed 1 0 64 RW, 0, 1) ∷ (borrowNamed 2 1 0 8 RW, 0, 2) ∷ []) ((1, RW) ∷ (2, RW) ∷ [])
+    ∷ created 2 ((createNamed 1 0 8 RW, 12, 0) ∷ (borrowNamed 3 1 0 8 RW, 12, 0) ∷ (borrowNamed 2 1 0 8 RW, 0, 2) ∷ []) ((1, RW) ∷ (2, RW) ∷ [])
+    ∷ created 2 ((createNamed 0 0 8 RW, 12, 0) ∷ (createNamed 1000001 0 8 RW, 12, 0) ∷ []) ((1, RW) ∷ [])
+    ∷ from (record { table = namedOne ∷ emptyRow ∷ []; tally = noCounts 1000000 }) ((createNamed 1000001 0 8 RW, 9, 0) ∷ []) ((1, RW) ∷ [])
+    ∷ created 1 ((createNamed 3 0 8 RW, 12, 0) ∷ (createNamed 2 0 8 RW, 10, 0) ∷ []) ((1, RW) ∷ [])
+    ∷ []
+
 -- "The bracket text": what capcheck is shown on
 unfoldable pub printed : Trace
 printed =
@@ -139,7 +158,7 @@ printed =
     ((1, RW) ∷ (2, ro) ∷ (3, RW) ∷ [])
 
 unfoldable pub traces : List Trace
-traces = starred ++ (refused ++ (printed ∷ []))
+traces = starred ++ (refused ++ (written ++ (printed ∷ [])))
 
 -- ---- when a trace goes as it says
 

@@ -40,11 +40,17 @@ pub struct Tally {
     pub refused: u32,
 }
 
+// Card 1, "names written out": the name that a create or borrow writes out for what it makes, any 32-bit number; or none.
+pub enum NewName {
+    Unwritten,
+    Written(Name),
+}
+
 // "Values", an event: one of five kinds, each with its own values. The names, starts and lengths may be any 32-bit numbers,
 // the right any byte.
 pub enum Event {
-    Create(Span, u8),
-    Borrow(Name, Span, u8),
+    Create(NewName, Span, u8),
+    Borrow(NewName, Name, Span, u8),
     Read(Name, Span),
     Write(Name, Span),
     Drop(Name),
@@ -56,7 +62,7 @@ pub enum Access {
     Writing,
 }
 
-// "Eleven ways to be turned down": each is named for its condition.
+// "Eleven ways to be turned down", and those of the cards: each is named for its condition.
 pub enum Refusal {
     // 1: table not in order.
     Disordered,
@@ -80,6 +86,8 @@ pub enum Refusal {
     TableFull,
     // 11: text longer than the output buffer.
     BufferTooShort,
+    // 12, between 9 and 10: the written name is not the issued number plus one.
+    Misnamed,
 }
 
 // The answer to an event: allowed, with the new name of a create or borrow and name 0 of the others; or refused.

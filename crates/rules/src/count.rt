@@ -28,13 +28,13 @@ pub fn count_allowed(e: Event, t: Tally) -> Tally
     ensures { λ r. ⌜ r ≡ Counts.countAllowed e t ⌝ }
 {
     match e {
-        Event::Create(_, _) => {
+        Event::Create(_, _, _) => {
             let mut r = t;
             r.issued = t.issued + 1;
             r.creates = count_up(t.creates);
             r
         }
-        Event::Borrow(_, _, _) => {
+        Event::Borrow(_, _, _, _) => {
             let mut r = t;
             r.issued = t.issued + 1;
             r.borrows = count_up(t.borrows);

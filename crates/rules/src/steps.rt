@@ -132,11 +132,11 @@ fn change(
     ensures { λ r. ⌜ Settled (rowsIn (now (words .exit))) n r (rowsAfter issued (before (rowsIn (now (words .entry))) k) e) (now (places .exit)) × (length (now (words .exit)) ≡ 6144) ⌝ }
 {
     match e {
-        Event::Create(s, r) => {
+        Event::Create(_, s, r) => {
             let c = new_row(issued + 1, 0, s, r as u32, 1);
             append(words, n, k, places, c, k)
         }
-        Event::Borrow(u, s, r) => {
+        Event::Borrow(_, u, s, r) => {
             let q = find(words, k, u.0);
             let d = depth_at(words, k, u.0, q);
             let c = new_row(issued + 1, u.0, s, r as u32, d + 1);

@@ -3,15 +3,17 @@
 use Prim.Native.Nat.{ℕ, _<_}
 use mathlib.Core.Path.{_≡_}
 use mathlib.Core.Bool.{Bool}
-use mathlib.Core.List.{List}
+use mathlib.Core.List.{List, [], _∷_}
 use Rattle.model.specs.declared.Name.{Name}
+use Rattle.model.specs.declared.NewName.{NewName}
 use Rattle.model.specs.declared.Span.{Span}
 use Rattle.model.specs.declared.Cap.{Cap}
 use Rattle.table.specs.declared.judge.Place.{Place}
 use Rattle.table.specs.declared.judge.Place.the-variants.{At, Not}
+use lib.Dec.{leb}
 use Rattle.model.specs.Lists.{first}
 use Rattle.model.specs.Step.{Verdict}
-use Rattle.model.specs.Refusals.{standing, usable}
+use Rattle.model.specs.Refusals.{misnamed, standing, usable}
 use Rattle.model.specs.Answers.{number}
 use Rattle.table.specs.Rows.{nameAt, before}
 
@@ -30,3 +32,7 @@ Serves T k issued u s r = Passes T k (u .0) (usable (before T k) issued u s r)
 abbrev pub saidOf : Place → Verdict
 saidOf (At q) = record { refusal = 0; name = 0 }
 saidOf (Not r) = record { refusal = number r; name = 0 }
+
+-- the checks of `room`, where k rows of n live
+abbrev pub roomFor : ℕ → ℕ → ℕ → NewName → List (ℕ × Bool)
+roomFor n k issued w = (9, leb 1000000 issued) ∷ (12, misnamed issued w) ∷ (10, leb n k) ∷ []

@@ -8,15 +8,15 @@ use crate::words::row_at;
 use model::Answer;
 use model::Event;
 use model::Name;
+use model::NewName;
 use model::Refusal;
 use model::Span;
 ghost use mathlib.Core.Path.{_≡_};
-ghost use mathlib.Core.List.{[], _∷_};
+ghost use mathlib.Core.List.{_∷_};
 ghost use Prim.Native.Nat.{suc, _≤_};
 ghost use lib.ListN.{take};
-ghost use lib.Dec.{leb};
 ghost use Rattle.model.specs.Lists.{first};
-ghost use Rattle.model.specs.Refusals.{notARight, illegalSpan, checks};
+ghost use Rattle.model.specs.Refusals.{notARight, illegalSpan, misnamed, checks};
 ghost use Rattle.model.specs.Effects.{newName};
 ghost use Rattle.model.specs.Step.{verdict};
 ghost use Rattle.model.specs.Refusals;
@@ -24,7 +24,7 @@ ghost use Rattle.model.specs.declared.Event;
 ghost use Rattle.model.specs.Answers.{verdictOf};
 ghost use Rattle.table.specs.Words.{rowsIn};
 ghost use Rattle.table.specs.Rows.{before, Rise, Orderly};
-ghost use Rattle.table.specs.Stands.{Stands, Serves, saidOf};
+ghost use Rattle.table.specs.Stands.{Stands, Serves, saidOf, roomFor};
 
 // The place of a name, or why it has none.
 pub enum Place {
@@ -85,13 +85,27 @@ fn place_answer(p: Place) -> Answer
     }
 }
 
-// Refusals 9 and 10, of n rows with k live ones.
-fn room_answer(n: usize, k: usize, issued: u32) -> Answer
+// Refusal 12: the written name is not the issued number plus one.
+fn is_misnamed(issued: u32, w: NewName) -> bool
     requires { ⌜ issued ≤ 1000000 ⌝ }
-    ensures { λ r. ⌜ verdictOf r ≡ verdict (first ((9, leb 1000000 issued) ∷ (10, leb n k) ∷ [])) (suc issued) ⌝ }
+    ensures { λ r. ⌜ r ≡ misnamed issued w ⌝ }
+{
+    match w {
+        NewName::Unwritten => false,
+        NewName::Written(x) => x.0 != issued + 1,
+    }
+}
+
+// Refusals 9, 12 and 10, of n rows with k live ones.
+fn room_answer(n: usize, k: usize, issued: u32, w: NewName) -> Answer
+    requires { ⌜ issued ≤ 1000000 ⌝ }
+    ensures { λ r. ⌜ verdictOf r ≡ verdict (first (roomFor n k issued w)) (suc issued) ⌝ }
 {
     if 1000000 <= issued {
         return Answer::Refused(Refusal::NamesSpent);
+    }
+    if is_misnamed(issued, w) {
+        return Answer::Refused(Refusal::Misnamed);
     }
     if n <= k {
         return Answer::Refused(Refusal::TableFull);
@@ -99,9 +113,9 @@ fn room_answer(n: usize, k: usize, issued: u32) -> Answer
     Answer::Allowed(Name(issued + 1))
 }
 
-fn judge_create(n: usize, k: usize, issued: u32, s: Span, r: u8) -> Answer
+fn judge_create(n: usize, k: usize, issued: u32, w: NewName, s: Span, r: u8) -> Answer
     requires { ⌜ issued ≤ 1000000 ⌝ }
-    ensures { λ a. ⌜ verdictOf a ≡ verdict (first ((2, notARight r) ∷ (3, illegalSpan s) ∷ (9, leb 1000000 issued) ∷ (10, leb n k) ∷ [])) (suc issued) ⌝ }
+    ensures { λ a. ⌜ verdictOf a ≡ verdict (first ((2, notARight r) ∷ (3, illegalSpan s) ∷ roomFor n k issued w)) (suc issued) ⌝ }
 {
     if !is_right(r as u32) {
         return Answer::Refused(Refusal::Misspelt);
@@ -109,7 +123,7 @@ fn judge_create(n: usize, k: usize, issued: u32, s: Span, r: u8) -> Answer
     if !is_legal(s) {
         return Answer::Refused(Refusal::IllegalSpan);
     }
-    room_answer(n, k, issued)
+    room_answer(n, k, issued, w)
 }
 
 fn judge_borrow(
@@ -117,12 +131,13 @@ fn judge_borrow(
     n: usize,
     k: usize,
     issued: u32,
+    w: NewName,
     u: Name,
     s: Span,
     r: u8,
 ) -> Answer
     requires { ⌜ (k ≤ 1024) × Rise (rowsIn (now words)) k × (issued ≤ 1000000) ⌝ }
-    ensures { λ a. ⌜ verdictOf a ≡ verdict (first (checks (before (rowsIn (now (words .entry))) k) issued n (Event.Borrow u s r))) (suc issued) ⌝ }
+    ensures { λ a. ⌜ verdictOf a ≡ verdict (first (checks (before (rowsIn (now (words .entry))) k) issued n (Event.Borrow w u s r))) (suc issued) ⌝ }
 {
     if !is_right(r as u32) {
         return Answer::Refused(Refusal::Misspelt);
@@ -134,7 +149,7 @@ fn judge_borrow(
             if 64 <= c.depth {
                 return Answer::Refused(Refusal::TooDeep);
             }
-            room_answer(n, k, issued)
+            room_answer(n, k, issued, w)
         }
     }
 }
@@ -145,8 +160,8 @@ pub fn judge(words: &[u32; 6144], n: usize, k: usize, issued: u32, e: Event) -> 
     ensures { λ a. ⌜ verdictOf a ≡ verdict (Refusals.judge (take n (rowsIn (now (words .entry)))) issued e) (newName issued e) ⌝ }
 {
     match e {
-        Event::Create(s, r) => judge_create(n, k, issued, s, r),
-        Event::Borrow(u, s, r) => judge_borrow(words, n, k, issued, u, s, r),
+        Event::Create(w, s, r) => judge_create(n, k, issued, w, s, r),
+        Event::Borrow(w, u, s, r) => judge_borrow(words, n, k, issued, w, u, s, r),
         Event::Read(u, s) => place_answer(usable_place(words, k, issued, u, s, 1)),
         Event::Write(u, s) => place_answer(usable_place(words, k, issued, u, s, 2)),
         Event::Drop(u) => place_answer(place_of(words, k, issued, u)),

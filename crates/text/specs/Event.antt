@@ -1,17 +1,21 @@
--- Document 01, "The bracket text": the one spelling of an event.
+-- Document 01, "The bracket text", and card 1: the one spelling of an event, where no name is written and where names are written out.
 -- Assumes nothing.
 use Prim.Native.Nat.{ℕ, _^_, _<_}
 use Prim.Native.Char.{code}
 use Prim.Native.String as text
 use Prim.Native.String.{String}
-use mathlib.Core.Bool.{Bool, true, cond}
+use mathlib.Core.Bool.{Bool, true, false, cond, _&&_}
 use mathlib.Core.List.{List, [], _∷_, _++_}
 use lib.Dec.{eqb}
 use Rattle.model.specs.Table.{isRight}
 use Rattle.model.specs.declared.Span.{Span}
+use Rattle.model.specs.declared.NewName.{NewName}
+use Rattle.model.specs.declared.NewName.the-variants.{Unwritten, Written}
 use Rattle.model.specs.declared.Event.{Event}
 use Rattle.model.specs.declared.Event.the-variants.{Create, Borrow, Read, Write, Drop}
 use Rattle.text.specs.Decimal.{decimal}
+use Rattle.text.specs.declared.spelling.Spelling.{Spelling}
+use Rattle.text.specs.declared.spelling.Spelling.the-variants.{Plain, Named}
 
 -- the bytes of a text
 abbrev pub bytes : String → List ℕ
@@ -35,23 +39,36 @@ ending r = cond (eqb r 1) " ro)\n" " rw)\n"
 abbrev pub spanNumbers : Span → List ℕ
 spanNumbers s = s .start .0 ∷ s .length ∷ []
 
+-- the new name, where it is written: card 1, "writes the new name after the word"
+abbrev pub writtenNumbers : NewName → List ℕ
+writtenNumbers Unwritten = []
+writtenNumbers (Written x) = x .0 ∷ []
+
 -- "One form a line, ended by byte 10: `(create START LENGTH RIGHT)`, `(borrow NAME START LENGTH RIGHT)`, `(read NAME START LENGTH)`,
--- `(write NAME START LENGTH)`, `(drop NAME)`."
+-- `(write NAME START LENGTH)`, `(drop NAME)`." Card 1: `(create 1 0 64 rw)`, `(borrow 2 1 0 8 rw)`.
 unfoldable pub spell : Event → List ℕ
-spell (Create s r) = line "(create" (spanNumbers s) (ending r)
-spell (Borrow n s r) = line "(borrow" (n .0 ∷ spanNumbers s) (ending r)
+spell (Create w s r) = line "(create" (writtenNumbers w ++ spanNumbers s) (ending r)
+spell (Borrow w n s r) = line "(borrow" (writtenNumbers w ++ (n .0 ∷ spanNumbers s)) (ending r)
 spell (Read n s) = line "(read" (n .0 ∷ spanNumbers s) ")\n"
 spell (Write n s) = line "(write" (n .0 ∷ spanNumbers s) ")\n"
 spell (Drop n) = line "(drop" (n .0 ∷ []) ")\n"
 
--- An event has a spelling when it is not refused in itself, that is not refusal 2 as an "event whose right is neither 1 nor 2".
--- What `spell` gives of any other event is the spelling of none, and no line is read as it.
-unfoldable pub hasSpelling : Event → Bool
-hasSpelling (Create s r) = isRight r
-hasSpelling (Borrow n s r) = isRight r
-hasSpelling (Read n s) = true
-hasSpelling (Write n s) = true
-hasSpelling (Drop n) = true
+-- the spelling `Plain`, of document 01, writes no new name; `Named`, behind the line `(trace 2)`, always does
+unfoldable pub writesName : Spelling → NewName → Bool
+writesName Plain Unwritten = true
+writesName Plain (Written x) = false
+writesName Named Unwritten = false
+writesName Named (Written x) = true
+
+-- An event has a spelling in one of the two when its name is written as there, and it is not refused in itself, that is not
+-- refusal 2 as an "event whose right is neither 1 nor 2". What `spell` gives of any other event is the spelling of none, and no
+-- line is read as it.
+unfoldable pub hasSpelling : Spelling → Event → Bool
+hasSpelling k (Create w s r) = writesName k w && isRight r
+hasSpelling k (Borrow w n s r) = writesName k w && isRight r
+hasSpelling k (Read n s) = true
+hasSpelling k (Write n s) = true
+hasSpelling k (Drop n) = true
 
 -- "Names, starts and lengths in it may be any 32-bit numbers": what the type gives of every event of the code, said of the
 -- numbers that stand for them here
@@ -60,8 +77,8 @@ Below32 [] = Unit {0}
 Below32 (n ∷ ns) = (n < 2 ^ 32) × Below32 ns
 
 abbrev pub InRange : Event → Type 0
-InRange (Create s r) = Below32 (spanNumbers s)
-InRange (Borrow n s r) = Below32 (n .0 ∷ spanNumbers s)
+InRange (Create w s r) = Below32 (writtenNumbers w ++ spanNumbers s)
+InRange (Borrow w n s r) = Below32 (writtenNumbers w ++ (n .0 ∷ spanNumbers s))
 InRange (Read n s) = Below32 (n .0 ∷ spanNumbers s)
 InRange (Write n s) = Below32 (n .0 ∷ spanNumbers s)
 InRange (Drop n) = Below32 (n .0 ∷ [])

@@ -1,4 +1,4 @@
--- Document 01, "The bracket text": what a line reads as, the event whose one spelling it is.
+-- Document 01, "The bracket text", and card 1: what a line reads as in one of the two spellings, the event whose one spelling it is.
 -- Assumes nothing.
 use Prim.Native.Nat.{ℕ}
 use mathlib.Core.Bool.{Bool, true, false, cond, _&&_}
@@ -8,12 +8,16 @@ use lib.ListN.{getD}
 use Rattle.model.specs.Answers.{number}
 use Rattle.model.specs.declared.Name.{Name}
 use Rattle.model.specs.declared.Span.{Span}
+use Rattle.model.specs.declared.NewName.{NewName}
+use Rattle.model.specs.declared.NewName.the-variants.{Unwritten, Written}
 use Rattle.model.specs.declared.Event.{Event}
 use Rattle.model.specs.declared.Event.the-variants.{Create, Borrow, Read, Write, Drop}
 use Rattle.text.specs.Result.{Result, value, refused}
 use Rattle.text.specs.Line.{afterSpace}
 use Rattle.text.specs.Decimal.{numberOf}
 use Rattle.text.specs.Event.{spell, hasSpelling}
+use Rattle.text.specs.declared.spelling.Spelling.{Spelling}
+use Rattle.text.specs.declared.spelling.Spelling.the-variants.{Plain, Named}
 use Rattle.text.specs.declared.read.EventRead.{EventRead}
 use Rattle.text.specs.declared.read.EventRead.the-variants.{Event as Found, Refused}
 
@@ -34,24 +38,42 @@ spanOf v w = record { start = record { 0 = numberOf v }; length = numberOf w }
 abbrev pub rightOf : List ℕ → ℕ
 rightOf w = cond (eqb (getD w 1 0) 111) 1 2
 
--- the event of a kind, told by the second byte of its line (c, b, r, w, or else d), with these words behind the first
-abbrev pub eventOf : ℕ → List ℕ → List ℕ → List ℕ → List ℕ → Event
-eventOf kind first second third fourth =
-    cond (eqb kind 99) (Create (spanOf first second) (rightOf third))
-    (cond (eqb kind 98) (Borrow (nameOf first) (spanOf second third) (rightOf fourth))
-    (cond (eqb kind 114) (Read (nameOf first) (spanOf second third))
-    (cond (eqb kind 119) (Write (nameOf first) (spanOf second third))
-    (Drop (nameOf first)))))
+-- the line of a create or borrow from its new name on, where the spelling writes one, and else the whole line: behind its first space
+-- stand the words that both spellings have
+abbrev pub fromName : Spelling → List ℕ → List ℕ
+fromName Plain s = s
+fromName Named s = afterSpace s
 
--- The one event whose spelling a line can be; nothing is refused here. That it misses no spelling is proved in proofs/Laws/OneSpelling.
-unfoldable pub guess : List ℕ → Event
-guess s =
-    eventOf (getD s 1 0) (afterSpace s) (afterSpace (afterSpace s)) (afterSpace (afterSpace (afterSpace s)))
-    (afterSpace (afterSpace (afterSpace (afterSpace s))))
+-- the new name that this begins with
+abbrev pub newNameOf : Spelling → List ℕ → NewName
+newNameOf Plain t = Unwritten
+newNameOf Named t = Written (nameOf t)
+
+abbrev pub createOf : Spelling → List ℕ → Event
+createOf k t =
+    Create (newNameOf k t) (spanOf (afterSpace t) (afterSpace (afterSpace t))) (rightOf (afterSpace (afterSpace (afterSpace t))))
+
+abbrev pub borrowOf : Spelling → List ℕ → Event
+borrowOf k t =
+    Borrow (newNameOf k t) (nameOf (afterSpace t)) (spanOf (afterSpace (afterSpace t)) (afterSpace (afterSpace (afterSpace t))))
+    (rightOf (afterSpace (afterSpace (afterSpace (afterSpace t)))))
+
+-- The one event whose spelling a line can be: its second byte tells the kind (c, b, r, w, or else d). Nothing is refused here. That it
+-- misses no spelling is proved in proofs/Laws/OneSpelling.
+unfoldable pub guess : Spelling → List ℕ → Event
+guess k s =
+    let kind = getD s 1 0 in
+    let name = nameOf (afterSpace s) in
+    let span = spanOf (afterSpace (afterSpace s)) (afterSpace (afterSpace (afterSpace s))) in
+    cond (eqb kind 99) (createOf k (fromName k s))
+    (cond (eqb kind 98) (borrowOf k (fromName k s))
+    (cond (eqb kind 114) (Read name span)
+    (cond (eqb kind 119) (Write name span)
+    (Drop name))))
 
 -- a line is the spelling of an event
-abbrev pub isSpelling : List ℕ → Event → Bool
-isSpelling s e = hasSpelling e && same s (spell e)
+abbrev pub isSpelling : Spelling → List ℕ → Event → Bool
+isSpelling k s e = hasSpelling k e && same s (spell e)
 
 -- the answer that each case of `EventRead` stands for
 abbrev pub readAnswer : EventRead → Result Event
@@ -59,5 +81,5 @@ readAnswer (Found e) = value e
 readAnswer (Refused f) = refused (number f)
 
 -- the event whose spelling a line is, or refusal 2: "line or listing not in the one spelling"
-unfoldable pub readEvent : List ℕ → Result Event
-readEvent s = cond (isSpelling s (guess s)) (value (guess s)) (refused 2)
+unfoldable pub readEvent : Spelling → List ℕ → Result Event
+readEvent k s = cond (isSpelling k s (guess k s)) (value (guess k s)) (refused 2)

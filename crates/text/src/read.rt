@@ -2,18 +2,20 @@
 // bytes. So a line in any other spelling is refused by construction.
 use crate::lines;
 use crate::numbers;
+use crate::spelling::Spelling;
 use crate::write;
 use crate::write::Written;
 use model::Addr;
 use model::Event;
 use model::Name;
+use model::NewName;
 use model::Refusal;
 use model::Span;
 ghost use mathlib.Core.Path.{_≡_};
 ghost use Prim.Native.Nat.{_≤_};
 ghost use lib.ListN.{length, getD};
 ghost use Rattle.text.specs.Event.{spell};
-ghost use Rattle.text.specs.Read.{nameOf, spanOf, rightOf, guess, isSpelling, readAnswer, readEvent};
+ghost use Rattle.text.specs.Read.{nameOf, spanOf, rightOf, fromName, newNameOf, createOf, borrowOf, guess, isSpelling, readAnswer, readEvent};
 
 // What a line reads as: the event whose spelling it is, or refusal 2.
 pub enum EventRead {
@@ -50,20 +52,69 @@ pub fn right_of(word: &[u8]) -> u8
     if byte_at(word, 1) == b'o' { 1 } else { 2 }
 }
 
-// The one event whose spelling a line can be. Nothing is checked here.
-fn guessed(line: &[u8]) -> Event
-    ensures { λ r. ⌜ r ≡ guess (now (line .entry)) ⌝ }
+// The line of a create or borrow from its new name on; the whole line where the spelling writes none.
+fn from_name(spelling: Spelling, line: &[u8]) -> &[u8]
+    ensures { λ r. ⌜ now r ≡ fromName spelling (now (line .entry)) ⌝ }
 {
+    match spelling {
+        Spelling::Plain => line,
+        Spelling::Named => lines::after_space(line),
+    }
+}
+
+// The new name that this begins with.
+fn new_name_of(spelling: Spelling, word: &[u8]) -> NewName
+    ensures { λ r. ⌜ r ≡ newNameOf spelling (now (word .entry)) ⌝ }
+{
+    match spelling {
+        Spelling::Plain => NewName::Unwritten,
+        Spelling::Named => NewName::Written(name_of(word)),
+    }
+}
+
+fn create_of(spelling: Spelling, part: &[u8]) -> Event
+    ensures { λ r. ⌜ r ≡ createOf spelling (now (part .entry)) ⌝ }
+{
+    let start = lines::after_space(part);
+    let length = lines::after_space(start);
+    let right = lines::after_space(length);
+    Event::Create(
+        new_name_of(spelling, part),
+        span_of(start, length),
+        right_of(right),
+    )
+}
+
+fn borrow_of(spelling: Spelling, part: &[u8]) -> Event
+    ensures { λ r. ⌜ r ≡ borrowOf spelling (now (part .entry)) ⌝ }
+{
+    let name = lines::after_space(part);
+    let start = lines::after_space(name);
+    let length = lines::after_space(start);
+    let right = lines::after_space(length);
+    Event::Borrow(
+        new_name_of(spelling, part),
+        name_of(name),
+        span_of(start, length),
+        right_of(right),
+    )
+}
+
+// The one event whose spelling a line can be. Nothing is checked here.
+fn guessed(spelling: Spelling, line: &[u8]) -> Event
+    ensures { λ r. ⌜ r ≡ guess spelling (now (line .entry)) ⌝ }
+{
+    let kind = byte_at(line, 1);
+    if kind == b'c' {
+        return create_of(spelling, from_name(spelling, line));
+    }
+    if kind == b'b' {
+        return borrow_of(spelling, from_name(spelling, line));
+    }
     let first = lines::after_space(line);
     let second = lines::after_space(first);
     let third = lines::after_space(second);
-    let kind = byte_at(line, 1);
-    if kind == b'c' {
-        Event::Create(span_of(first, second), right_of(third))
-    } else if kind == b'b' {
-        let fourth = lines::after_space(third);
-        Event::Borrow(name_of(first), span_of(second, third), right_of(fourth))
-    } else if kind == b'r' {
+    if kind == b'r' {
         Event::Read(name_of(first), span_of(second, third))
     } else if kind == b'w' {
         Event::Write(name_of(first), span_of(second, third))
@@ -72,25 +123,25 @@ fn guessed(line: &[u8]) -> Event
     }
 }
 
-// Whether a line is the spelling of an event, the longest of which has 45 bytes.
-fn is_spelling(line: &[u8], event: Event) -> bool
-    requires { ⌜ length (spell event) ≤ 45 ⌝ }
-    ensures { λ r. ⌜ r ≡ isSpelling (now (line .entry)) event ⌝ }
+// Whether a line is the spelling of an event, the longest of which has 56 bytes.
+fn is_spelling(spelling: Spelling, line: &[u8], event: Event) -> bool
+    requires { ⌜ length (spell event) ≤ 56 ⌝ }
+    ensures { λ r. ⌜ r ≡ isSpelling spelling (now (line .entry)) event ⌝ }
 {
-    let mut buffer = [0u8; 45];
-    let written = write::write_event(event, &mut buffer);
+    let mut buffer = [0u8; 56];
+    let written = write::write_event(spelling, event, &mut buffer);
     let Written::Length(length) = written else {
         return false;
     };
     check::same(line, &buffer[..length])
 }
 
-// Reads a line by itself: the event whose spelling it is, its newline included, or refusal 2.
-pub fn read_event(line: &[u8]) -> EventRead
-    ensures { λ r. ⌜ readAnswer r ≡ readEvent (now (line .entry)) ⌝ }
+// Reads a line by itself: the event whose spelling it is, in one of the two, its newline included, or refusal 2.
+pub fn read_event(spelling: Spelling, line: &[u8]) -> EventRead
+    ensures { λ r. ⌜ readAnswer r ≡ readEvent spelling (now (line .entry)) ⌝ }
 {
-    let event = guessed(line);
-    if is_spelling(line, event) {
+    let event = guessed(spelling, line);
+    if is_spelling(spelling, line, event) {
         EventRead::Event(event)
     } else {
         EventRead::Refused(Refusal::Misspelt)

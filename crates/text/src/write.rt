@@ -1,9 +1,14 @@
 // Event lines, written: a line is measured first and written second, so that a refusal leaves the buffer untouched.
 use crate::pieces;
+use crate::spelling;
+use crate::spelling::Spelling;
 use model::Event;
+use model::Name;
+use model::NewName;
 use model::Refusal;
+use model::Span;
 ghost use mathlib.Core.Path.{_≡_};
-ghost use mathlib.Core.Bool.{true};
+ghost use mathlib.Core.Bool.{true, _&&_};
 ghost use mathlib.Core.List.{[], _++_};
 ghost use Rattle.model.specs.Table.{isRight};
 ghost use Rattle.text.specs.Event.{spaced, bytes, ending};
@@ -30,12 +35,20 @@ fn write_line(word: &[u8], numbers: &[u32], ending: &[u8], out: &mut [u8]) -> Wr
     Written::Length(end)
 }
 
-// The same with a right: 1 is `ro`, 2 is `rw`, and any other is refused.
-fn write_with_right(word: &[u8], numbers: &[u32], right: u8, out: &mut [u8]) -> Written
+// The same with a right: 1 is `ro`, 2 is `rw`, and any other is refused, as is a line that is not spelled so.
+fn write_with_right(
+    spelled: bool,
+    word: &[u8],
+    numbers: &[u32],
+    right: u8,
+    out: &mut [u8],
+) -> Written
     requires { ⌜ Short (now word) (now numbers) [] ⌝ }
-    ensures { λ r. ⌜ Writes (isRight right) (now (word .entry) ++ (spaced (now (numbers .entry)) ++ bytes (ending right))) (now (out .entry)) (now (out .exit)) r ⌝ }
+    ensures { λ r. ⌜ Writes (spelled && isRight right) (now (word .entry) ++ (spaced (now (numbers .entry)) ++ bytes (ending right))) (now (out .entry)) (now (out .exit)) r ⌝ }
 {
-    if right == 1 {
+    if !spelled {
+        Written::Refused(Refusal::Misspelt)
+    } else if right == 1 {
         write_line(word, numbers, b" ro)\n", out)
     } else if right == 2 {
         write_line(word, numbers, b" rw)\n", out)
@@ -44,19 +57,54 @@ fn write_with_right(word: &[u8], numbers: &[u32], right: u8, out: &mut [u8]) -> 
     }
 }
 
-// Writes the line of an event at the buffer's first bytes and answers its length; refusal 2 for a right that is neither 1 nor 2,
-// and 11 where the line is longer than the buffer.
-pub fn write_event(event: Event, out: &mut [u8]) -> Written
-    ensures { λ r. ⌜ outcome r (now (out .exit)) ≡ writeEvent event (now (out .entry)) ⌝ }
+fn write_create(spelling: Spelling, new: NewName, span: Span, right: u8, out: &mut [u8]) -> Written
+    ensures { λ r. ⌜ outcome r (now (out .exit)) ≡ writeEvent spelling (Event.Create new span right) (now (out .entry)) ⌝ }
+{
+    let spelled = spelling::writes_name(spelling, new);
+    match new {
+        NewName::Unwritten => {
+            let numbers = [span.start.0, span.length];
+            write_with_right(spelled, b"(create", &numbers, right, out)
+        }
+        NewName::Written(made) => {
+            let numbers = [made.0, span.start.0, span.length];
+            write_with_right(spelled, b"(create", &numbers, right, out)
+        }
+    }
+}
+
+fn write_borrow(
+    spelling: Spelling,
+    new: NewName,
+    name: Name,
+    span: Span,
+    right: u8,
+    out: &mut [u8],
+) -> Written
+    ensures { λ r. ⌜ outcome r (now (out .exit)) ≡ writeEvent spelling (Event.Borrow new name span right) (now (out .entry)) ⌝ }
+{
+    let spelled = spelling::writes_name(spelling, new);
+    match new {
+        NewName::Unwritten => {
+            let numbers = [name.0, span.start.0, span.length];
+            write_with_right(spelled, b"(borrow", &numbers, right, out)
+        }
+        NewName::Written(made) => {
+            let numbers = [made.0, name.0, span.start.0, span.length];
+            write_with_right(spelled, b"(borrow", &numbers, right, out)
+        }
+    }
+}
+
+// Writes the line of an event in one of the two spellings at the buffer's first bytes and answers its length; refusal 2 for a right
+// that is neither 1 nor 2 and for a name that is not written as in this spelling, and 11 where the line is longer than the buffer.
+pub fn write_event(spelling: Spelling, event: Event, out: &mut [u8]) -> Written
+    ensures { λ r. ⌜ outcome r (now (out .exit)) ≡ writeEvent spelling event (now (out .entry)) ⌝ }
 {
     match event {
-        Event::Create(span, right) => {
-            let numbers = [span.start.0, span.length];
-            write_with_right(b"(create", &numbers, right, out)
-        }
-        Event::Borrow(name, span, right) => {
-            let numbers = [name.0, span.start.0, span.length];
-            write_with_right(b"(borrow", &numbers, right, out)
+        Event::Create(new, span, right) => write_create(spelling, new, span, right, out),
+        Event::Borrow(new, name, span, right) => {
+            write_borrow(spelling, new, name, span, right, out)
         }
         Event::Read(name, span) => {
             let numbers = [name.0, span.start.0, span.length];

@@ -1,5 +1,6 @@
-// Runs the public calls on event lines, document 01, "The bracket text": its examples for refusals 2 and 11, and a table of good
-// and bad lines, which is standard input. Each case is one line of output: what it is, and what was answered.
+// Runs the public calls on event lines, document 01, "The bracket text", and card 1: the examples for refusals 2 and 11, and a table
+// of good and bad lines, which is standard input. Each case is one line of output: what it is, and what was answered; a line that is
+// read is answered in both spellings.
 mod reading;
 mod show;
 mod writing;

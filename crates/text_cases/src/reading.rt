@@ -3,6 +3,7 @@ use crate::show;
 use text::lines;
 use text::read;
 use text::read::EventRead;
+use text::spelling::Spelling;
 ghost use Prim.Native.Nat.{_≤_};
 
 // The place of the next such byte, or the end.
@@ -32,14 +33,21 @@ fn part(text: &[u8], start: usize, end: usize) -> &[u8] {
     &text[..0]
 }
 
-fn read(label: &[u8], line: &[u8]) {
-    show::say(label);
-    show::say(b":");
-    let answer = read::read_event(line);
+fn read_in(spelling: Spelling, line: &[u8]) {
+    let answer = read::read_event(spelling, line);
     match answer {
         EventRead::Event(event) => show::say_event(event),
         EventRead::Refused(refusal) => show::say_refusal(refusal),
     }
+}
+
+// Reads a line in both spellings.
+fn read(label: &[u8], line: &[u8]) {
+    show::say(label);
+    show::say(b":");
+    read_in(Spelling::Plain, line);
+    show::say(b" /");
+    read_in(Spelling::Named, line);
     show::say(b"\n");
 }
 
@@ -69,7 +77,7 @@ pub fn cases(table: &[u8]) {
 }
 
 fn is_read(line: &[u8; 9]) -> bool {
-    let answer = read::read_event(line);
+    let answer = read::read_event(Spelling::Plain, line);
     if let EventRead::Event(_) = answer {
         true
     } else {

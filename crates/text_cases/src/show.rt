@@ -2,6 +2,7 @@
 use libc::STDOUT_FILENO;
 use model::Event;
 use model::Name;
+use model::NewName;
 use model::Refusal;
 use model::Span;
 ghost use mathlib.Core.Path.{_≡_};
@@ -35,7 +36,7 @@ fn say_span(span: Span) {
     say_number(span.length);
 }
 
-// Document 01's number of a refusal.
+// The number of a refusal.
 fn number_of(refusal: Refusal) -> u32
     ensures { λ r. ⌜ r ≡ number refusal ⌝ }
 {
@@ -51,6 +52,7 @@ fn number_of(refusal: Refusal) -> u32
         Refusal::NamesSpent => 9,
         Refusal::TableFull => 10,
         Refusal::BufferTooShort => 11,
+        Refusal::Misnamed => 12,
     }
 }
 
@@ -59,16 +61,25 @@ pub fn say_refusal(refusal: Refusal) {
     say_number(number_of(refusal));
 }
 
-// An event: its kind, and its values, the right as 1 or 2.
+fn say_new(new: NewName) {
+    if let NewName::Written(name) = new {
+        say(b" named");
+        say_name(name);
+    }
+}
+
+// An event: its kind, its new name where that is written, and its values, the right as 1 or 2.
 pub fn say_event(event: Event) {
     match event {
-        Event::Create(span, right) => {
+        Event::Create(new, span, right) => {
             say(b" create");
+            say_new(new);
             say_span(span);
             say_right(right);
         }
-        Event::Borrow(name, span, right) => {
+        Event::Borrow(new, name, span, right) => {
             say(b" borrow");
+            say_new(new);
             say_name(name);
             say_span(span);
             say_right(right);

@@ -3,13 +3,15 @@ use crate::show;
 use model::Addr;
 use model::Event;
 use model::Name;
+use model::NewName;
 use model::Span;
+use text::spelling::Spelling;
 use text::write;
 use text::write::Written;
 
-fn write(label: &[u8], event: Event, out: &mut [u8]) {
+fn write(label: &[u8], spelling: Spelling, event: Event, out: &mut [u8]) {
     show::say(label);
-    let answer = write::write_event(event, out);
+    let answer = write::write_event(spelling, event, out);
     match answer {
         Written::Length(length) => show::say_length(length),
         Written::Refused(refusal) => show::say_refusal(refusal),
@@ -20,23 +22,37 @@ fn write(label: &[u8], event: Event, out: &mut [u8]) {
 }
 
 // Writes an event into so many bytes, at most 20.
-fn case(label: &[u8], event: Event, size: usize) {
+fn case(label: &[u8], spelling: Spelling, event: Event, size: usize) {
     let mut buffer = [b'.'; 20];
     if size <= 20 {
-        write(label, event, &mut buffer[..size]);
+        write(label, spelling, event, &mut buffer[..size]);
     }
 }
 
-fn create(label: &[u8], right: u8, size: usize) {
+fn create_in(label: &[u8], spelling: Spelling, new: NewName, right: u8, size: usize) {
     let span = Span {
         start: Addr(0),
         length: 64,
     };
-    case(label, Event::Create(span, right), size);
+    case(label, spelling, Event::Create(new, span, right), size);
+}
+
+fn create(label: &[u8], right: u8, size: usize) {
+    create_in(label, Spelling::Plain, NewName::Unwritten, right, size);
+}
+
+fn create_named(label: &[u8], right: u8, size: usize) {
+    create_in(
+        label,
+        Spelling::Named,
+        NewName::Written(Name(1)),
+        right,
+        size,
+    );
 }
 
 fn drop(label: &[u8], size: usize) {
-    case(label, Event::Drop(Name(1)), size);
+    case(label, Spelling::Plain, Event::Drop(Name(1)), size);
 }
 
 pub fn lengths() {
@@ -44,13 +60,36 @@ pub fn lengths() {
     drop(b"drop into 12 bytes:", 12);
     create(b"create ro into 20 bytes:", 1, 20);
     create(b"create rw into 20 bytes:", 2, 20);
+    create_named(b"create 1 rw into 20 bytes:", 2, 20);
+    case(
+        b"drop where names are written:",
+        Spelling::Named,
+        Event::Drop(Name(1)),
+        12,
+    );
 }
 
 pub fn refusals() {
     drop(b"document 01, refusal 11:", 8);
     drop(b"drop into no bytes:", 0);
     create(b"create into 16 bytes:", 1, 16);
+    create_named(b"create 1 into 18 bytes:", 1, 18);
     create(b"right 0:", 0, 20);
     create(b"right 3:", 3, 20);
     create(b"right 255 into 1 byte:", 255, 1);
+    create_named(b"right 3 where names are written:", 3, 20);
+    create_in(
+        b"no name where names are written:",
+        Spelling::Named,
+        NewName::Unwritten,
+        1,
+        20,
+    );
+    create_in(
+        b"name where none is written:",
+        Spelling::Plain,
+        NewName::Written(Name(1)),
+        1,
+        20,
+    );
 }

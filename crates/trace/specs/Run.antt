@@ -1,4 +1,4 @@
--- Document 01, "What each event does", its last paragraph: a run.
+-- Document 01, "What each event does", its last paragraph: a run; and card 1: a trace whose first line is `(trace 2)`.
 -- Assumes nothing.
 use Prim.Native.Nat.{ℕ, _+_}
 use mathlib.Core.Path.{_≡_}
@@ -19,10 +19,17 @@ use Rattle.table.specs.Rows.{Places, Orderly}
 use Rattle.rules.specs.Steps.{heldIn}
 use Rattle.text.specs.Result.{Result, value, refused}
 use Rattle.text.specs.Line.{linesOf}
-use Rattle.text.specs.Read.{readEvent}
+use Rattle.text.specs.Event.{bytes}
+use Rattle.text.specs.Read.{same, readEvent}
+use Rattle.text.specs.declared.spelling.Spelling.{Spelling}
+use Rattle.text.specs.declared.spelling.Spelling.the-variants.{Plain, Named}
 use Rattle.trace.specs.declared.run.RunAnswer.{RunAnswer}
 use Rattle.trace.specs.declared.run.RunAnswer.the-variants.{Allowed, Refused}
 use Rattle.trace.specs.declared.run.RunOutcome.{RunOutcome}
+
+-- card 1: the first line of a trace whose creates and borrows write their new names
+abbrev pub header : List ℕ
+header = bytes "(trace 2)\n"
 
 -- What takes the events of a run, over its own states: whether its table is in order, its answer to an event, and the state after an
 -- event and after a line that is refused for its spelling.
@@ -50,20 +57,25 @@ module _ {S : Type 0} (c : Checker S) where
   takeRead s (value e) = record { refusal = c .answer s e .refusal; state = c .after s e }
   takeRead s (refused r) = record { refusal = r; state = c .misspelt s }
 
-  abbrev pub takeLine : S → List ℕ → Taken S
-  takeLine s line = takeRead s (readEvent line)
+  abbrev pub takeLine : Spelling → S → List ℕ → Taken S
+  takeLine k s line = takeRead s (readEvent k line)
 
   -- "takes lines until one is refused": the lines of a run, where so many were taken before them
-  unfoldable pub runLines : ℕ → S → List (List ℕ) → Ran S
-  runLines before s [] = record { refusal = 0; number = before; state = s }
-  runLines before s (line ∷ lines) =
-      let taken = takeLine s line in
-      let rest = runLines (before + 1) (taken .state) lines in
+  unfoldable pub runLines : Spelling → ℕ → S → List (List ℕ) → Ran S
+  runLines k before s [] = record { refusal = 0; number = before; state = s }
+  runLines k before s (line ∷ lines) =
+      let taken = takeLine k s line in
+      let rest = runLines k (before + 1) (taken .state) lines in
       cond (eqb (taken .refusal) 0) rest (record { refusal = taken .refusal; number = before + 1; state = taken .state })
+
+  -- "The first line is counted as a line but is no event. Old traces are still read"
+  unfoldable pub runTrace : S → List (List ℕ) → Ran S
+  runTrace s [] = runLines Plain 0 s []
+  runTrace s (line ∷ lines) = cond (same line header) (runLines Named 1 s lines) (runLines Plain 0 s (line ∷ lines))
 
   -- refusal 1, with any text and before its first line, changes nothing
   unfoldable pub runFrom : S → List ℕ → Ran S
-  runFrom s text = cond (c .ordered s) (runLines 0 s (linesOf text)) (record { refusal = 1; number = 0; state = s })
+  runFrom s text = cond (c .ordered s) (runTrace s (linesOf text)) (record { refusal = 1; number = 0; state = s })
 
 -- what the caller lends: "Refusals 2 to 10 of .. a line in a run add one to the refused count and change no more"
 abbrev pub lent : Checker State
@@ -88,6 +100,11 @@ pub record Runs (ws : List ℕ) (n : ℕ) (t : Tally) (text ws′ : List ℕ) (r
   pub ran : ranOf (r .answer) (heldIn ws′ n (r .tally)) ≡ run (heldIn ws n t) text
   pub long : length ws′ ≡ 6144
 
+-- the lines of a text on the words ws, in one spelling, where so many lines were taken before them
+pub record RunsLines (k : Spelling) (before : ℕ) (ws : List ℕ) (n : ℕ) (t : Tally) (text ws′ : List ℕ) (r : RunOutcome) : Type 0 where
+  pub ran : ranOf (r .answer) (heldIn ws′ n (r .tally)) ≡ runLines lent k before (heldIn ws n t) (linesOf text)
+  pub long : length ws′ ≡ 6144
+
 -- words of a table of n rows in order, of which so many live; places has where the parent of each stands
 pub record Known (ws : List ℕ) (n live issued : ℕ) (places : List ℕ) : Type 0 where
   pub orderly : Orderly (rowsIn ws) n live issued
@@ -95,7 +112,7 @@ pub record Known (ws : List ℕ) (n live issued : ℕ) (places : List ℕ) : Typ
   pub long : length ws ≡ 6144
 
 -- a line on the words ws of a table of n rows leaves the words ws′: its refusal, and the state after it
-pub record Takes (ws : List ℕ) (n : ℕ) (t : Tally) (line ws′ : List ℕ) (r : Outcome) : Type 0 where
-  pub refusal : verdictOf (r .answer) .refusal ≡ takeLine lent (heldIn ws n t) line .refusal
-  pub state : heldIn ws′ n (r .tally) ≡ takeLine lent (heldIn ws n t) line .state
+pub record Takes (k : Spelling) (ws : List ℕ) (n : ℕ) (t : Tally) (line ws′ : List ℕ) (r : Outcome) : Type 0 where
+  pub refusal : verdictOf (r .answer) .refusal ≡ takeLine lent k (heldIn ws n t) line .refusal
+  pub state : heldIn ws′ n (r .tally) ≡ takeLine lent k (heldIn ws n t) line .state
   pub long : length ws′ ≡ 6144

@@ -36,6 +36,7 @@ pub fn number_of(refusal: Refusal) -> u32
         Refusal::NamesSpent => 9,
         Refusal::TableFull => 10,
         Refusal::BufferTooShort => 11,
+        Refusal::Misnamed => 12,
     }
 }
 

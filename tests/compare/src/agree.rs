@@ -4,7 +4,7 @@ use std::fmt::Debug;
 use std::sync::atomic::{AtomicU64, Ordering};
 
 use interface::{Cap, Event, Interface};
-use oracle::{Refused, Row, Tally};
+use oracle::{Refused, Row, Span, Spelling, Tally};
 
 /// The implementation under test.
 pub type Subject = &'static dyn Interface;
@@ -44,16 +44,22 @@ pub fn packed_run(answer: oracle::Run) -> u64 {
 }
 
 pub fn oracle_event(event: Event) -> oracle::Event {
-    oracle::Event::from_fields(
-        event.kind,
-        event.name,
-        event.start,
-        event.length,
-        event.right,
-    )
+    let span = Span {
+        start: event.start,
+        length: event.length,
+    };
+    oracle::Event::from_fields(event.kind, event.written, event.name, span, event.right)
 }
 
-fn same<T: PartialEq + Debug>(what: &str, expected: T, found: T) -> Agreed {
+/// The spelling in which the interface writes the event.
+pub fn spelling_of(event: Event) -> Spelling {
+    match event.written {
+        Some(_) => Spelling::Named,
+        None => Spelling::Plain,
+    }
+}
+
+pub fn same<T: PartialEq + Debug>(what: &str, expected: T, found: T) -> Agreed {
     if expected == found {
         return Ok(());
     }
@@ -126,21 +132,30 @@ fn lend(
 }
 
 /// How often events were allowed, and refused by each number.
-static MET: [AtomicU64; 11] = [const { AtomicU64::new(0) }; 11];
+static MET: [AtomicU64; 13] = [const { AtomicU64::new(0) }; 13];
+
+/// The refusal that only a writer gives.
+const BUFFER_TOO_SHORT: usize = 11;
 
 /// Whether events have met every answer that an event can meet, and how often.
 pub fn every_answer_met() -> Result<u64, String> {
     let met = MET.each_ref().map(|count| count.load(Ordering::Relaxed));
-    match met.iter().all(|count| *count > 0) {
+    let as_due = |number: usize| (met[number] > 0) == (number != BUFFER_TOO_SHORT);
+    match (0..met.len()).all(as_due) {
         true => Ok(met.iter().sum()),
-        false => Err(format!("allowed and refusals 1 to 10: {met:?}")),
+        false => Err(format!("allowed and refusals 1 to 12: {met:?}")),
     }
+}
+
+/// One event by the oracle alone.
+pub fn oracle_apply(lent: &mut Lent, event: Event) -> Result<u32, Refused> {
+    oracle::apply(&mut lent.rows, &mut lent.tally, oracle_event(event))
 }
 
 /// One event on what is lent, which is then as the event leaves it.
 pub fn apply(subject: Subject, lent: &mut Lent, event: Event) -> Result<u64, String> {
     let (answer, found) = lend(lent, |table, tally| subject.apply(table, tally, event))?;
-    let verdict = oracle::apply(&mut lent.rows, &mut lent.tally, oracle_event(event));
+    let verdict = oracle_apply(lent, event);
     MET[usize::from(verdict.err().unwrap_or(0))].fetch_add(1, Ordering::Relaxed);
     same_answer(packed(verdict), answer)?;
     same_lent(lent, &found)?;
@@ -163,25 +178,41 @@ pub fn run(subject: Subject, lent: &mut Lent, text: &[u8]) -> Result<u64, String
     Ok(answer)
 }
 
+/// What the fields of a line hold before it is read, and after a refusal.
+const UNTOUCHED: u32 = 0xA5A5_A5A5;
+
+/// A line in the plain spelling.
 pub fn read_event(subject: Subject, line: &[u8]) -> Agreed {
-    let untouched = [0xA5A5_A5A5; 5];
-    let mut fields = untouched;
+    let mut fields = [UNTOUCHED; 5];
     let answer = subject.read_event(line, &mut fields);
-    match oracle::read_event_line(line) {
-        Some(event) => {
-            same_answer(packed(Ok(0)), answer)?;
-            same("fields", event.fields(), fields)
-        }
-        None => {
-            same_answer(packed(Err(2)), answer)?;
-            same("fields", untouched, fields)
-        }
+    let read = oracle::read_event_line(line, Spelling::Plain);
+    same_answer(packed(read.map(|_| 0).ok_or(2)), answer)?;
+    let expected = read.map_or([UNTOUCHED; 5], oracle::Event::fields);
+    same("fields", expected, fields)
+}
+
+/// A line in the named spelling.
+pub fn read_named(subject: Subject, line: &[u8]) -> Agreed {
+    let mut fields = [UNTOUCHED; 6];
+    let answer = subject.read_named(line, &mut fields);
+    let read = oracle::read_event_line(line, Spelling::Named);
+    same_answer(packed(read.map(|_| 0).ok_or(2)), answer)?;
+    let expected = read.map_or([UNTOUCHED; 6], oracle::Event::named_fields);
+    same("fields", expected, fields)
+}
+
+/// A line in the given spelling.
+pub fn read_line(subject: Subject, line: &[u8], spelling: Spelling) -> Agreed {
+    match spelling {
+        Spelling::Plain => read_event(subject, line),
+        Spelling::Named => read_named(subject, line),
     }
 }
 
 pub fn write_event(subject: Subject, event: Event) -> Agreed {
+    let spelling = spelling_of(event);
     into_buffers(
-        |size| oracle::write_event(oracle_event(event), size),
+        |size| oracle::write_event(oracle_event(event), spelling, size),
         |out| subject.write_event(event, out),
     )
 }

@@ -3,86 +3,140 @@
 use std::collections::BTreeSet;
 
 use interface::Event;
-use oracle::{History, MAX_DEPTH, MAX_NAME, MAX_ROWS, Row, Span};
+use oracle::{History, MAX_DEPTH, MAX_NAME, MAX_ROWS, Row, Span, Spelling};
 
 use crate::agree::{self, Agreed, Lent, Subject, oracle_event, packed, same_answer};
 use crate::generate::{self, Shape};
 use crate::random::Random;
 use crate::report::{Checked, Report, shrink};
 
-pub fn groups(report: &mut Report, subject: Subject) {
-    report.group("events on ordered tables", |random| {
-        on_tables(random, subject, 8_000, 8, |random| {
+/// Tables of one sort: how many of them, how many events on each, and how one is made.
+struct Tables {
+    name: &'static str,
+    count: u64,
+    events: usize,
+    table: fn(&mut Random) -> Lent,
+}
+
+const TABLES: [Tables; 9] = [
+    Tables {
+        name: "ordered tables",
+        count: 8_000,
+        events: 8,
+        table: |random| {
             let shape = Shape::partly_full(random, 16);
             generate::ordered(random, &shape)
-        })
-    });
-    report.group("events on tables of any size", |random| {
-        on_tables(random, subject, 300, 2, |random| {
+        },
+    },
+    Tables {
+        name: "tables of any size",
+        count: 300,
+        events: 2,
+        table: |random| {
             let shape = Shape::partly_full(random, MAX_ROWS);
             generate::ordered(random, &shape)
-        })
-    });
-    report.group("events on full tables", |random| {
-        on_tables(random, subject, 4_000, 4, |random| {
+        },
+    },
+    Tables {
+        name: "full tables",
+        count: 4_000,
+        events: 4,
+        table: |random| {
             let rows = random.between(1, 40);
             let shape = Shape::full(random, rows);
             generate::ordered(random, &shape)
-        })
-    });
-    report.group("events on deep tables", |random| {
-        on_tables(random, subject, 1_600, 2, |random| {
+        },
+    },
+    Tables {
+        name: "deep tables",
+        count: 1_600,
+        events: 2,
+        table: |random| {
             let live = random.between(60, 140);
             let rows = live + random.index(3);
             let deep = true;
             generate::ordered(random, &Shape { rows, live, deep })
-        })
-    });
-    report.group("events on large tables", |random| {
-        on_tables(random, subject, 120, 4, |random| {
+        },
+    },
+    Tables {
+        name: "large tables",
+        count: 120,
+        events: 4,
+        table: |random| {
             let rows = random.between(900, MAX_ROWS);
             let live = rows - random.index(3);
             let deep = random.one_in(6);
             generate::ordered(random, &Shape { rows, live, deep })
-        })
-    });
-    report.group("events on disordered tables", |random| {
-        on_tables(random, subject, 30_000, 2, |random| {
+        },
+    },
+    Tables {
+        name: "disordered tables",
+        count: 30_000,
+        events: 2,
+        table: |random| {
             let shape = Shape::partly_full(random, 12);
             let mut lent = generate::ordered(random, &shape);
             for _ in 0..random.between(1, 2) {
                 generate::disturb(random, &mut lent);
             }
             lent
-        })
-    });
-    report.group("events on large disordered tables", |random| {
-        on_tables(random, subject, 600, 1, |random| {
+        },
+    },
+    Tables {
+        name: "large disordered tables",
+        count: 600,
+        events: 1,
+        table: |random| {
             let rows = random.between(1_000, MAX_ROWS);
             let shape = Shape::full(random, rows);
             let mut lent = generate::ordered(random, &shape);
             generate::disturb(random, &mut lent);
             lent
-        })
-    });
-    report.group("events on tables of noise", |random| {
-        on_tables(random, subject, 10_000, 1, noise)
-    });
-    report.group("events on more than 1,024 rows", |random| {
-        on_tables(random, subject, 60, 2, |random| {
+        },
+    },
+    Tables {
+        name: "tables of noise",
+        count: 10_000,
+        events: 1,
+        table: noise,
+    },
+    Tables {
+        name: "more than 1,024 rows",
+        count: 60,
+        events: 2,
+        table: |random| {
             let mut lent = Lent::empty(random.pick(&[1_025, 1_026, 2_048, 6_000]));
             lent.tally = generate::tally(random);
             lent
-        })
-    });
-    report.group("events on tables at their limits", |random| {
-        at_limits(random, subject)
-    });
+        },
+    },
+];
+
+pub fn groups(report: &mut Report, subject: Subject) {
+    for (events, spelling) in [
+        ("events", Spelling::Plain),
+        ("named events", Spelling::Named),
+    ] {
+        for tables in &TABLES {
+            report.group(&format!("{events} on {}", tables.name), |random| {
+                on_tables(random, subject, tables, spelling)
+            });
+        }
+        report.group(&format!("{events} on tables at their limits"), |random| {
+            at_limits(random, subject, spelling)
+        });
+    }
     report.group("lists of events and their history", |random| {
-        histories(random, subject, 1_600, 24)
+        histories(random, subject, 1_600, 24, Spelling::Plain)
     });
     report.group("long lists of events and their history", |random| {
-        histories(random, subject, 40, 90)
+        histories(random, subject, 40, 90, Spelling::Plain)
+    });
+    report.group("lists of named events and their history", |random| {
+        histories(random, subject, 1_600, 24, Spelling::Named)
+    });
+    report.group("long lists of named events and their history", |random| {
+        histories(random, subject, 40, 90, Spelling::Named)
     });
 }
 
@@ -112,7 +166,7 @@ fn chain(first_name: u32, rows: usize) -> Vec<Row> {
 }
 
 /// Tables in order but for one limit, and tables just within it.
-fn at_limits(random: &mut Random, subject: Subject) -> Checked {
+fn at_limits(random: &mut Random, subject: Subject, spelling: Spelling) -> Checked {
     let depth = MAX_DEPTH as usize;
     let mut tables = Vec::new();
     for rows in depth - 1..=depth + 2 {
@@ -137,10 +191,10 @@ fn at_limits(random: &mut Random, subject: Subject) -> Checked {
             let mut tally = generate::tally(random);
             tally.issued = issued;
             let rows = rows.clone();
-            cases += on_tables(random, subject, 2, 6, |_| Lent {
-                rows: rows.clone(),
-                tally,
-            })?;
+            let lent = Lent { rows, tally };
+            for _ in 0..2 {
+                cases += on_table(random, subject, &lent, 6, spelling)?;
+            }
         }
     }
     Ok(cases)
@@ -150,17 +204,28 @@ fn at_limits(random: &mut Random, subject: Subject) -> Checked {
 fn on_tables(
     random: &mut Random,
     subject: Subject,
-    tables: u64,
-    events: usize,
-    table: impl Fn(&mut Random) -> Lent,
+    tables: &Tables,
+    spelling: Spelling,
 ) -> Checked {
-    for _ in 0..tables {
-        let lent = table(random);
-        let events = generate::events(random, lent.clone(), events);
-        agree::apply_all(subject, lent.clone(), &events)
-            .map_err(|_| smallest_table(subject, &lent, &events))?;
+    let mut cases = 0;
+    for _ in 0..tables.count {
+        let lent = (tables.table)(random);
+        cases += on_table(random, subject, &lent, tables.events, spelling)?;
     }
-    Ok(tables * events as u64)
+    Ok(cases)
+}
+
+fn on_table(
+    random: &mut Random,
+    subject: Subject,
+    lent: &Lent,
+    count: usize,
+    spelling: Spelling,
+) -> Checked {
+    let events = generate::events(random, lent.clone(), count, spelling);
+    agree::apply_all(subject, lent.clone(), &events)
+        .map_err(|_| smallest_table(subject, lent, &events))?;
+    Ok(count as u64)
 }
 
 /// A small table and few events that still fail.
@@ -177,8 +242,15 @@ fn smallest_table(subject: Subject, lent: &Lent, events: &[Event]) -> String {
     format!("{why}\n  rows {rows:?}\n  tally {tally:?}\n  events {events:?}")
 }
 
-/// Lists of events from empty tables, beside the history of document 01.
-fn histories(random: &mut Random, subject: Subject, lists: u64, length: usize) -> Checked {
+/// Lists of events from empty tables, beside the history of document 01. In the named spelling some
+/// events write no name all the same.
+fn histories(
+    random: &mut Random,
+    subject: Subject,
+    lists: u64,
+    length: usize,
+    spelling: Spelling,
+) -> Checked {
     for _ in 0..lists {
         let mut lent = Lent::empty(match random.below(20) {
             0 => MAX_ROWS,
@@ -186,7 +258,10 @@ fn histories(random: &mut Random, subject: Subject, lists: u64, length: usize) -
             _ => random.between(0, 14),
         });
         lent.tally = generate::tally(random);
-        let events = generate::events(random, lent.clone(), length);
+        let mut events = generate::events(random, lent.clone(), length, spelling);
+        for event in &mut events {
+            event.written = event.written.filter(|_| !random.one_in(4));
+        }
         follow_history(subject, lent.clone(), &events)
             .map_err(|_| smallest_list(subject, &lent, &events))?;
     }
@@ -263,6 +338,7 @@ fn demand_three(
             for (kind, expected) in [(3, may_read), (4, may_write)] {
                 let event = Event {
                     kind,
+                    written: None,
                     name,
                     start: span.start,
                     length: span.length,

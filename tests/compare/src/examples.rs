@@ -1,9 +1,10 @@
-//! Every trace and example of document 01, with the answers written out.
+//! Every trace and example of document 01 and of card 1, with the answers written out.
 
 use interface::Event;
-use oracle::{MAX_DEPTH, MAX_NAME, MAX_ROWS, Tally};
+use oracle::{MAX_DEPTH, MAX_NAME, MAX_ROWS, Spelling, Tally};
 
 use crate::agree::{self, Agreed, Lent, Subject, packed, same_answer};
+use crate::generate;
 use crate::report::{Checked, Report};
 
 /// A line and its answer.
@@ -173,7 +174,12 @@ pub fn groups(report: &mut Report, subject: Subject) {
     report.group("refusal 2", |_| misspelt(subject));
     report.group("refusal 9", |_| check_trace(subject, &names_spent()));
     report.group("refusal 11", |_| short_buffer(subject));
-    report.group("capcheck's example", |_| capcheck(subject));
+    report.group("capcheck's example", |_| {
+        capcheck(subject, CAPCHECK_INPUT, CAPCHECK_OUTPUT)
+    });
+    report.group("named traces and refusals", |_| named_traces(subject));
+    report.group("refusal 12, misnamed", |_| misnamed(subject));
+    report.group("capcheck's examples, named", |_| named_capcheck(subject));
 }
 
 fn one_row() -> Trace<'static> {
@@ -290,6 +296,7 @@ fn read(subject: Subject, line: &str) -> Result<Event, String> {
     let [kind, name, start, length, right] = fields;
     Ok(Event {
         kind: kind as u8,
+        written: None,
         name,
         start,
         length,
@@ -370,13 +377,132 @@ fn short_buffer(subject: Subject) -> Checked {
     }
 }
 
-fn capcheck(subject: Subject) -> Checked {
+fn capcheck(subject: Subject, input: &str, output: &str) -> Checked {
     let mut out = [0; 256];
-    let answer = subject.check(CAPCHECK_INPUT.as_bytes(), &mut out);
-    same_answer(CAPCHECK_OUTPUT.len() as u64, answer)?;
-    if !out.starts_with(CAPCHECK_OUTPUT.as_bytes()) {
+    let answer = subject.check(input.as_bytes(), &mut out);
+    same_answer(output.len() as u64, answer)?;
+    if !out.starts_with(output.as_bytes()) {
         return Err(String::from_utf8_lossy(&out).into_owned());
     }
-    agree::check(subject, CAPCHECK_INPUT.as_bytes())?;
+    agree::check(subject, input.as_bytes())?;
     Ok(7)
+}
+
+/// Inputs with names written, and what capcheck prints.
+const NAMED_CAPCHECK: [(&str, &str); 6] = [
+    (
+        "(trace 2)\n(create 1 0 64 rw)\n(borrow 2 1 0 8 rw)\n",
+        "(allowed 3)\n(issued 2)\n(1 0 64 rw (2 0 8 rw))\n",
+    ),
+    ("(trace 2)\n", "(allowed 1)\n(issued 0)\n"),
+    ("(trace 2)", "(refused 2 1)\n(issued 0)\n"),
+    ("(trace 1)\n", "(refused 2 1)\n(issued 0)\n"),
+    ("(trace 2)\n(trace 2)\n", "(refused 2 2)\n(issued 0)\n"),
+    (
+        "(trace 2)\n(create 1 0 64 rw)\n(borrow 3 1 0 8 rw)\n",
+        "(refused 12 3)\n(issued 1)\n(1 0 64 rw)\n",
+    ),
+];
+
+fn named_capcheck(subject: Subject) -> Checked {
+    let mut cases = 0;
+    for (input, output) in NAMED_CAPCHECK {
+        cases += capcheck(subject, input, output)?;
+    }
+    Ok(cases)
+}
+
+/// The traces and refusals above with right names and with wrong ones.
+fn named_traces(subject: Subject) -> Checked {
+    let in_room = TRACES.map(|(_, steps, listing)| (16, steps, listing));
+    let in_two = REFUSALS.map(|(_, steps, listing)| (2, steps, listing));
+    let traces = in_room.into_iter().chain(in_two);
+    let traces = traces.map(|(rows, steps, listing)| Trace {
+        rows,
+        issued: 0,
+        steps,
+        listing,
+    });
+    let others = [one_row(), no_rows(), last_name(), names_spent()];
+    let mut cases = 0;
+    for trace in traces.chain(others) {
+        let mut lent = Lent::empty(trace.rows);
+        lent.tally.issued = trace.issued;
+        for (line, expected) in trace.steps {
+            let event = read(subject, line)?;
+            check_names(subject, &lent, event, *expected)
+                .map_err(|why| format!("{line}, named: {why}"))?;
+            agree::apply(subject, &mut lent, event)?;
+            cases += 12;
+        }
+    }
+    Ok(cases)
+}
+
+/// An event with its right name has the answer that it has without. With a wrong one it is refused
+/// 12 where it makes something, unless a refusal up to 9 comes first.
+fn check_names(subject: Subject, lent: &Lent, event: Event, expected: Result<u32, u8>) -> Agreed {
+    let next = lent.tally.issued + 1;
+    let makes = event.kind <= 2;
+    let with_wrong = match expected {
+        Ok(_) | Err(10) if makes => Err(12),
+        other => other,
+    };
+    check_name(subject, lent.clone(), event, next, expected)?;
+    for wrong in [0, next - 1, next + 1, MAX_NAME + 2, u32::MAX] {
+        check_name(subject, lent.clone(), event, wrong, with_wrong)?;
+    }
+    Ok(())
+}
+
+/// The event with a written name, by itself and as a run of its own.
+fn check_name(
+    subject: Subject,
+    lent: Lent,
+    event: Event,
+    name: u32,
+    expected: Result<u32, u8>,
+) -> Agreed {
+    let event = Event {
+        written: Some(name),
+        ..event
+    };
+    let answer = agree::apply(subject, &mut lent.clone(), event)?;
+    same_answer(packed(expected), answer).map_err(|why| format!("name {name}: {why}"))?;
+    let text = generate::trace(&[event], Spelling::Named);
+    let answer = agree::run(subject, &mut lent.clone(), &text)?;
+    let as_run = expected.map(|_| 2).map_err(|number| (number, 2));
+    same_answer(agree::packed_run(as_run), answer).map_err(|why| format!("run, {name}: {why}"))
+}
+
+/// Lines of a trace with names on two rows, each as a run after `(create 1 0 64 rw)`, and their
+/// answers: 12 comes after 2 to 8 and before 10.
+const MISNAMED: [Step; 12] = [
+    ("(borrow 2 1 0 8 rw)", Ok(2)),
+    ("(borrow 3 1 0 8 rw)", Err(12)),
+    ("(borrow 1 1 0 8 rw)", Err(12)),
+    ("(borrow 0 1 0 8 rw)", Err(12)),
+    ("(borrow 1000001 1 0 8 rw)", Err(12)),
+    ("(borrow 4294967295 1 0 8 rw)", Err(12)),
+    ("(create 3 0 8 rw)", Err(12)),
+    ("(borrow 3 01 0 8 rw)", Err(2)),
+    ("(create 3 0 0 rw)", Err(3)),
+    ("(borrow 3 2 0 8 rw)", Err(4)),
+    ("(borrow 3 1 60 8 rw)", Err(6)),
+    ("(create 0 8 rw)", Err(2)),
+];
+
+fn misnamed(subject: Subject) -> Checked {
+    let mut cases = 0;
+    for (line, expected) in MISNAMED {
+        let text = format!("(trace 2)\n(create 1 0 64 rw)\n{line}\n");
+        let mut lent = Lent::empty(2);
+        let answer = agree::run(subject, &mut lent, text.as_bytes())?;
+        let as_run = expected.map(|_| 3).map_err(|number| (number, 3));
+        same_answer(agree::packed_run(as_run), answer).map_err(|why| format!("{line}: {why}"))?;
+        let refused = u32::from(expected.is_err());
+        agree::same("refused", refused, lent.tally.refused)?;
+        cases += 1;
+    }
+    Ok(cases)
 }

@@ -1,9 +1,9 @@
 //! Random tables, tallies, events and texts.
 
 use interface::Event;
-use oracle::{MAX_DEPTH, MAX_NAME, Row, Span, Tally};
+use oracle::{HEADER, MAX_DEPTH, MAX_NAME, Row, Span, Spelling, Tally};
 
-use crate::agree::{Lent, oracle_event};
+use crate::agree::{self, Lent, oracle_event};
 use crate::random::Random;
 
 /// The shape of a table in order.
@@ -202,9 +202,9 @@ fn near(random: &mut Random, number: u32) -> u32 {
     }
 }
 
-/// An event that has something to do with the table. Values that its kind lacks are filled too,
-/// because nobody may look at them.
-pub fn event(random: &mut Random, lent: &Lent, area: Span) -> Event {
+/// An event that has something to do with the table, in the named spelling with a written name.
+/// Values that its kind lacks are filled too, because nobody may look at them.
+fn event(random: &mut Random, lent: &Lent, area: Span, spelling: Spelling) -> Event {
     let live = oracle::live_rows(&lent.rows);
     let user = match random.below(6) {
         0 => None,
@@ -233,6 +233,10 @@ pub fn event(random: &mut Random, lent: &Lent, area: Span) -> Event {
             true => random.pick(&[0, 6, 7, 128, 255]),
             false => random.pick(&[1, 2, 2, 2, 3, 3, 4, 4, 5]),
         },
+        written: match spelling {
+            Spelling::Plain => None,
+            Spelling::Named => Some(written_name(random, lent.tally.issued)),
+        },
         name: user.map_or_else(|| stray_name(random, lent.tally.issued), |user| user.name),
         start: span.start,
         length: span.length,
@@ -252,34 +256,71 @@ fn stray_name(random: &mut Random, issued: u32) -> u32 {
     }
 }
 
+/// The new name that is right in most cases.
+fn written_name(random: &mut Random, issued: u32) -> u32 {
+    match random.below(8) {
+        0 => wrong_name(random, issued),
+        _ => issued.wrapping_add(1),
+    }
+}
+
+/// A new name that is hardly ever right.
+pub fn wrong_name(random: &mut Random, issued: u32) -> u32 {
+    let edges = [
+        0,
+        1,
+        issued,
+        issued.wrapping_add(2),
+        issued.wrapping_add(1) ^ 1 << 16,
+        MAX_NAME,
+        MAX_NAME + 1,
+        u32::MAX,
+    ];
+    match random.one_in(3) {
+        true => random.number(),
+        false => random.pick(&edges),
+    }
+}
+
 /// Events made one after the other on what the last left, most of them allowed.
-pub fn events(random: &mut Random, mut lent: Lent, count: usize) -> Vec<Event> {
+pub fn events(random: &mut Random, mut lent: Lent, count: usize, spelling: Spelling) -> Vec<Event> {
     let area = area(random);
     let mut events = Vec::with_capacity(count);
     for _ in 0..count {
-        let mut event = self::event(random, &lent, area);
+        let mut event = self::event(random, &lent, area, spelling);
         let mut tries = random.below(6);
         while tries > 0 && !is_allowed(&lent, event) {
-            event = self::event(random, &lent, area);
+            event = self::event(random, &lent, area, spelling);
             tries -= 1;
         }
-        let _ = oracle::apply(&mut lent.rows, &mut lent.tally, oracle_event(event));
+        let _ = agree::oracle_apply(&mut lent, event);
         events.push(event);
     }
     events
 }
 
 fn is_allowed(lent: &Lent, event: Event) -> bool {
-    let mut copy = lent.clone();
-    oracle::apply(&mut copy.rows, &mut copy.tally, oracle_event(event)).is_ok()
+    agree::oracle_apply(&mut lent.clone(), event).is_ok()
 }
 
-/// The lines of the events that have a spelling.
-pub fn trace(events: &[Event]) -> Vec<u8> {
-    let lines = events
-        .iter()
-        .filter_map(|event| oracle::event_line(oracle_event(*event)));
+/// The event's line, if it has one.
+pub fn line(event: Event, spelling: Spelling) -> Option<String> {
+    oracle::event_line(oracle_event(event), spelling)
+}
+
+/// The lines of the events that have a spelling of this sort.
+pub fn lines(events: &[Event], spelling: Spelling) -> Vec<u8> {
+    let lines = events.iter().filter_map(|event| line(*event, spelling));
     lines.collect::<String>().into_bytes()
+}
+
+/// The trace of the events that have a spelling of this sort.
+pub fn trace(events: &[Event], spelling: Spelling) -> Vec<u8> {
+    let header = match spelling {
+        Spelling::Plain => b"",
+        Spelling::Named => HEADER,
+    };
+    [header, &lines(events, spelling)].concat()
 }
 
 /// Bytes that mean something somewhere in a text, and some that mean nothing.

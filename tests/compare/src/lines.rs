@@ -1,8 +1,9 @@
-//! Event lines, written and read.
+//! Event lines, written and read, in both spellings.
 
 use interface::Event;
+use oracle::Spelling;
 
-use crate::agree::{self, Agreed, Subject, oracle_event};
+use crate::agree::{self, Agreed, Subject};
 use crate::generate;
 use crate::random::Random;
 use crate::report::{Checked, Report, shrink};
@@ -20,6 +21,24 @@ const SAMPLES: [&str; 12] = [
     "(drop 4294967295)\n",
     "(read 01 0 8)\n",
     "(drop )\n",
+    "\n",
+];
+
+/// The same for the named spelling, and lines of the plain one.
+const NAMED_SAMPLES: [&str; 14] = [
+    "(create 1 0 64 rw)\n",
+    "(create 4294967295 4294967295 1 ro)\n",
+    "(create 0 0 0 rw)\n",
+    "(borrow 2 1 10 8 rw)\n",
+    "(borrow 1000001 1000000 4294967295 4294967295 ro)\n",
+    "(read 1 0 8)\n",
+    "(write 7 100 1)\n",
+    "(drop 1)\n",
+    "(create 0 64 rw)\n",
+    "(borrow 1 10 8 rw)\n",
+    "(read 2 1 0 8)\n",
+    "(drop 2 1)\n",
+    "(trace 2)\n",
     "\n",
 ];
 
@@ -50,17 +69,43 @@ const NUMBERS: [&str; 21] = [
 
 const RIGHTS: [&str; 8] = ["ro", "rw", "", "r", "rww", "RW", "1", "wr"];
 
+/// A spelling, the name of its lines, and samples of them.
+type Sort = (Spelling, &'static str, &'static [&'static str]);
+
+const SORTS: [Sort; 2] = [
+    (Spelling::Plain, "event lines", &SAMPLES),
+    (Spelling::Named, "named lines", &NAMED_SAMPLES),
+];
+
 pub fn groups(report: &mut Report, subject: Subject) {
-    report.group("event lines written", |random| written(random, subject));
-    report.group("event lines read", |random| read_whole(random, subject));
-    report.group("event lines damaged", |random| damaged(random, subject));
-    report.group("every change of one byte of a line", |_| {
-        each_byte(&SAMPLES, |line| agree::read_event(subject, line))
+    for (spelling, lines, samples) in SORTS {
+        report.group(&format!("{lines} written"), |random| {
+            written(random, subject, spelling)
+        });
+        report.group(&format!("{lines} read"), |random| {
+            read_whole(random, subject, spelling, spelling)
+        });
+        report.group(&format!("{lines} damaged"), |random| {
+            damaged(random, subject, spelling)
+        });
+        report.group(&format!("every change of one byte of {lines}"), |_| {
+            each_byte(samples, |line| agree::read_line(subject, line, spelling))
+        });
+    }
+    report.group("plain lines read as named ones", |random| {
+        read_whole(random, subject, Spelling::Plain, Spelling::Named)
+    });
+    report.group("named lines read as plain ones", |random| {
+        read_whole(random, subject, Spelling::Named, Spelling::Plain)
     });
     report.group("numbers and rights in a line", |_| words(subject));
+    report.group("numbers and rights in a named line", |_| {
+        named_words(subject)
+    });
 }
 
-fn random_event(random: &mut Random) -> Event {
+/// An event of any numbers.
+fn random_event(random: &mut Random, spelling: Spelling) -> Event {
     Event {
         kind: match random.one_in(20) {
             true => random.next() as u8,
@@ -73,27 +118,32 @@ fn random_event(random: &mut Random) -> Event {
             true => random.next() as u8,
             false => random.between(1, 2) as u8,
         },
+        written: match spelling {
+            Spelling::Plain => None,
+            Spelling::Named => Some(random.number()),
+        },
     }
 }
 
-fn written(random: &mut Random, subject: Subject) -> Checked {
+fn written(random: &mut Random, subject: Subject, spelling: Spelling) -> Checked {
     let events = 20_000;
     for _ in 0..events {
-        let event = random_event(random);
+        let event = random_event(random, spelling);
         agree::write_event(subject, event).map_err(|why| format!("{why}\n  {event:?}"))?;
     }
     Ok(events)
 }
 
 /// The lines of a few random events, at least one of which has a spelling.
-fn random_lines(random: &mut Random, most: usize) -> Vec<u8> {
+fn random_lines(random: &mut Random, most: usize, spelling: Spelling) -> Vec<u8> {
     let count = random.between(1, most);
-    let mut events: Vec<Event> = (0..count).map(|_| random_event(random)).collect();
-    let spelt = |event: &Event| oracle::event_line(oracle_event(*event)).is_some();
+    let events = (0..count).map(|_| random_event(random, spelling));
+    let mut events: Vec<Event> = events.collect();
+    let spelt = |event: &Event| generate::line(*event, spelling).is_some();
     if !events.iter().any(spelt) {
         events[0].kind = 5;
     }
-    generate::trace(&events)
+    generate::lines(&events, spelling)
 }
 
 /// Checks a text; on failure gives a short text that still fails.
@@ -106,23 +156,24 @@ pub fn check_text(text: &[u8], check: impl Fn(&[u8]) -> Agreed) -> Agreed {
     Err(format!("{why}\n  text \"{}\"", small.escape_ascii()))
 }
 
-fn read_whole(random: &mut Random, subject: Subject) -> Checked {
+/// Lines written in one spelling and read in one, the same or the other.
+fn read_whole(random: &mut Random, subject: Subject, written: Spelling, read: Spelling) -> Checked {
     let lines = 20_000;
     for _ in 0..lines {
-        let line = random_lines(random, 1);
-        check_text(&line, |text| agree::read_event(subject, text))?;
+        let line = random_lines(random, 1, written);
+        check_text(&line, |text| agree::read_line(subject, text, read))?;
     }
     Ok(lines)
 }
 
-fn damaged(random: &mut Random, subject: Subject) -> Checked {
+fn damaged(random: &mut Random, subject: Subject, spelling: Spelling) -> Checked {
     let lines = 60_000;
     for _ in 0..lines {
-        let mut line = random_lines(random, 2);
+        let mut line = random_lines(random, 2, spelling);
         for _ in 0..random.between(1, 2) {
             generate::damage(random, &mut line);
         }
-        check_text(&line, |text| agree::read_event(subject, text))?;
+        check_text(&line, |text| agree::read_line(subject, text, spelling))?;
     }
     Ok(lines)
 }
@@ -167,6 +218,27 @@ fn words(subject: Subject) -> Checked {
             for right in RIGHTS {
                 one(format!("(create {first} {second} {right})\n"))?;
                 one(format!("(borrow 3 {first} {second} {right})\n"))?;
+            }
+        }
+    }
+    Ok(cases)
+}
+
+/// Creates and borrows with strange words in the place of their new names and others.
+fn named_words(subject: Subject) -> Checked {
+    let mut cases = 0;
+    let mut one = |line: String| {
+        cases += 1;
+        check_text(line.as_bytes(), |text| agree::read_named(subject, text))
+    };
+    for first in NUMBERS {
+        for second in NUMBERS {
+            one(format!("(read {first} {second} 0 8)\n"))?;
+            one(format!("(drop {first} {second})\n"))?;
+            for right in RIGHTS {
+                one(format!("(create {first} {second} 8 {right})\n"))?;
+                one(format!("(borrow {first} {second} 0 8 {right})\n"))?;
+                one(format!("(borrow 3 1 {first} {second} {right})\n"))?;
             }
         }
     }

@@ -1,7 +1,8 @@
 //! Compares an implementation behind the C interface with the oracle.
 //!
-//! `compare [library | baseline] [SEED]`: without a word it takes the library where it was built
-//! with `KELZOUD_LIB` set, else the baseline. The exit status is 0 when every group passed.
+//! `compare [library | baseline] [SEED] [WORD]`: without the first it takes the library where it was
+//! built with `KELZOUD_LIB` set, else the baseline. With WORD only the groups that have it in their
+//! names are run. The exit status is 0 when every group passed.
 
 mod agree;
 mod events;
@@ -12,6 +13,7 @@ mod listings;
 mod random;
 mod report;
 mod runs;
+mod spellings;
 
 use std::env;
 use std::process::ExitCode;
@@ -24,34 +26,49 @@ const DEFAULT_SEED: u64 = 1;
 struct Options {
     subject: Subject,
     seed: u64,
+    wanted: String,
 }
 
 fn options() -> Option<Options> {
     let mut subject = interface::library().unwrap_or(interface::baseline());
     let mut seed = DEFAULT_SEED;
+    let mut wanted = String::new();
     for word in env::args().skip(1) {
         match word.as_str() {
             "library" => subject = interface::library()?,
             "baseline" => subject = interface::baseline(),
-            number => seed = number.parse().ok()?,
+            other => match other.parse() {
+                Ok(number) => seed = number,
+                Err(_) => wanted = word,
+            },
         }
     }
-    Some(Options { subject, seed })
+    Some(Options {
+        subject,
+        seed,
+        wanted,
+    })
 }
 
 fn main() -> ExitCode {
-    let Some(Options { subject, seed }) = options() else {
-        eprintln!("usage: compare [library | baseline] [SEED]");
+    let Some(Options {
+        subject,
+        seed,
+        wanted,
+    }) = options()
+    else {
+        eprintln!("usage: compare [library | baseline] [SEED] [WORD]");
         eprintln!("'library' needs a build with KELZOUD_LIB set");
         return ExitCode::from(2);
     };
     println!("{} against the oracle, seed {seed}", subject.name());
-    let mut report = Report::new(seed);
+    let mut report = Report::new(seed, wanted);
     examples::groups(&mut report, subject);
     events::groups(&mut report, subject);
     lines::groups(&mut report, subject);
     listings::groups(&mut report, subject);
     runs::groups(&mut report, subject);
+    spellings::groups(&mut report, subject);
     report.group("every answer of an event was met", |_| {
         agree::every_answer_met()
     });

@@ -1,6 +1,6 @@
 //! Runs of lines, and what `capcheck` prints.
 
-use oracle::{MAX_INPUT, MAX_ROWS, Row};
+use oracle::{HEADER, MAX_INPUT, MAX_ROWS, Row, Spelling};
 
 use crate::agree::{self, Lent, Subject};
 use crate::generate::{self, Shape};
@@ -8,31 +8,44 @@ use crate::lines::check_text;
 use crate::random::Random;
 use crate::report::{Checked, Report, shrink};
 
+/// A spelling, the name of its runs, and the name of its texts.
+const SORTS: [(Spelling, &str, &str); 2] = [
+    (Spelling::Plain, "runs", "texts"),
+    (Spelling::Named, "named runs", "named texts"),
+];
+
 pub fn groups(report: &mut Report, subject: Subject) {
-    report.group("runs on ordered tables", |random| {
-        on_tables(random, subject, 6_000, 12, |_, _| {})
-    });
-    report.group("runs of damaged texts", |random| {
-        on_tables(random, subject, 10_000, 8, |random, case| {
-            generate::damage(random, &mut case.text)
-        })
-    });
-    report.group("runs on disordered tables", |random| {
-        on_tables(random, subject, 6_000, 3, |random, case| {
-            generate::disturb(random, &mut case.lent);
-            if random.one_in(2) {
-                generate::damage(random, &mut case.text);
-            }
-        })
-    });
-    report.group("runs on large tables", |random| large(random, subject));
-    report.group("capcheck on whole texts", |random| {
-        capcheck(random, subject, 1_500, false)
-    });
-    report.group("capcheck on damaged texts", |random| {
-        capcheck(random, subject, 1_500, true)
-    });
+    for (spelling, runs, texts) in SORTS {
+        report.group(&format!("{runs} on ordered tables"), |random| {
+            on_tables(random, subject, 6_000, 12, spelling, |_, _| {})
+        });
+        report.group(&format!("{runs} of damaged texts"), |random| {
+            on_tables(random, subject, 10_000, 8, spelling, |random, case| {
+                generate::damage(random, &mut case.text)
+            })
+        });
+        report.group(&format!("{runs} on disordered tables"), |random| {
+            on_tables(random, subject, 6_000, 3, spelling, |random, case| {
+                generate::disturb(random, &mut case.lent);
+                if random.one_in(2) {
+                    generate::damage(random, &mut case.text);
+                }
+            })
+        });
+        report.group(&format!("{runs} on large tables"), |random| {
+            large(random, subject, spelling)
+        });
+        report.group(&format!("capcheck on whole {texts}"), |random| {
+            capcheck(random, subject, 1_500, spelling, false)
+        });
+        report.group(&format!("capcheck on damaged {texts}"), |random| {
+            capcheck(random, subject, 1_500, spelling, true)
+        });
+    }
     report.group("capcheck on long texts", |_| long_texts(subject));
+    report.group("capcheck on long named texts", |_| {
+        long_named_texts(subject)
+    });
 }
 
 struct Case {
@@ -40,10 +53,10 @@ struct Case {
     text: Vec<u8>,
 }
 
-fn case(random: &mut Random, shape: &Shape, lines: usize) -> Case {
+fn case(random: &mut Random, shape: &Shape, lines: usize, spelling: Spelling) -> Case {
     let lent = generate::ordered(random, shape);
-    let events = generate::events(random, lent.clone(), lines);
-    let text = generate::trace(&events);
+    let events = generate::events(random, lent.clone(), lines, spelling);
+    let text = generate::trace(&events, spelling);
     Case { lent, text }
 }
 
@@ -52,24 +65,25 @@ fn on_tables(
     subject: Subject,
     runs: u64,
     most_lines: usize,
+    spelling: Spelling,
     change: impl Fn(&mut Random, &mut Case),
 ) -> Checked {
     for _ in 0..runs {
         let shape = Shape::partly_full(random, 10);
         let lines = random.between(0, most_lines);
-        let mut case = case(random, &shape, lines);
+        let mut case = case(random, &shape, lines, spelling);
         change(random, &mut case);
         check_case(subject, &case)?;
     }
     Ok(runs)
 }
 
-fn large(random: &mut Random, subject: Subject) -> Checked {
+fn large(random: &mut Random, subject: Subject, spelling: Spelling) -> Checked {
     let runs = 24;
     for _ in 0..runs {
         let rows = random.between(500, MAX_ROWS);
         let shape = Shape::full(random, rows);
-        check_case(subject, &case(random, &shape, 12))?;
+        check_case(subject, &case(random, &shape, 12, spelling))?;
     }
     Ok(runs)
 }
@@ -88,11 +102,17 @@ fn check_case(subject: Subject, case: &Case) -> Result<(), String> {
     })
 }
 
-fn capcheck(random: &mut Random, subject: Subject, inputs: u64, damaged: bool) -> Checked {
+fn capcheck(
+    random: &mut Random,
+    subject: Subject,
+    inputs: u64,
+    spelling: Spelling,
+    damaged: bool,
+) -> Checked {
     for _ in 0..inputs {
         let lines = random.between(0, 16);
-        let events = generate::events(random, Lent::empty(MAX_ROWS), lines);
-        let mut text = generate::trace(&events);
+        let events = generate::events(random, Lent::empty(MAX_ROWS), lines, spelling);
+        let mut text = generate::trace(&events, spelling);
         if damaged {
             generate::damage(random, &mut text);
         }
@@ -105,16 +125,31 @@ fn capcheck(random: &mut Random, subject: Subject, inputs: u64, damaged: bool) -
 fn long_texts(subject: Subject) -> Checked {
     let creates = "(create 0 1 rw)\n".repeat(MAX_INPUT / 16);
     let reads = "(create 0 1 rw)\n".to_string() + &"(read 1 0 1)\n".repeat((MAX_INPUT - 16) / 13);
-    let mut cases = 0;
-    for text in [creates, reads] {
-        assert_eq!(text.len(), MAX_INPUT);
-        let longer = text.clone() + "\n";
-        let shorter = &text[..MAX_INPUT - 1];
-        for input in [&text, &longer, shorter] {
-            agree::check(subject, input.as_bytes())?;
-            cases += 1;
-        }
-    }
+    let cases = at_most(subject, &creates)? + at_most(subject, &reads)?;
     agree::check(subject, &vec![0; 1_000_000])?;
     Ok(cases + 1)
+}
+
+/// The same with names, where the header counts as bytes of the input and as a line.
+fn long_named_texts(subject: Subject) -> Checked {
+    let header = str::from_utf8(HEADER).expect("the header is text");
+    let root = "(create 1 0 64 rw)\n";
+    let reads = "(read 1 0 1)\n".repeat((MAX_INPUT - header.len() - root.len()) / 13);
+    let create = |name| format!("(create {name} 0 1 rw)\n");
+    let creates: String = (1..=MAX_ROWS + 1).map(create).collect();
+    let rest = MAX_INPUT - header.len() - creates.len();
+    let creates = creates + &"x".repeat(rest);
+    Ok(at_most(subject, &format!("{header}{root}{reads}"))?
+        + at_most(subject, &format!("{header}{creates}"))?)
+}
+
+/// An input of the longest length, without its last byte, and with one more.
+fn at_most(subject: Subject, text: &str) -> Checked {
+    assert_eq!(text.len(), MAX_INPUT);
+    let longer = text.to_string() + "\n";
+    let shorter = &text[..MAX_INPUT - 1];
+    for input in [text, &longer, shorter] {
+        agree::check(subject, input.as_bytes())?;
+    }
+    Ok(3)
 }

@@ -15,13 +15,17 @@ mod plain;
 pub trait Interface {
     fn name(&self) -> &'static str;
 
+    /// One event: `kz_apply_named` where a name is written, else `kz_apply`.
     fn apply(&self, table: &mut [Cap], tally: &mut Tally, event: Event) -> u64;
 
     fn run(&self, table: &mut [Cap], tally: &mut Tally, text: &[u8]) -> u64;
 
+    /// An event's line: `kz_write_named` where a name is written, else `kz_write_event`.
     fn write_event(&self, event: Event, out: &mut [u8]) -> u64;
 
     fn read_event(&self, line: &[u8], fields: &mut [u32; 5]) -> u64;
+
+    fn read_named(&self, line: &[u8], fields: &mut [u32; 6]) -> u64;
 
     fn write_listing(&self, table: &[Cap], issued: u32, out: &mut [u8]) -> u64;
 

@@ -16,10 +16,17 @@ impl Interface for Library {
     fn apply(&self, table: &mut [Cap], tally: &mut Tally, e: Event) -> u64 {
         let rows = table.len();
         let table = table.as_mut_ptr();
-        unsafe {
-            ffi::kz_apply(
-                table, rows, tally, e.kind, e.name, e.start, e.length, e.right,
-            )
+        match e.written {
+            None => unsafe {
+                ffi::kz_apply(
+                    table, rows, tally, e.kind, e.name, e.start, e.length, e.right,
+                )
+            },
+            Some(written) => unsafe {
+                ffi::kz_apply_named(
+                    table, rows, tally, e.kind, written, e.name, e.start, e.length, e.right,
+                )
+            },
         }
     }
 
@@ -31,11 +38,24 @@ impl Interface for Library {
     fn write_event(&self, e: Event, out: &mut [u8]) -> u64 {
         let size = out.len();
         let out = out.as_mut_ptr();
-        unsafe { ffi::kz_write_event(e.kind, e.name, e.start, e.length, e.right, out, size) }
+        match e.written {
+            None => unsafe {
+                ffi::kz_write_event(e.kind, e.name, e.start, e.length, e.right, out, size)
+            },
+            Some(written) => unsafe {
+                ffi::kz_write_named(
+                    e.kind, written, e.name, e.start, e.length, e.right, out, size,
+                )
+            },
+        }
     }
 
     fn read_event(&self, line: &[u8], fields: &mut [u32; 5]) -> u64 {
         unsafe { ffi::kz_read_event(line.as_ptr(), line.len(), fields.as_mut_ptr()) }
+    }
+
+    fn read_named(&self, line: &[u8], fields: &mut [u32; 6]) -> u64 {
+        unsafe { ffi::kz_read_named(line.as_ptr(), line.len(), fields.as_mut_ptr()) }
     }
 
     fn write_listing(&self, table: &[Cap], issued: u32, out: &mut [u8]) -> u64 {

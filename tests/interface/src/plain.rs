@@ -1,6 +1,6 @@
 //! The baseline behind the C interface.
 
-use baseline::{Cap, Event, Refusal, Tally};
+use baseline::{Cap, Event, Refusal, Spelling, Tally};
 
 use crate::Interface;
 
@@ -30,12 +30,25 @@ impl Interface for Baseline {
     }
 
     fn write_event(&self, event: Event, out: &mut [u8]) -> u64 {
-        packed(baseline::write_event(event, out))
+        let spelling = match event.written {
+            Some(_) => Spelling::Named,
+            None => Spelling::Plain,
+        };
+        packed(baseline::write_event(event, spelling, out))
     }
 
     fn read_event(&self, line: &[u8], fields: &mut [u32; 5]) -> u64 {
-        packed(baseline::read_event(line).map(|e| {
+        packed(baseline::read_event(line, Spelling::Plain).map(|e| {
             *fields = [e.kind.into(), e.name, e.start, e.length, e.right.into()];
+            0
+        }))
+    }
+
+    fn read_named(&self, line: &[u8], fields: &mut [u32; 6]) -> u64 {
+        packed(baseline::read_event(line, Spelling::Named).map(|e| {
+            let kind = e.kind.into();
+            let written = e.written.unwrap_or(0);
+            *fields = [kind, written, e.name, e.start, e.length, e.right.into()];
             0
         }))
     }

@@ -1,19 +1,19 @@
-//! A second checker, written from document 01 alone and for clarity alone.
+//! A second checker, written from document 01 and card 1 alone and for clarity alone.
 //!
 //! It shares no code and no plan with what it judges: the history derives everything from its notes
 //! each time it is asked, the rows of a lent table are searched from end to end, and text is taken
 //! apart strictly as it is read.
 
 mod history;
+mod lines;
 mod table;
 mod text;
 mod values;
 
 pub use history::History;
+pub use lines::{Spelling, event_line, read_event_line};
 pub use table::{Row, Tally, apply, in_order, live_rows};
-pub use text::{
-    Run, check, event_line, listing, read_event_line, read_listing, run, write_event, write_listing,
-};
+pub use text::{HEADER, Run, check, listing, read_listing, run, write_event, write_listing};
 pub use values::{
     Event, MAX_DEPTH, MAX_INPUT, MAX_NAME, MAX_ROWS, READ_ONLY, READ_WRITE, Refused, Span,
 };

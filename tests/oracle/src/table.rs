@@ -81,13 +81,14 @@ fn ancestry<'a>(live: &'a [Row], row: &'a Row) -> Vec<&'a Row> {
     path
 }
 
-/// The number that an event is refused with: the lowest whose condition holds.
+/// The number that an event is refused with: the first, in the order of the papers, whose condition
+/// holds. Card 1 puts 12 between 9 and 10.
 pub fn refusal(rows: &[Row], issued: u32, event: Event) -> Option<Refused> {
     if !in_order(rows, issued) {
         return Some(1);
     }
     let conditions = [
-        (2, has_no_spelling(event)),
+        (2, is_unknown(event)),
         (3, event.span().is_some_and(|span| !span.is_legal())),
         (4, event.user().is_some_and(|name| !is_issued(name, issued))),
         (
@@ -100,14 +101,15 @@ pub fn refusal(rows: &[Row], issued: u32, event: Event) -> Option<Refused> {
         (7, needs_more_than_read_only(rows, event)),
         (8, borrows_too_deep(rows, event)),
         (9, event.makes() && issued == MAX_NAME),
+        (12, event.written().is_some_and(|name| name != issued + 1)),
         (10, event.makes() && live_rows(rows).len() == rows.len()),
     ];
-    let holding = conditions.into_iter().filter(|(_, holds)| *holds);
-    holding.map(|(number, _)| number).min()
+    let mut holding = conditions.into_iter().filter(|(_, holds)| *holds);
+    holding.next().map(|(number, _)| number)
 }
 
 /// An unknown kind, or a right that is neither 1 nor 2.
-pub fn has_no_spelling(event: Event) -> bool {
+pub fn is_unknown(event: Event) -> bool {
     event == Event::Unknown
         || event
             .right()
@@ -167,11 +169,12 @@ pub fn apply(rows: &mut [Row], tally: &mut Tally, event: Event) -> Result<u32, R
 
 fn rows_after(live: &[Row], event: Event, new_name: u32) -> Vec<Row> {
     match event {
-        Event::Create { span, right } => with_new(live, new_name, None, span, right),
+        Event::Create { span, right, .. } => with_new(live, new_name, None, span, right),
         Event::Borrow {
             parent,
             span,
             right,
+            ..
         } => with_new(live, new_name, find(live, parent), span, right),
         Event::Read { name, span } => {
             let lowered = revoked(live, name, span);

@@ -1,86 +1,11 @@
-//! Event lines, listings, runs, and what `capcheck` prints.
+//! Listings, runs, and what `capcheck` prints.
 
-use crate::table::{Row, Tally, apply, has_no_spelling, in_order, live_rows};
-use crate::values::{Event, MAX_DEPTH, MAX_INPUT, MAX_ROWS, READ_ONLY, READ_WRITE, Refused, Span};
+use crate::lines::{Spelling, event_line, number, read_event_line, right, right_word};
+use crate::table::{Row, Tally, apply, in_order, live_rows};
+use crate::values::{Event, MAX_DEPTH, MAX_INPUT, MAX_ROWS, Refused};
 
 /// The number of lines allowed, or the refusal and its line.
 pub type Run = Result<u32, (Refused, u32)>;
-
-fn right_word(right: u32) -> &'static str {
-    match right == u32::from(READ_WRITE) {
-        true => "rw",
-        false => "ro",
-    }
-}
-
-/// The event's one spelling, newline included; none where its right or its kind is unknown.
-pub fn event_line(event: Event) -> Option<String> {
-    if has_no_spelling(event) {
-        return None;
-    }
-    let [_, name, start, length, right] = event.fields();
-    let right = right_word(right);
-    Some(match event {
-        Event::Create { .. } => format!("(create {start} {length} {right})\n"),
-        Event::Borrow { .. } => format!("(borrow {name} {start} {length} {right})\n"),
-        Event::Read { .. } => format!("(read {name} {start} {length})\n"),
-        Event::Write { .. } => format!("(write {name} {start} {length})\n"),
-        Event::Drop { .. } | Event::Unknown => format!("(drop {name})\n"),
-    })
-}
-
-/// The event that the line spells, if the line is one.
-pub fn read_event_line(line: &[u8]) -> Option<Event> {
-    let body = line.strip_suffix(b")\n")?.strip_prefix(b"(")?;
-    let words: Vec<&[u8]> = body.split(|byte| *byte == b' ').collect();
-    let span = |start, length| {
-        Some(Span {
-            start: number(start)?,
-            length: number(length)?,
-        })
-    };
-    Some(match words[..] {
-        [b"create", start, length, right] => Event::Create {
-            span: span(start, length)?,
-            right: self::right(right)?,
-        },
-        [b"borrow", name, start, length, right] => Event::Borrow {
-            parent: number(name)?,
-            span: span(start, length)?,
-            right: self::right(right)?,
-        },
-        [b"read", name, start, length] => Event::Read {
-            name: number(name)?,
-            span: span(start, length)?,
-        },
-        [b"write", name, start, length] => Event::Write {
-            name: number(name)?,
-            span: span(start, length)?,
-        },
-        [b"drop", name] => Event::Drop {
-            name: number(name)?,
-        },
-        _ => return None,
-    })
-}
-
-/// A number from 0 to 4,294,967,295 in decimal, without leading zeros.
-fn number(word: &[u8]) -> Option<u32> {
-    let digits = !word.is_empty() && word.iter().all(u8::is_ascii_digit);
-    let leading_zero = word.len() > 1 && word[0] == b'0';
-    if !digits || leading_zero {
-        return None;
-    }
-    str::from_utf8(word).ok()?.parse().ok()
-}
-
-fn right(word: &[u8]) -> Option<u8> {
-    match word {
-        b"ro" => Some(READ_ONLY),
-        b"rw" => Some(READ_WRITE),
-        _ => None,
-    }
-}
 
 /// The listing of a table in order.
 pub fn listing(rows: &[Row], issued: u32) -> String {
@@ -197,8 +122,8 @@ fn fitting(text: String, buffer: usize) -> Result<String, Refused> {
     }
 }
 
-pub fn write_event(event: Event, buffer: usize) -> Result<String, Refused> {
-    fitting(event_line(event).ok_or(2)?, buffer)
+pub fn write_event(event: Event, spelling: Spelling, buffer: usize) -> Result<String, Refused> {
+    fitting(event_line(event, spelling).ok_or(2)?, buffer)
 }
 
 pub fn write_listing(rows: &[Row], issued: u32, buffer: usize) -> Result<String, Refused> {
@@ -208,20 +133,27 @@ pub fn write_listing(rows: &[Row], issued: u32, buffer: usize) -> Result<String,
     fitting(listing(rows, issued), buffer)
 }
 
+/// The first line of a trace whose events are spelt with names.
+pub const HEADER: &[u8] = b"(trace 2)\n";
+
 /// The lines of a text: each with its newline, and what stands after the last newline.
 fn lines(text: &[u8]) -> impl Iterator<Item = &[u8]> {
     text.split_inclusive(|byte| *byte == b'\n')
 }
 
-/// Takes lines until one is refused.
+/// Takes lines until one is refused. A first line that says so is no event, and is counted as a
+/// line; the others are then spelt with names.
 pub fn run(rows: &mut [Row], tally: &mut Tally, text: &[u8]) -> Run {
     if !in_order(rows, tally.issued) {
         return Err((1, 0));
     }
-    let mut allowed = 0;
-    for line in lines(text) {
+    let (spelling, mut allowed, rest) = match text.strip_prefix(HEADER) {
+        Some(rest) => (Spelling::Named, 1, rest),
+        None => (Spelling::Plain, 0, text),
+    };
+    for line in lines(rest) {
         // An unknown kind is refused and counted just as a misspelt line is.
-        let event = read_event_line(line).unwrap_or(Event::Unknown);
+        let event = read_event_line(line, spelling).unwrap_or(Event::Unknown);
         apply(rows, tally, event).map_err(|number| (number, allowed + 1))?;
         allowed += 1;
     }

@@ -1,4 +1,4 @@
-//! The values of document 01: spans, rights, events and the numbers of refusals.
+//! The values of document 01 and of card 1: spans, rights, events and the numbers of refusals.
 
 pub const MAX_ROWS: usize = 1_024;
 pub const MAX_NAME: u32 = 1_000_000;
@@ -9,7 +9,7 @@ pub const MAX_INPUT: usize = 65_536;
 pub const READ_ONLY: u8 = 1;
 pub const READ_WRITE: u8 = 2;
 
-/// The number of a refusal, 1 to 11.
+/// The number of a refusal, 1 to 12.
 pub type Refused = u8;
 
 #[derive(Clone, Copy, Debug, PartialEq, Eq)]
@@ -38,13 +38,16 @@ impl Span {
     }
 }
 
+/// An event. A create or borrow may carry the name that it is to make, written out.
 #[derive(Clone, Copy, Debug, PartialEq, Eq)]
 pub enum Event {
     Create {
+        written: Option<u32>,
         span: Span,
         right: u8,
     },
     Borrow {
+        written: Option<u32>,
         parent: u32,
         span: Span,
         right: u8,
@@ -65,12 +68,17 @@ pub enum Event {
 }
 
 impl Event {
-    /// The event of the C interface's five values; those that its kind lacks are not looked at.
-    pub fn from_fields(kind: u8, name: u32, start: u32, length: u32, right: u8) -> Event {
-        let span = Span { start, length };
+    /// The event of the C interface's values, with a written name or without; those that its kind
+    /// lacks are not looked at.
+    pub fn from_fields(kind: u8, written: Option<u32>, name: u32, span: Span, right: u8) -> Event {
         match kind {
-            1 => Event::Create { span, right },
+            1 => Event::Create {
+                written,
+                span,
+                right,
+            },
             2 => Event::Borrow {
+                written,
                 parent: name,
                 span,
                 right,
@@ -85,16 +93,32 @@ impl Event {
     /// Kind, name, start, length and right as the C interface gives them, 0 for what a kind lacks.
     pub fn fields(self) -> [u32; 5] {
         match self {
-            Event::Create { span, right } => [1, 0, span.start, span.length, right.into()],
+            Event::Create { span, right, .. } => [1, 0, span.start, span.length, right.into()],
             Event::Borrow {
                 parent,
                 span,
                 right,
+                ..
             } => [2, parent, span.start, span.length, right.into()],
             Event::Read { name, span } => [3, name, span.start, span.length, 0],
             Event::Write { name, span } => [4, name, span.start, span.length, 0],
             Event::Drop { name } => [5, name, 0, 0, 0],
             Event::Unknown => [0; 5],
+        }
+    }
+
+    /// The same with the written name after the kind, as the C interface gives it.
+    pub fn named_fields(self) -> [u32; 6] {
+        let [kind, name, start, length, right] = self.fields();
+        let written = self.written().unwrap_or(0);
+        [kind, written, name, start, length, right]
+    }
+
+    /// The name that the event carries for what it makes.
+    pub fn written(self) -> Option<u32> {
+        match self {
+            Event::Create { written, .. } | Event::Borrow { written, .. } => written,
+            _ => None,
         }
     }
 

@@ -4,7 +4,7 @@ use mathlib.Core.Path.{_∙_, sym, ap}
 use Rattle.model.specs.declared.Event.{Event}
 use Rattle.text.specs.Result.{Result}
 use Rattle.text.specs.Read.{readAnswer}
-use Rattle.kelzoud.specs.Interface.{packedRead, fieldsAfter}
+use Rattle.kelzoud.specs.Interface.{packedRead, fieldsOf, fieldsAfter}
 use borrow.Author.Needs.{needs}
 use Rattle.kelzoud.proofs.kz_read_event.Statement.{statement}
 use Rattle.kelzoud.proofs.kz_read_event.Tie as tie
@@ -12,12 +12,12 @@ use Rattle.kelzoud.proofs.kz_read_event.Tie as tie
 returns : tie.Need-returns
 returns c =
     let e = ap readAnswer (sym (c .before .before .before .before .answer .given .1)) ∙ c .before .before .before .before .before .before .read-event .ensures in
-    (c .pack .ensures ∙ ap (λ (x : Result Event). packedRead x) e, c .before .put-fields .ensures ∙ ap (λ (x : Result Event). fieldsAfter x (c .before .before .before .before .before .before .before .before .args .fields .now)) e)
+    (c .pack .ensures ∙ ap (λ (x : Result Event). packedRead x) e, c .before .put-fields .ensures ∙ ap (λ (x : Result Event). fieldsAfter fieldsOf x (c .before .before .before .before .before .before .before .before .args .fields .now)) e)
 
 returns-2 : tie.Need-returns-2
 returns-2 c =
     let e = ap readAnswer (sym (c .before .before .answer2 .given .1)) ∙ c .before .before .before .before .read-event .ensures in
-    (c .pack-refusal .ensures ∙ ap (λ (x : Result Event). packedRead x) e, ap (λ (x : Result Event). fieldsAfter x (c .before .before .before .before .before .before .args .fields .now)) e)
+    (c .pack-refusal .ensures ∙ ap (λ (x : Result Event). packedRead x) e, ap (λ (x : Result Event). fieldsAfter fieldsOf x (c .before .before .before .before .before .before .args .fields .now)) e)
 
 pub kz-read-event-spec : {M : Type 1} → statement M
 kz-read-event-spec =

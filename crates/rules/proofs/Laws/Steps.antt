@@ -12,6 +12,7 @@ use lib.ListN.{length, getD, set, take, length-set}
 use lib.Seq.{getD-set-same, getD-set-other}
 use borrow.Author.Tests.{eqb-false, ltb-true, leb-false, not-false, leb-true}
 use Rattle.model.specs.declared.Name.{Name}
+use Rattle.model.specs.declared.NewName.{NewName}
 use Rattle.model.specs.declared.Span.{Span}
 use Rattle.model.specs.declared.Cap.{Cap}
 use Rattle.model.specs.declared.Access.{Access}
@@ -114,28 +115,28 @@ module _ (ws : List ℕ) (n k issued : ℕ) (o : Orderly (rowsIn ws) n k issued)
   room-of : leb (length (take n T)) (length (liveRows (take n T))) ≡ false → k < n
   room-of h = omega (arith, leb-false (length (take n T)) (length (liveRows (take n T))) h, orderly-long T n k issued fits o, ap length live-is ∙ length-before T k)
 
-  pub room-create : (s : Span) (r : ℕ) → judge (take n T) issued (Create s r) ≡ 0 → k < n
+  pub room-create : (w : NewName) (s : Span) (r : ℕ) → judge (take n T) issued (Create w s r) ≡ 0 → k < n
   unfolding refusals
-  room-create s r h = room-of (allowed (take n T) issued (Create s r) h 10)
+  room-create w s r h = room-of (allowed (take n T) issued (Create w s r) h 10)
 
-  pub room-borrow : (u : Name) (s : Span) (r : ℕ) → judge (take n T) issued (Borrow u s r) ≡ 0 → k < n
+  pub room-borrow : (w : NewName) (u : Name) (s : Span) (r : ℕ) → judge (take n T) issued (Borrow w u s r) ≡ 0 → k < n
   unfolding refusals
-  room-borrow u s r h = room-of (allowed (take n T) issued (Borrow u s r) h 10)
+  room-borrow w u s r h = room-of (allowed (take n T) issued (Borrow w u s r) h 10)
 
-  pub there-borrow : (u : Name) (s : Span) (r : ℕ) → judge (take n T) issued (Borrow u s r) ≡ 0 → any (named (u .0)) (before T k) ≡ true
+  pub there-borrow : (w : NewName) (u : Name) (s : Span) (r : ℕ) → judge (take n T) issued (Borrow w u s r) ≡ 0 → any (named (u .0)) (before T k) ≡ true
   unfolding refusals
-  there-borrow u s r h = rw live-is at (not-false (any (named (u .0)) (liveRows (take n T))) (allowed (take n T) issued (Borrow u s r) h 5))
+  there-borrow w u s r h = rw live-is at (not-false (any (named (u .0)) (liveRows (take n T))) (allowed (take n T) issued (Borrow w u s r) h 5))
 
-  pub depth-borrow : (u : Name) (s : Span) (r : ℕ) → judge (take n T) issued (Borrow u s r) ≡ 0 → lookup (u .0) (before T k) .depth < 64
+  pub depth-borrow : (w : NewName) (u : Name) (s : Span) (r : ℕ) → judge (take n T) issued (Borrow w u s r) ≡ 0 → lookup (u .0) (before T k) .depth < 64
   unfolding refusals
-  depth-borrow u s r h = leb-false 64 (lookup (u .0) (before T k) .depth) (rw live-is at (allowed (take n T) issued (Borrow u s r) h 8))
+  depth-borrow w u s r h = leb-false 64 (lookup (u .0) (before T k) .depth) (rw live-is at (allowed (take n T) issued (Borrow w u s r) h 8))
 
 -- ---- the whole step
 
 -- in a table in order, no refusal is 1
 above-one : (rows : List Cap) (issued size : ℕ) (e : Event) → all (λ c. ltb 1 (c .0)) (checks rows issued size e) ≡ true
-above-one rows issued size (Create s r) = refl
-above-one rows issued size (Borrow u s r) = refl
+above-one rows issued size (Create w s r) = refl
+above-one rows issued size (Borrow w u s r) = refl
 above-one rows issued size (Read u s) = refl
 above-one rows issued size (Write u s) = refl
 above-one rows issued size (Drop u) = refl
@@ -219,13 +220,13 @@ orderly-after ws n t e k ws′ r live o s f = record {
 -- ---- the rows after an event
 
 module _ (issued : ℕ) (rows : List Cap) where
-  pub next-create : (s : Span) (r : ℕ) (c : Cap) → c ≡ row (record { name = issued + 1; parent = 0; span = s }) r 1 → c ∷ rows ≡ rowsAfter issued rows (Create s r)
+  pub next-create : (w : NewName) (s : Span) (r : ℕ) (c : Cap) → c ≡ row (record { name = issued + 1; parent = 0; span = s }) r 1 → c ∷ rows ≡ rowsAfter issued rows (Create w s r)
   unfolding rowsAfter
-  next-create s r c e = rw (e, add-one)
+  next-create w s r c e = rw (e, add-one)
 
-  pub next-borrow : (u : Name) (s : Span) (r d : ℕ) (c : Cap) → d ≡ lookup (u .0) rows .depth → c ≡ row (record { name = issued + 1; parent = u .0; span = s }) r (d + 1) → c ∷ rows ≡ rowsAfter issued rows (Borrow u s r)
+  pub next-borrow : (w : NewName) (u : Name) (s : Span) (r d : ℕ) (c : Cap) → d ≡ lookup (u .0) rows .depth → c ≡ row (record { name = issued + 1; parent = u .0; span = s }) r (d + 1) → c ∷ rows ≡ rowsAfter issued rows (Borrow w u s r)
   unfolding rowsAfter
-  next-borrow u s r d c f e = rw (e, f, add-one, add-one)
+  next-borrow w u s r d c f e = rw (e, f, add-one, add-one)
 
   pub next-read : (u : Name) (s : Span) → afterAccess Reading (u .0) s rows ≡ rowsAfter issued rows (Read u s)
   unfolding rowsAfter

@@ -12,12 +12,13 @@ use lib.ListN.{length, getD, take, drop, length-drop}
 use lib.Seq.{length-take-le, getD-take, getD-drop}
 use borrow.Author.Tests.{eqb-true, not-false, ltb-true, ne-eqb, le-ltb, lt-ltb, leb-true, le-leb, lt-leb}
 use Rattle.model.specs.declared.Name.{Name}
+use Rattle.model.specs.declared.NewName.{NewName}
 use Rattle.model.specs.declared.Span.{Span}
 use Rattle.model.specs.declared.Cap.{Cap}
 use Rattle.model.specs.declared.Event.{Event}
 use Rattle.model.specs.declared.Event.the-variants.{Create, Borrow, Read}
 use Rattle.model.specs.declared.Refusal.{Refusal}
-use Rattle.model.specs.declared.Refusal.the-variants.{Disordered, Misspelt, IllegalSpan, Unissued, Ended, OutsideSpan, ReadOnly, TooDeep, NamesSpent, TableFull, BufferTooShort}
+use Rattle.model.specs.declared.Refusal.the-variants.{Disordered, Misspelt, IllegalSpan, Unissued, Ended, OutsideSpan, ReadOnly, TooDeep, NamesSpent, TableFull, BufferTooShort, Misnamed}
 use Rattle.table.specs.declared.judge.Place.{Place}
 use Rattle.table.specs.declared.judge.Place.the-variants.{At, Not}
 use Rattle.model.specs.Lists.{first, any, all}
@@ -27,7 +28,7 @@ use Rattle.model.specs.Refusals.{notARight, illegalSpan, outsideSpan, readOnly,
 use Rattle.model.specs.Step.{verdict}
 use Rattle.model.specs.Answers.{number}
 use Rattle.table.specs.Rows.{before, Rise, LiveRows, Orderly}
-use Rattle.table.specs.Stands.{Passes, saidOf}
+use Rattle.table.specs.Stands.{Passes, saidOf, roomFor}
 use Rattle.model.proofs.Lists.{test, and-both, first-none}
 use Rattle.model.proofs.Rows.{emptyRow-empty}
 use Rattle.model.proofs.Order.{Ordered, ordered, place, right-positive}
@@ -56,6 +57,7 @@ numbered TooDeep = refl
 numbered NamesSpent = refl
 numbered TableFull = refl
 numbered BufferTooShort = refl
+numbered Misnamed = refl
 
 -- a name to be used
 module _ (rows : List Cap) (issued : ℕ) (u : Name) (s : Span) (r : ℕ) where
@@ -153,8 +155,8 @@ module _ (T : List Cap) (n k issued : ℕ) (l : n ≤ length T) (o : Orderly T n
       go (inr f) = rw f
 
   -- the answers of the events
-  pub answer-create : (s : Span) (r y : ℕ) → verdict (first ((2, notARight r) ∷ (3, illegalSpan s) ∷ (9, leb 1000000 issued) ∷ (10, leb n k) ∷ [])) y ≡ verdict (judge t issued (Create s r)) y
-  answer-create s r y = ap (λ (j : ℕ). verdict j y) (sym (orderly-judge (Create s r) ∙ rw (length-before T k)))
+  pub answer-create : (w : NewName) (s : Span) (r y : ℕ) → verdict (first ((2, notARight r) ∷ (3, illegalSpan s) ∷ roomFor n k issued w)) y ≡ verdict (judge t issued (Create w s r)) y
+  answer-create w s r y = ap (λ (j : ℕ). verdict j y) (sym (orderly-judge (Create w s r) ∙ rw (length-before T k)))
 
   pub answer-other : (e : Event) (y : ℕ) → verdict (first (checks (before T k) issued n e)) y ≡ verdict (judge t issued e) y
   answer-other e y = ap (λ (j : ℕ). verdict j y) (sym (orderly-judge e))
@@ -164,12 +166,12 @@ module _ (T : List Cap) (n k issued : ℕ) (l : n ≤ length T) (o : Orderly T n
 
 -- ---- a borrow
 
-module _ (T : List Cap) (n k issued : ℕ) (u : Name) (s : Span) (r : ℕ) (h : isRight r ≡ true) where
+module _ (T : List Cap) (n k issued : ℕ) (w : NewName) (u : Name) (s : Span) (r : ℕ) (h : isRight r ≡ true) where
   abbrev rest : List (ℕ × Bool)
-  rest = (8, tooDeep (before T k) issued u) ∷ room (before T k) issued n
+  rest = (8, tooDeep (before T k) issued u) ∷ room (before T k) issued n w
 
   abbrev first-of : ℕ
-  first-of = first (checks (before T k) issued n (Borrow u s r))
+  first-of = first (checks (before T k) issued n (Borrow w u s r))
 
   pub borrow-not : (x : Refusal) → first (usable (before T k) issued u s r) ≡ number x → first-of ≡ number x
   borrow-not x e = rw h (first-append (usable (before T k) issued u s r) rest refl ∙ rw (e, numbered x))
@@ -181,5 +183,5 @@ module _ (T : List Cap) (n k issued : ℕ) (u : Name) (s : Span) (r : ℕ) (h : 
     pub borrow-deep : 64 ≤ c .depth → first-of ≡ 8
     borrow-deep l = borrow-rest ∙ rw (f, le-leb 64 (c .depth) l)
 
-    pub borrow-room : c .depth < 64 → first-of ≡ first ((9, leb 1000000 issued) ∷ (10, leb n k) ∷ [])
+    pub borrow-room : c .depth < 64 → first-of ≡ first (roomFor n k issued w)
     borrow-room l = borrow-rest ∙ rw (f, lt-leb 64 (c .depth) l, length-before T k)

@@ -11,13 +11,18 @@ use Rattle.text.specs.Class.{classOf}
 use Rattle.text.specs.Line.{through, afterSpace}
 use Rattle.text.specs.Decimal.{decimal, numberFrom}
 use Rattle.model.specs.Table.{isRight}
-use Rattle.text.specs.Event.{bytes, spaced, ending, spanNumbers, spell, hasSpelling, Below32, InRange}
-use Rattle.text.specs.Read.{nameOf, spanOf, rightOf, guess}
+use Rattle.model.proofs.Lists.{clash}
+use Rattle.text.specs.Event.{bytes, spaced, ending, spanNumbers, spell, writesName, hasSpelling, Below32, InRange}
+use Rattle.text.specs.Read.{nameOf, spanOf, rightOf, newNameOf, createOf, borrowOf, guess}
+use Rattle.text.specs.declared.spelling.Spelling.{Spelling}
+use Rattle.text.specs.declared.spelling.Spelling.the-variants.{Plain as Unnamed, Named}
 use Rattle.text.proofs.Laws.Number.{Stops}
 use Rattle.text.proofs.Laws.Words.{Plain, plain-decimal, next, number-is, rights}
 use Rattle.text.proofs.Laws.Read.{guess-create, guess-borrow, guess-read, guess-write, guess-drop}
 use Rattle.model.specs.declared.Name.{Name}
 use Rattle.model.specs.declared.Span.{Span}
+use Rattle.model.specs.declared.NewName.{NewName}
+use Rattle.model.specs.declared.NewName.the-variants.{Unwritten, Written}
 use Rattle.model.specs.declared.Event.{Event}
 use Rattle.model.specs.declared.Event.the-variants.{Create, Borrow, Read, Write, Drop}
 
@@ -65,36 +70,72 @@ module _ (e w : List ℕ) (stop : Stops e) (plain : Plain w) (n : Name) (s : Spa
   span-back =
       span-is e stop s [] (h .1 .0) (h .1 .1 .0) (second e stop w plain (n .0) (s .start .0) (s .length ∷ [])) (third e stop w plain (n .0) (s .start .0) (s .length) [])
 
+-- a create and a borrow from their new names on, or whole: w is the new name or the word
+module _ (k : Spelling) (new : NewName) (w : List ℕ) (plain : Plain w) (r : ℕ) (h : isRight r ≡ true) where
+  abbrev part : List ℕ → List ℕ
+  part ns = w ++ (spaced ns ++ bytes (ending r))
+
+  create-back : (s : Span) → Below32 (spanNumbers s) → newNameOf k (part (spanNumbers s)) ≡ new
+      → createOf k (part (spanNumbers s)) ≡ Create new s r
+  unfolding spaced
+  create-back s b is =
+      let e = bytes (ending r) in
+      let stop = ending-stops r in
+      let one = first e stop w plain (s .start .0) (s .length ∷ []) in
+      let two = second e stop w plain (s .start .0) (s .length) [] in
+      let three = ap afterSpace two ∙ plain-decimal (s .length) e in
+      λ i. Create (is i) (span-is e stop s [] (b .0) (b .1 .0) one two i) ((ap rightOf three ∙ right-back r h) i)
+
+  borrow-back : (n : Name) (s : Span) → Below32 (n .0 ∷ spanNumbers s) → newNameOf k (part (n .0 ∷ spanNumbers s)) ≡ new
+      → borrowOf k (part (n .0 ∷ spanNumbers s)) ≡ Borrow new n s r
+  unfolding spaced
+  borrow-back n s b is =
+      let e = bytes (ending r) in
+      let stop = ending-stops r in
+      let three = third e stop w plain (n .0) (s .start .0) (s .length) [] in
+      let four = ap afterSpace three ∙ plain-decimal (s .length) e in
+      λ i. Borrow (is i) (name-back e w stop plain n s b i) (span-back e w stop plain n s b i) ((ap rightOf four ∙ right-back r h) i)
+
+-- the new name of a line, at its front
+new-back : (x : Name) (r : ℕ) (ns : List ℕ) → x .0 < 2 ^ 32
+    → newNameOf Named (decimal (x .0) ++ (spaced ns ++ bytes (ending r))) ≡ Written x
+new-back x r ns h = ap Written (name-is (bytes (ending r)) (ending-stops r) x ns h refl)
+
 -- what is guessed of a spelling is its event
-pub guess-spell : (e : Event) → hasSpelling e ≡ true → InRange e → guess (spell e) ≡ e
-unfolding spell hasSpelling spaced through classOf numberFrom
-guess-spell (Create s r) h k =
-    let e = bytes (ending r) in
-    let stop = ending-stops r in
-    let w = bytes "(create" in
-    let one = first e stop w (λ t. refl) (s .start .0) (s .length ∷ []) in
-    let two = second e stop w (λ t. refl) (s .start .0) (s .length) [] in
-    let three = ap afterSpace two ∙ plain-decimal (s .length) e in
-    guess-create (spell (Create s r)) refl
-    ∙ (λ i. Create (span-is e stop s [] (k .0) (k .1 .0) one two i) ((ap rightOf three ∙ right-back r h) i))
-guess-spell (Borrow n s r) h k =
-    let e = bytes (ending r) in
-    let stop = ending-stops r in
-    let w = bytes "(borrow" in
-    let three = third e stop w (λ t. refl) (n .0) (s .start .0) (s .length) [] in
-    let four = ap afterSpace three ∙ plain-decimal (s .length) e in
-    guess-borrow (spell (Borrow n s r)) refl
-    ∙ (λ i. Borrow (name-back e w stop (λ t. refl) n s k i) (span-back e w stop (λ t. refl) n s k i) ((ap rightOf four ∙ right-back r h) i))
-guess-spell (Read n s) h k =
+pub guess-spell : (k : Spelling) (e : Event) → hasSpelling k e ≡ true → InRange e → guess k (spell e) ≡ e
+unfolding spell hasSpelling writesName spaced through classOf numberFrom
+guess-spell Unnamed (Create Unwritten s r) h b =
+    guess-create Unnamed (spell (Create Unwritten s r)) refl
+    ∙ create-back Unnamed Unwritten (bytes "(create") (λ t. refl) r h s b refl
+guess-spell Unnamed (Create (Written x) s r) h b = clash h refl
+guess-spell Named (Create Unwritten s r) h b = clash h refl
+guess-spell Named (Create (Written x) s r) h b =
+    let ns = spanNumbers s in
+    guess-create Named (spell (Create (Written x) s r)) refl
+    ∙ ap (createOf Named) (next (bytes (ending r)) (ending-stops r) (bytes "(create") (λ t. refl) (x .0) ns)
+    ∙ create-back Named (Written x) (decimal (x .0)) (plain-decimal (x .0)) r h s (b .1) (new-back x r ns (b .0))
+guess-spell Unnamed (Borrow Unwritten n s r) h b =
+    guess-borrow Unnamed (spell (Borrow Unwritten n s r)) refl
+    ∙ borrow-back Unnamed Unwritten (bytes "(borrow") (λ t. refl) r h n s b refl
+guess-spell Unnamed (Borrow (Written x) n s r) h b = clash h refl
+guess-spell Named (Borrow Unwritten n s r) h b = clash h refl
+guess-spell Named (Borrow (Written x) n s r) h b =
+    let ns = n .0 ∷ spanNumbers s in
+    guess-borrow Named (spell (Borrow (Written x) n s r)) refl
+    ∙ ap (borrowOf Named) (next (bytes (ending r)) (ending-stops r) (bytes "(borrow") (λ t. refl) (x .0) ns)
+    ∙ borrow-back Named (Written x) (decimal (x .0)) (plain-decimal (x .0)) r h n s (b .1) (new-back x r ns (b .0))
+guess-spell k (Read n s) h b =
     let e = bytes ")\n" in
     let w = bytes "(read" in
-    guess-read (spell (Read n s)) refl ∙ (λ i. Read (name-back e w (λ v. refl) (λ t. refl) n s k i) (span-back e w (λ v. refl) (λ t. refl) n s k i))
-guess-spell (Write n s) h k =
+    guess-read k (spell (Read n s)) refl
+    ∙ (λ i. Read (name-back e w (λ v. refl) (λ t. refl) n s b i) (span-back e w (λ v. refl) (λ t. refl) n s b i))
+guess-spell k (Write n s) h b =
     let e = bytes ")\n" in
     let w = bytes "(write" in
-    guess-write (spell (Write n s)) refl ∙ (λ i. Write (name-back e w (λ v. refl) (λ t. refl) n s k i) (span-back e w (λ v. refl) (λ t. refl) n s k i))
-guess-spell (Drop n) h k =
+    guess-write k (spell (Write n s)) refl
+    ∙ (λ i. Write (name-back e w (λ v. refl) (λ t. refl) n s b i) (span-back e w (λ v. refl) (λ t. refl) n s b i))
+guess-spell k (Drop n) h b =
     let e = bytes ")\n" in
     let w = bytes "(drop" in
-    guess-drop (spell (Drop n)) (eqb-false 100 99 refl) (eqb-false 100 98 refl) (eqb-false 100 114 refl) (eqb-false 100 119 refl)
-    ∙ ap Drop (name-is e (λ v. refl) n [] (k .0) (first e (λ v. refl) w (λ t. refl) (n .0) []))
+    guess-drop k (spell (Drop n)) (eqb-false 100 99 refl) (eqb-false 100 98 refl) (eqb-false 100 114 refl) (eqb-false 100 119 refl)
+    ∙ ap Drop (name-is e (λ v. refl) n [] (b .0) (first e (λ v. refl) w (λ t. refl) (n .0) []))

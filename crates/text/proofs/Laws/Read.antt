@@ -9,36 +9,36 @@ use lib.ListN.{getD}
 use borrow.Author.Tests.{eqb-true, eq-eqb, ne-eqb}
 use Rattle.model.proofs.Lists.{clash, and-both}
 use Rattle.text.specs.Line.{afterSpace}
-use Rattle.text.specs.Read.{same, nameOf, spanOf, rightOf, guess}
-use Rattle.model.specs.declared.Event.the-variants.{Create, Borrow, Read, Write, Drop}
+use Rattle.text.specs.Read.{same, nameOf, spanOf, fromName, createOf, borrowOf, guess}
+use Rattle.text.specs.declared.spelling.Spelling.{Spelling}
+use Rattle.model.specs.declared.Name.{Name}
+use Rattle.model.specs.declared.Span.{Span}
+use Rattle.model.specs.declared.Event.the-variants.{Read, Write, Drop}
 
-module _ (s : List ℕ) where
-  abbrev one : List ℕ
-  one = afterSpace s
+module _ (k : Spelling) (s : List ℕ) where
+  abbrev name : Name
+  name = nameOf (afterSpace s)
 
-  abbrev two : List ℕ
-  two = afterSpace one
+  abbrev span : Span
+  span = spanOf (afterSpace (afterSpace s)) (afterSpace (afterSpace (afterSpace s)))
 
-  abbrev three : List ℕ
-  three = afterSpace two
-
-  pub guess-create : getD s 1 0 ≡ 99 → guess s ≡ Create (spanOf one two) (rightOf three)
+  pub guess-create : getD s 1 0 ≡ 99 → guess k s ≡ createOf k (fromName k s)
   unfolding guess
   guess-create e = rw e
 
-  pub guess-borrow : getD s 1 0 ≡ 98 → guess s ≡ Borrow (nameOf one) (spanOf two three) (rightOf (afterSpace three))
+  pub guess-borrow : getD s 1 0 ≡ 98 → guess k s ≡ borrowOf k (fromName k s)
   unfolding guess
   guess-borrow e = rw e
 
-  pub guess-read : getD s 1 0 ≡ 114 → guess s ≡ Read (nameOf one) (spanOf two three)
+  pub guess-read : getD s 1 0 ≡ 114 → guess k s ≡ Read name span
   unfolding guess
   guess-read e = rw e
 
-  pub guess-write : getD s 1 0 ≡ 119 → guess s ≡ Write (nameOf one) (spanOf two three)
+  pub guess-write : getD s 1 0 ≡ 119 → guess k s ≡ Write name span
   unfolding guess
   guess-write e = rw e
 
-  pub guess-drop : (getD s 1 0 ≡ 99 → ⊥) → (getD s 1 0 ≡ 98 → ⊥) → (getD s 1 0 ≡ 114 → ⊥) → (getD s 1 0 ≡ 119 → ⊥) → guess s ≡ Drop (nameOf one)
+  pub guess-drop : (getD s 1 0 ≡ 99 → ⊥) → (getD s 1 0 ≡ 98 → ⊥) → (getD s 1 0 ≡ 114 → ⊥) → (getD s 1 0 ≡ 119 → ⊥) → guess k s ≡ Drop name
   unfolding guess
   guess-drop c b r w = rw (ne-eqb _ _ c, ne-eqb _ _ b, ne-eqb _ _ r, ne-eqb _ _ w)
 

@@ -14,10 +14,10 @@ use Rattle.model.specs.Step.{answer, after}
 use Rattle.text.specs.Class.{classOf}
 use Rattle.text.specs.Line.{through, push, linesOf}
 use Rattle.text.specs.Decimal.{numeral, decimal, numberFrom}
-use Rattle.text.specs.Event.{bytes, spaced, spell, hasSpelling}
+use Rattle.text.specs.Event.{bytes, spaced, spell, hasSpelling, writesName}
 use Rattle.text.specs.Read.{same, guess, readEvent}
 use Rattle.listing.specs.Listing.{pieces, form, children, roots, listed}
-use Rattle.trace.specs.Run.{runLines, runFrom}
+use Rattle.trace.specs.Run.{runLines, runTrace, runFrom}
 use Rattle.trace.specs.Check.{answerLine, checkText}
 
 -- an input, and what is printed of it: the example; a trace of no lines; a leading zero, an empty line and a last line without
@@ -33,5 +33,5 @@ examples =
     ∷ []
 
 printed : all (λ e. same (checkText (bytes (e .0))) (bytes (e .1))) examples ≡ true
-unfolding examples ancestry onAncestry strike reached struck liveRows lentTable lookup isEmptyRow liveRowsFirst rowFitsParent parentInOrder rowInOrder rowsInOrder inOrder refusals judge revoke afterAccess rowsAfter answer after classOf through push linesOf numeral decimal numberFrom spaced spell hasSpelling same guess readEvent pieces form children roots listed runLines runFrom answerLine checkText
+unfolding examples ancestry onAncestry strike reached struck liveRows lentTable lookup isEmptyRow liveRowsFirst rowFitsParent parentInOrder rowInOrder rowsInOrder inOrder refusals judge revoke afterAccess rowsAfter answer after classOf through push linesOf numeral decimal numberFrom spaced spell hasSpelling writesName same guess readEvent pieces form children roots listed runLines runTrace runFrom answerLine checkText
 printed = refl

@@ -17,8 +17,10 @@ use Rattle.model.proofs.Match.{Match, at-first}
 use Rattle.model.proofs.Match
 use Rattle.text.specs.Result.{Result, value, refused}
 use Rattle.text.specs.Line.{linesOf}
-use Rattle.text.specs.Read.{readEvent}
-use Rattle.trace.specs.Run.{Taken, Ran, takeRead, takeLine, runLines, runFrom, lent, run}
+use Rattle.text.specs.Read.{same, readEvent}
+use Rattle.text.specs.declared.spelling.Spelling.{Spelling}
+use Rattle.text.specs.declared.spelling.Spelling.the-variants.{Plain, Named}
+use Rattle.trace.specs.Run.{header, Taken, Ran, takeRead, takeLine, runLines, runTrace, runFrom, lent, run}
 use Rattle.trace.specs.HistoryRun.{noted, SameRun}
 
 module _ (n : ℕ) where
@@ -32,39 +34,48 @@ module _ (n : ℕ) where
     numbers : r .number ≡ q .number
     match : Match n (r .state) (q .state)
 
-  same-line : (h : State) (H : History) → Match n h H → (l : List ℕ) → SameLine (takeLine lent h l) (takeLine (noted n) H l)
-  same-line h H m l = go (readEvent l)
+  same-line : (k : Spelling) (h : State) (H : History) → Match n h H → (l : List ℕ) → SameLine (takeLine lent k h l) (takeLine (noted n) k H l)
+  same-line k h H m l = go (readEvent k l)
     where
       go : (r : Result Event) → SameLine (takeRead lent h r) (takeRead (noted n) H r)
       go (value e) =
           let r = Match.run n (e ∷ []) h H m in
           let same : Step.answer h e ≡ History.answer n H e = cc in
           record { refusals = cc; match = r .1 }
-      go (refused k) = record { refusals = refl; match = record { same-table = m .same-table; same-issued = m .same-issued; kept = m .kept } }
+      go (refused x) = record { refusals = refl; match = record { same-table = m .same-table; same-issued = m .same-issued; kept = m .kept } }
 
-  same-lines : (before : ℕ) (h : State) (H : History) → Match n h H → (ls : List (List ℕ)) → Same (runLines lent before h ls) (runLines (noted n) before H ls)
+  same-lines : (k : Spelling) (before : ℕ) (h : State) (H : History) → Match n h H → (ls : List (List ℕ)) → Same (runLines lent k before h ls) (runLines (noted n) k before H ls)
   unfolding runLines
-  same-lines before h H m [] = record { refusals = refl; numbers = refl; match = m }
-  same-lines before h H m (l ∷ ls) = rw (s .refusals) (go (eqb (t .refusal) 0) (same-lines (before + 1) (takeLine lent h l .state) (t .state) (s .match) ls))
+  same-lines k before h H m [] = record { refusals = refl; numbers = refl; match = m }
+  same-lines k before h H m (l ∷ ls) = rw (s .refusals) (go (eqb (t .refusal) 0) (same-lines k (before + 1) (takeLine lent k h l .state) (t .state) (s .match) ls))
     where
-      s : SameLine (takeLine lent h l) (takeLine (noted n) H l)
-      s = same-line h H m l
+      s : SameLine (takeLine lent k h l) (takeLine (noted n) k H l)
+      s = same-line k h H m l
 
       t : Taken History
-      t = takeLine (noted n) H l
+      t = takeLine (noted n) k H l
 
-      go : (b : Bool) → Same (runLines lent (before + 1) (takeLine lent h l .state) ls) (runLines (noted n) (before + 1) (takeLine (noted n) H l .state) ls)
-          → Same (cond b (runLines lent (before + 1) (takeLine lent h l .state) ls) (record { refusal = takeLine (noted n) H l .refusal; number = before + 1; state = takeLine lent h l .state }))
-          (cond b (runLines (noted n) (before + 1) (takeLine (noted n) H l .state) ls) (record { refusal = takeLine (noted n) H l .refusal; number = before + 1; state = takeLine (noted n) H l .state }))
+      go : (b : Bool) → Same (runLines lent k (before + 1) (takeLine lent k h l .state) ls) (runLines (noted n) k (before + 1) (takeLine (noted n) k H l .state) ls)
+          → Same (cond b (runLines lent k (before + 1) (takeLine lent k h l .state) ls) (record { refusal = takeLine (noted n) k H l .refusal; number = before + 1; state = takeLine lent k h l .state }))
+          (cond b (runLines (noted n) k (before + 1) (takeLine (noted n) k H l .state) ls) (record { refusal = takeLine (noted n) k H l .refusal; number = before + 1; state = takeLine (noted n) k H l .state }))
       go true rest = rest
       go false rest = record { refusals = refl; numbers = refl; match = s .match }
+
+  same-trace : (h : State) (H : History) → Match n h H → (ls : List (List ℕ)) → Same (runTrace lent h ls) (runTrace (noted n) H ls)
+  unfolding runTrace
+  same-trace h H m [] = same-lines Plain 0 h H m []
+  same-trace h H m (l ∷ ls) = go (same l header)
+    where
+      go : (b : Bool) → Same (cond b (runLines lent Named 1 h ls) (runLines lent Plain 0 h (l ∷ ls))) (cond b (runLines (noted n) Named 1 H ls) (runLines (noted n) Plain 0 H (l ∷ ls)))
+      go true = same-lines Named 1 h H m ls
+      go false = same-lines Plain 0 h H m (l ∷ ls)
 
   same-from : (h : State) (H : History) → Match n h H → (text : List ℕ) → Same (runFrom lent h text) (runFrom (noted n) H text)
   unfolding runFrom
   same-from h H m text = rw (ap₂ (λ (t : List Cap) (i : ℕ). inOrder t i) (m .same-table) (m .same-issued)) (go (inOrder (History.table n (H .notes)) (H .count)))
     where
-      go : (b : Bool) → Same (cond b (runLines lent 0 h (linesOf text)) (record { refusal = 1; number = 0; state = h })) (cond b (runLines (noted n) 0 H (linesOf text)) (record { refusal = 1; number = 0; state = H }))
-      go true = same-lines 0 h H m (linesOf text)
+      go : (b : Bool) → Same (cond b (runTrace lent h (linesOf text)) (record { refusal = 1; number = 0; state = h })) (cond b (runTrace (noted n) H (linesOf text)) (record { refusal = 1; number = 0; state = H }))
+      go true = same-trace h H m (linesOf text)
       go false = record { refusals = refl; numbers = refl; match = m }
 
 pub same-run : (n : ℕ) (t : Tally) → t .issued ≡ 0 → (text : List ℕ) → SameRun n t text

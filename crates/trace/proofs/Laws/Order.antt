@@ -1,6 +1,6 @@
 -- A run keeps a table in order, and its line number is at most the number of bytes.
 -- Assumes nothing.
-use mathlib.Core.Path.{_≡_}
+use mathlib.Core.Path.{_≡_, refl, ap}
 use mathlib.Core.Bool.{Bool, true, false, cond}
 use mathlib.Core.List.{List, [], _∷_}
 use Prim.Native.Nat.{ℕ, suc, _+_, _≤_}
@@ -11,7 +11,10 @@ use Rattle.model.specs.Step.{State}
 use Rattle.model.specs.Table.{inOrder}
 use Rattle.text.specs.Class.{classOf, newline}
 use Rattle.text.specs.Line.{push, linesOf}
-use Rattle.trace.specs.Run.{Ran, takeLine, runLines, runFrom, lent, run}
+use Rattle.text.specs.Read.{same}
+use Rattle.text.specs.declared.spelling.Spelling.{Spelling}
+use Rattle.text.specs.declared.spelling.Spelling.the-variants.{Plain, Named}
+use Rattle.trace.specs.Run.{header, Ran, takeLine, runLines, runTrace, runFrom, lent, run}
 use Rattle.trace.proofs.Laws.Turn.{line-order}
 
 abbrev Ordered : State → Type 0
@@ -22,24 +25,32 @@ turned : {S : Type 0} (P : Ran S → Type 0) (t : Bool) (rest end : Ran S) → P
 turned P true rest end p q = p
 turned P false rest end p q = q
 
-order-lines : (before : ℕ) (h : State) (ls : List (List ℕ)) → Ordered h → Ordered (runLines lent before h ls .state)
+order-lines : (k : Spelling) (before : ℕ) (h : State) (ls : List (List ℕ)) → Ordered h → Ordered (runLines lent k before h ls .state)
 unfolding runLines
-order-lines before h [] o = o
-order-lines before h (l ∷ ls) o =
-    let t = takeLine lent h l in
-    turned (λ (r : Ran State). Ordered (r .state)) (eqb (t .refusal) 0) (runLines lent (before + 1) (t .state) ls) (record { refusal = t .refusal; number = before + 1; state = t .state }) (order-lines (before + 1) (t .state) ls (line-order h l o)) (line-order h l o)
+order-lines k before h [] o = o
+order-lines k before h (l ∷ ls) o =
+    let t = takeLine lent k h l in
+    turned (λ (r : Ran State). Ordered (r .state)) (eqb (t .refusal) 0) (runLines lent k (before + 1) (t .state) ls) (record { refusal = t .refusal; number = before + 1; state = t .state }) (order-lines k (before + 1) (t .state) ls (line-order k h l o)) (line-order k h l o)
+
+-- what holds of the lines in either spelling holds of a trace
+of-trace : (P : Ran State → Type 0) (h : State) (ls : List (List ℕ)) → P (runLines lent Plain 0 h ls) → ((line : List ℕ) (rest : List (List ℕ)) → ls ≡ line ∷ rest → P (runLines lent Named 1 h rest))
+    → P (runTrace lent h ls)
+unfolding runTrace
+of-trace P h [] p q = p
+of-trace P h (line ∷ ls) p q = turned P (same line header) (runLines lent Named 1 h ls) (runLines lent Plain 0 h (line ∷ ls)) (q line ls refl) p
 
 pub order-run : (h : State) (text : List ℕ) → Ordered h → Ordered (run h text .state)
 unfolding runFrom
-order-run h text o = rw o (order-lines 0 h (linesOf text) o)
+order-run h text o =
+    rw o (of-trace (λ (r : Ran State). Ordered (r .state)) h (linesOf text) (order-lines Plain 0 h (linesOf text) o) (λ line rest e. order-lines Named 1 h rest o))
 
-number-lines : (before : ℕ) (h : State) (ls : List (List ℕ)) → runLines lent before h ls .number ≤ before + length ls
+number-lines : (k : Spelling) (before : ℕ) (h : State) (ls : List (List ℕ)) → runLines lent k before h ls .number ≤ before + length ls
 unfolding runLines
-number-lines before h [] = omega arith
-number-lines before h (l ∷ ls) =
-    let t = takeLine lent h l in
-    turned (λ (r : Ran State). r .number ≤ before + suc (length ls)) (eqb (t .refusal) 0) (runLines lent (before + 1) (t .state) ls) (record { refusal = t .refusal; number = before + 1; state = t .state })
-    (omega (arith, number-lines (before + 1) (t .state) ls)) (omega arith)
+number-lines k before h [] = omega arith
+number-lines k before h (l ∷ ls) =
+    let t = takeLine lent k h l in
+    turned (λ (r : Ran State). r .number ≤ before + suc (length ls)) (eqb (t .refusal) 0) (runLines lent k (before + 1) (t .state) ls) (record { refusal = t .refusal; number = before + 1; state = t .state })
+    (omega (arith, number-lines k (before + 1) (t .state) ls)) (omega arith)
 
 lines-few : (text : List ℕ) → length (linesOf text) ≤ length text
 unfolding linesOf push
@@ -53,4 +64,8 @@ lines-few (b ∷ s) = go (eqb (classOf b) newline) (linesOf s) (lines-few s)
 
 pub number-run : (h : State) (text : List ℕ) → run h text .number ≤ length text
 unfolding runFrom
-number-run h text = turned (λ (r : Ran State). r .number ≤ length text) (inOrder (h .table) (h .tally .issued)) (runLines lent 0 h (linesOf text)) (record { refusal = 1; number = 0; state = h }) (omega (arith, number-lines 0 h (linesOf text), lines-few text)) (omega arith)
+number-run h text =
+    turned (λ (r : Ran State). r .number ≤ length text) (inOrder (h .table) (h .tally .issued)) (runTrace lent h (linesOf text)) (record { refusal = 1; number = 0; state = h })
+    (of-trace (λ (r : Ran State). r .number ≤ length text) h (linesOf text) (omega (arith, number-lines Plain 0 h (linesOf text), lines-few text))
+    (λ line rest e. omega (arith, number-lines Named 1 h rest, lines-few text, ap length e)))
+    (omega arith)

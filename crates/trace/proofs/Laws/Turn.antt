@@ -11,6 +11,7 @@ use lib.Seq.{take-all, length-take-le, drop-drop}
 use Rattle.text.specs.Class.{newline}
 use Rattle.text.specs.Line.{through, nextLine, linesOf}
 use Rattle.text.specs.Read.{readEvent}
+use Rattle.text.specs.declared.spelling.Spelling.{Spelling}
 use Rattle.text.specs.Result.{Result, value, refused}
 use Rattle.text.proofs.Laws.Line.{lines-next, next-some, through-le}
 use Rattle.model.specs.declared.Cap.{Cap}
@@ -35,8 +36,8 @@ use Rattle.trace.specs.declared.run.RunAnswer.the-variants.{Refused as R
 use Rattle.trace.specs.Run.{takeRead, takeLine, runLines, lent, ranOf, Known, Takes}
 
 -- a line keeps a table in order
-pub line-order : (h : State) (l : List ℕ) → inOrder (h .table) (h .tally .issued) ≡ true → inOrder (takeLine lent h l .state .table) (takeLine lent h l .state .tally .issued) ≡ true
-line-order h l o = go (readEvent l)
+pub line-order : (k : Spelling) (h : State) (l : List ℕ) → inOrder (h .table) (h .tally .issued) ≡ true → inOrder (takeLine lent k h l .state .table) (takeLine lent k h l .state .tally .issued) ≡ true
+line-order k h l o = go (readEvent k l)
   where
     go : (r : Result Event) → inOrder (takeRead lent h r .state .table) (takeRead lent h r .state .tally .issued) ≡ true
     go (value e) = order-after h e o
@@ -46,9 +47,9 @@ line-order h l o = go (readEvent l)
 pub known-order : {ws : List ℕ} {n live issued : ℕ} {places : List ℕ} → Known ws n live issued places → inOrder (rowsOf ws n) issued ≡ true
 known-order {ws} {n} {live} {issued} k = ap (λ (rows : List Cap). inOrder rows issued) (sym (in-first ws n (k .orderly .few))) ∙ k .orderly .ordered
 
-module _ (ws : List ℕ) (n : ℕ) (t : Tally) (line : List ℕ) where
+module _ (k : Spelling) (ws : List ℕ) (n : ℕ) (t : Tally) (line : List ℕ) where
   -- a line that spells an event goes by the event's step
-  pub taken-event : {e : Event} {ws′ : List ℕ} {r : Outcome} → readEvent line ≡ value e → Stepped ws n t e ws′ r → Takes ws n t line ws′ r
+  pub taken-event : {e : Event} {ws′ : List ℕ} {r : Outcome} → readEvent k line ≡ value e → Stepped ws n t e ws′ r → Takes k ws n t line ws′ r
   taken-event q s = record {
     refusal = rw q (ap (λ (v : Verdict). v .refusal) (s .answer));
     state = rw q (ap₂ (λ (rows : List Cap) (y : Tally). record { table = rows; tally = y }) (s .table) (s .tally));
@@ -56,7 +57,7 @@ module _ (ws : List ℕ) (n : ℕ) (t : Tally) (line : List ℕ) where
   }
 
   -- a line that spells none is refused
-  pub taken-misspelt : {y : Tally} → readEvent line ≡ refused 2 → y ≡ countRefused t → length ws ≡ 6144 → Takes ws n t line ws (record { tally = y; answer = Refused Misspelt })
+  pub taken-misspelt : {y : Tally} → readEvent k line ≡ refused 2 → y ≡ countRefused t → length ws ≡ 6144 → Takes k ws n t line ws (record { tally = y; answer = Refused Misspelt })
   taken-misspelt q c l = record { refusal = rw q; state = rw (q, c); long = l }
 
 -- line is the next line of what is left of s from a position on
@@ -79,29 +80,29 @@ module _ (s : List ℕ) (at : ℕ) (more : at < length s) (line : List ℕ) (is 
   rest-is : drop (through newline (drop at s)) (drop at s) ≡ drop (at + length line) s
   rest-is = drop-drop (through newline (drop at s)) at s ∙ ap (λ (k : ℕ). drop (at + k) s) (sym line-length)
 
-  module _ (count : ℕ) (h : State) where
+  module _ (k : Spelling) (count : ℕ) (h : State) where
     abbrev taken : State
-    taken = takeLine lent h line .state
+    taken = takeLine lent k h line .state
 
-    turn : runLines lent count h (linesOf (drop at s)) ≡ cond (eqb (takeLine lent h line .refusal) 0) (runLines lent (count + 1) taken (linesOf (drop (at + length line) s))) (record { refusal = takeLine lent h line .refusal; number = count + 1; state = taken })
+    turn : runLines lent k count h (linesOf (drop at s)) ≡ cond (eqb (takeLine lent k h line .refusal) 0) (runLines lent k (count + 1) taken (linesOf (drop (at + length line) s))) (record { refusal = takeLine lent k h line .refusal; number = count + 1; state = taken })
     unfolding runLines
     turn = rw (lines-next (drop at s) left-some, rest-is, line-is)
 
   -- the line was taken on the words of a table
-  module _ (count : ℕ) {ws : List ℕ} {n : ℕ} {t : Tally} {ws′ : List ℕ} {r : Outcome} (k : Takes ws n t line ws′ r) where
+  module _ (count : ℕ) {k : Spelling} {ws : List ℕ} {n : ℕ} {t : Tally} {ws′ : List ℕ} {r : Outcome} (took : Takes k ws n t line ws′ r) where
     -- it is allowed, and the run goes on behind it
-    pub turn-on : {x : Name} → r .answer ≡ Allowed x → runLines lent (count + 1) (heldIn ws′ n (r .tally)) (linesOf (drop (at + length line) s)) ≡ runLines lent count (heldIn ws n t) (linesOf (drop at s))
+    pub turn-on : {x : Name} → r .answer ≡ Allowed x → runLines lent k (count + 1) (heldIn ws′ n (r .tally)) (linesOf (drop (at + length line) s)) ≡ runLines lent k count (heldIn ws n t) (linesOf (drop at s))
     turn-on e =
-        let zero-is : takeLine lent (heldIn ws n t) line .refusal ≡ 0 = sym (k .refusal) ∙ ap (λ (a : Answer). verdictOf a .refusal) e in
-        rw (k .state) (sym (turn count (heldIn ws n t) ∙ rw zero-is))
+        let zero-is : takeLine lent k (heldIn ws n t) line .refusal ≡ 0 = sym (took .refusal) ∙ ap (λ (a : Answer). verdictOf a .refusal) e in
+        rw (took .state) (sym (turn k count (heldIn ws n t) ∙ rw zero-is))
 
     -- it is refused, and the run ends there
-    pub turn-ends : {x : Refusal} → r .answer ≡ Refused x → ranOf (RunRefused x (count + 1)) (heldIn ws′ n (r .tally)) ≡ runLines lent count (heldIn ws n t) (linesOf (drop at s))
+    pub turn-ends : {x : Refusal} → r .answer ≡ Refused x → ranOf (RunRefused x (count + 1)) (heldIn ws′ n (r .tally)) ≡ runLines lent k count (heldIn ws n t) (linesOf (drop at s))
     turn-ends {x} e =
-        let is : takeLine lent (heldIn ws n t) line .refusal ≡ number x = sym (k .refusal) ∙ ap (λ (a : Answer). verdictOf a .refusal) e in
-        rw (k .state) (sym (turn count (heldIn ws n t) ∙ rw (is, numbered x)))
+        let is : takeLine lent k (heldIn ws n t) line .refusal ≡ number x = sym (took .refusal) ∙ ap (λ (a : Answer). verdictOf a .refusal) e in
+        rw (took .state) (sym (turn k count (heldIn ws n t) ∙ rw (is, numbered x)))
 
 -- nothing is left
-pub run-ends : (s : List ℕ) (at count : ℕ) (h : State) → length s ≤ at → record { refusal = 0; number = count; state = h } ≡ runLines lent count h (linesOf (drop at s))
+pub run-ends : (k : Spelling) (s : List ℕ) (at count : ℕ) (h : State) → length s ≤ at → record { refusal = 0; number = count; state = h } ≡ runLines lent k count h (linesOf (drop at s))
 unfolding runLines linesOf
-run-ends s at count h e = rw (drop-of-length-le s e)
+run-ends k s at count h e = rw (drop-of-length-le s e)

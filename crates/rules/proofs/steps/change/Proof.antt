@@ -35,7 +35,7 @@ append-requires c κs =
     let s = c .before .before .before .before .before .before in let ws = s .args .words .now in let T = rowsIn ws in
     let l : s .args .n ≤ length T = omega (arith, length-in ws, s .pre .0 .few) in
     let j = subst (λ (x : Event). judge (take (s .args .n) T) (s .args .issued) x ≡ 0) (c .before .before .before .before .e .given .1) (s .pre .1) in
-    (room-create ws (s .args .n) (s .args .k) (s .args .issued) (s .pre .0) (c .before .before .before .before .e .given .0 .0) (c .before .before .before .before .e .given .0 .1 .0) j, ready ws (s .args .n) (s .args .k) (s .args .issued) (s .pre .0) (s .pre .2), s .pre .3, subst (λ (d : Cap). Found T (s .args .k) (d .parent .0) (s .args .k)) (sym (c .before .before .new-row .ensures)) (found-zero T (s .args .k) (orderly-rise T (s .args .n) (s .args .k) (s .args .issued) l (s .pre .0))), subst (λ (d : Cap). 0 < d .name .0) (sym (c .before .before .new-row .ensures)) (omega arith))
+    (room-create ws (s .args .n) (s .args .k) (s .args .issued) (s .pre .0) (c .before .before .before .before .e .given .0 .0) (c .before .before .before .before .e .given .0 .1 .0) (c .before .before .before .before .e .given .0 .1 .1 .0) j, ready ws (s .args .n) (s .args .k) (s .args .issued) (s .pre .0) (s .pre .2), s .pre .3, subst (λ (d : Cap). Found T (s .args .k) (d .parent .0) (s .args .k)) (sym (c .before .before .new-row .ensures)) (found-zero T (s .args .k) (orderly-rise T (s .args .n) (s .args .k) (s .args .issued) l (s .pre .0))), subst (λ (d : Cap). 0 < d .name .0) (sym (c .before .before .new-row .ensures)) (omega arith))
 
 find-requires : tie.Need-find-requires
 find-requires c κs =
@@ -48,7 +48,7 @@ depth-at-requires c κs =
     let s = c .before .before .before .before .before .before in let ws = s .args .words .now in let T = rowsIn ws in
     let l : s .args .n ≤ length T = omega (arith, length-in ws, s .pre .0 .few) in
     let j = subst (λ (x : Event). judge (take (s .args .n) T) (s .args .issued) x ≡ 0) (c .before .before .before .before .e2 .given .1) (s .pre .1) in
-    (orderly-few T (s .args .n) (s .args .k) (s .args .issued) l (s .pre .0), orderly-rise T (s .args .n) (s .args .k) (s .args .issued) l (s .pre .0), there-borrow ws (s .args .n) (s .args .k) (s .args .issued) (s .pre .0) (c .before .before .before .before .e2 .given .0 .0) (c .before .before .before .before .e2 .given .0 .1 .0) (c .before .before .before .before .e2 .given .0 .1 .1 .0) j, c .before .find .ensures)
+    (orderly-few T (s .args .n) (s .args .k) (s .args .issued) l (s .pre .0), orderly-rise T (s .args .n) (s .args .k) (s .args .issued) l (s .pre .0), there-borrow ws (s .args .n) (s .args .k) (s .args .issued) (s .pre .0) (c .before .before .before .before .e2 .given .0 .0) (c .before .before .before .before .e2 .given .0 .1 .0) (c .before .before .before .before .e2 .given .0 .1 .1 .0) (c .before .before .before .before .e2 .given .0 .1 .1 .1 .0) j, c .before .find .ensures)
 
 add-new-row-2 : tie.Need-add-new-row-2
 add-new-row-2 c =
@@ -62,14 +62,14 @@ add-new-row-3 c =
     let s = c .before .before .before .before .before .before .before in let ws = s .args .words .now in let T = rowsIn ws in
     let l : s .args .n ≤ length T = omega (arith, length-in ws, s .pre .0 .few) in
     let j = subst (λ (x : Event). judge (take (s .args .n) T) (s .args .issued) x ≡ 0) (c .before .before .before .before .before .e2 .given .1) (s .pre .1) in
-    omega (arith, c .depth-at .ensures, depth-borrow ws (s .args .n) (s .args .k) (s .args .issued) (s .pre .0) (c .before .before .before .before .before .e2 .given .0 .0) (c .before .before .before .before .before .e2 .given .0 .1 .0) (c .before .before .before .before .before .e2 .given .0 .1 .1 .0) j)
+    omega (arith, c .depth-at .ensures, depth-borrow ws (s .args .n) (s .args .k) (s .args .issued) (s .pre .0) (c .before .before .before .before .before .e2 .given .0 .0) (c .before .before .before .before .before .e2 .given .0 .1 .0) (c .before .before .before .before .before .e2 .given .0 .1 .1 .0) (c .before .before .before .before .before .e2 .given .0 .1 .1 .1 .0) j)
 
 append-requires-2 : tie.Need-append-requires-2
 append-requires-2 c κs =
     let s = c .before .before .before .before .before .before .before .before .before .before in let ws = s .args .words .now in let T = rowsIn ws in
     let l : s .args .n ≤ length T = omega (arith, length-in ws, s .pre .0 .few) in
     let j = subst (λ (x : Event). judge (take (s .args .n) T) (s .args .issued) x ≡ 0) (c .before .before .before .before .before .before .before .before .e2 .given .1) (s .pre .1) in
-    (room-borrow ws (s .args .n) (s .args .k) (s .args .issued) (s .pre .0) (c .before .before .before .before .before .before .before .before .e2 .given .0 .0) (c .before .before .before .before .before .before .before .before .e2 .given .0 .1 .0) (c .before .before .before .before .before .before .before .before .e2 .given .0 .1 .1 .0) j, ready ws (s .args .n) (s .args .k) (s .args .issued) (s .pre .0) (s .pre .2), s .pre .3, subst (λ (d : Cap). Found T (s .args .k) (d .parent .0) (c .before .before .before .before .before .find .result)) (sym (c .before .before .new-row2 .ensures)) (c .before .before .before .before .before .find .ensures), subst (λ (d : Cap). 0 < d .name .0) (sym (c .before .before .new-row2 .ensures)) (omega arith))
+    (room-borrow ws (s .args .n) (s .args .k) (s .args .issued) (s .pre .0) (c .before .before .before .before .before .before .before .before .e2 .given .0 .0) (c .before .before .before .before .before .before .before .before .e2 .given .0 .1 .0) (c .before .before .before .before .before .before .before .before .e2 .given .0 .1 .1 .0) (c .before .before .before .before .before .before .before .before .e2 .given .0 .1 .1 .1 .0) j, ready ws (s .args .n) (s .args .k) (s .args .issued) (s .pre .0) (s .pre .2), s .pre .3, subst (λ (d : Cap). Found T (s .args .k) (d .parent .0) (c .before .before .before .before .before .find .result)) (sym (c .before .before .new-row2 .ensures)) (c .before .before .before .before .before .find .ensures), subst (λ (d : Cap). 0 < d .name .0) (sym (c .before .before .new-row2 .ensures)) (omega arith))
 
 read-rows-requires : tie.Need-read-rows-requires
 read-rows-requires c κs =
@@ -93,14 +93,14 @@ returns : tie.Need-returns
 returns c =
     let s = c .before .before .before .before .before .before .before in let ws = s .args .words .now in let T = rowsIn ws in
     let l : s .args .n ≤ length T = omega (arith, length-in ws, s .pre .0 .few) in
-    let e : (c .before .before .before .new-row .result ∷ before T (s .args .k)) ≡ rowsAfter (s .args .issued) (before T (s .args .k)) (s .args .e) = next-create (s .args .issued) (before T (s .args .k)) (c .before .before .before .before .before .e .given .0 .0) (c .before .before .before .before .before .e .given .0 .1 .0) (c .before .before .before .new-row .result) (c .before .before .before .new-row .ensures) ∙ ap (λ (x : Event). rowsAfter (s .args .issued) (before T (s .args .k)) x) (sym (c .before .before .before .before .before .e .given .1)) in
+    let e : (c .before .before .before .new-row .result ∷ before T (s .args .k)) ≡ rowsAfter (s .args .issued) (before T (s .args .k)) (s .args .e) = next-create (s .args .issued) (before T (s .args .k)) (c .before .before .before .before .before .e .given .0 .0) (c .before .before .before .before .before .e .given .0 .1 .0) (c .before .before .before .before .before .e .given .0 .1 .1 .0) (c .before .before .before .new-row .result) (c .before .before .before .new-row .ensures) ∙ ap (λ (x : Event). rowsAfter (s .args .issued) (before T (s .args .k)) x) (sym (c .before .before .before .before .before .e .given .1)) in
     (rw (← e) (c .append .ensures .0), c .append .ensures .1)
 
 returns-2 : tie.Need-returns-2
 returns-2 c =
     let s = c .before .before .before .before .before .before .before .before .before .before .before in let ws = s .args .words .now in let T = rowsIn ws in
     let l : s .args .n ≤ length T = omega (arith, length-in ws, s .pre .0 .few) in
-    let e : (c .before .before .before .new-row2 .result ∷ before T (s .args .k)) ≡ rowsAfter (s .args .issued) (before T (s .args .k)) (s .args .e) = next-borrow (s .args .issued) (before T (s .args .k)) (c .before .before .before .before .before .before .before .before .before .e2 .given .0 .0) (c .before .before .before .before .before .before .before .before .before .e2 .given .0 .1 .0) (c .before .before .before .before .before .before .before .before .before .e2 .given .0 .1 .1 .0) (c .before .before .before .before .depth-at .result) (c .before .before .before .new-row2 .result) (c .before .before .before .before .depth-at .ensures) (c .before .before .before .new-row2 .ensures) ∙ ap (λ (x : Event). rowsAfter (s .args .issued) (before T (s .args .k)) x) (sym (c .before .before .before .before .before .before .before .before .before .e2 .given .1)) in
+    let e : (c .before .before .before .new-row2 .result ∷ before T (s .args .k)) ≡ rowsAfter (s .args .issued) (before T (s .args .k)) (s .args .e) = next-borrow (s .args .issued) (before T (s .args .k)) (c .before .before .before .before .before .before .before .before .before .e2 .given .0 .0) (c .before .before .before .before .before .before .before .before .before .e2 .given .0 .1 .0) (c .before .before .before .before .before .before .before .before .before .e2 .given .0 .1 .1 .0) (c .before .before .before .before .before .before .before .before .before .e2 .given .0 .1 .1 .1 .0) (c .before .before .before .before .depth-at .result) (c .before .before .before .new-row2 .result) (c .before .before .before .before .depth-at .ensures) (c .before .before .before .new-row2 .ensures) ∙ ap (λ (x : Event). rowsAfter (s .args .issued) (before T (s .args .k)) x) (sym (c .before .before .before .before .before .before .before .before .before .e2 .given .1)) in
     (rw (← e) (c .append2 .ensures .0), c .append2 .ensures .1)
 
 returns-3 : tie.Need-returns-3

@@ -48,13 +48,13 @@ returns : tie.Need-returns
 returns c =
     let s = c .before .before .before .before in let T = rowsIn (s .args .words .now) in
     let l : s .args .n ≤ length T = omega (arith, length-in (s .args .words .now), s .pre .few) in
-    rw (c .before .before .e .given .1) (c .judge-create .ensures ∙ answer-create T (s .args .n) (s .args .k) (s .args .issued) l (s .pre) (c .before .before .e .given .0 .0) (c .before .before .e .given .0 .1 .0) (suc (s .args .issued)))
+    rw (c .before .before .e .given .1) (c .judge-create .ensures ∙ answer-create T (s .args .n) (s .args .k) (s .args .issued) l (s .pre) (c .before .before .e .given .0 .0) (c .before .before .e .given .0 .1 .0) (c .before .before .e .given .0 .1 .1 .0) (suc (s .args .issued)))
 
 returns-2 : tie.Need-returns-2
 returns-2 c =
     let s = c .before .before .before .before in let T = rowsIn (s .args .words .now) in
     let l : s .args .n ≤ length T = omega (arith, length-in (s .args .words .now), s .pre .few) in
-    rw (c .before .before .e2 .given .1) (c .judge-borrow .ensures ∙ answer-other T (s .args .n) (s .args .k) (s .args .issued) l (s .pre) (Borrow (c .before .before .e2 .given .0 .0) (c .before .before .e2 .given .0 .1 .0) (c .before .before .e2 .given .0 .1 .1 .0)) (suc (s .args .issued)))
+    rw (c .before .before .e2 .given .1) (c .judge-borrow .ensures ∙ answer-other T (s .args .n) (s .args .k) (s .args .issued) l (s .pre) (Borrow (c .before .before .e2 .given .0 .0) (c .before .before .e2 .given .0 .1 .0) (c .before .before .e2 .given .0 .1 .1 .0) (c .before .before .e2 .given .0 .1 .1 .1 .0)) (suc (s .args .issued)))
 
 returns-3 : tie.Need-returns-3
 returns-3 c =

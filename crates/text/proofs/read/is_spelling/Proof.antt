@@ -4,6 +4,7 @@ use mathlib.Core.Path.{sym, _∙_}
 use lib.Seq.{length-take-le}
 use borrow.Author.Needs.{needs}
 use Rattle.model.specs.declared.Event.{Event}
+use Rattle.text.specs.declared.spelling.Spelling.{Spelling}
 use Rattle.text.specs.Event.{spell, hasSpelling}
 use Rattle.text.proofs.Laws.Write.{Wrote, wrote, wrote-none, written-event}
 use Rattle.text.proofs.Laws.Read.{same-is}
@@ -25,14 +26,17 @@ enum-told c = search needs
 returns : tie.Need-returns
 returns c =
     let call = c .before .before .before in
-    rw (wrote-none (c .enum-told .given .0 .0) (written-event _ (call .write-event .ensures)) (call .before .before .before .pre) (c .enum-told .given .1))
+    rw (wrote-none (c .enum-told .given .0 .0) (written-event _ _ (call .write-event .ensures)) (call .before .before .before .pre) (c .enum-told .given .1))
+
+abbrev spelling : tie.After-written → Spelling
+spelling c = c .before .before .before .before .before .before .args .spelling
 
 abbrev event : tie.After-written → Event
 event c = c .before .before .before .before .before .before .args .event
 
 -- what the answer of `write_event` tells
-told : (c : tie.After-written) → Wrote (hasSpelling (event c)) (spell (event c)) (c .before .before .before .write-event .last .1 .0) (c .written .given .0 .0)
-told c = wrote (c .written .given .0 .0) (written-event (event c) (c .before .before .before .write-event .ensures)) (c .written .given .1)
+told : (c : tie.After-written) → Wrote (hasSpelling (spelling c) (event c)) (spell (event c)) (c .before .before .before .write-event .last .1 .1 .0) (c .written .given .0 .0)
+told c = wrote (c .written .given .0 .0) (written-event (spelling c) (event c) (c .before .before .before .write-event .ensures)) (c .written .given .1)
 
 array-share-prefix-buffer : tie.Need-array-share-prefix-buffer
 array-share-prefix-buffer c = told (c .before) .inside

@@ -1,20 +1,15 @@
 -- `trace::run::run_ordered` meets its contract. The invariant: the table is in order and known, and the lines that are left, with those
--- taken so far, give the run of the whole text.
+-- taken so far, give the run of all lines.
 -- Assumes nothing.
 use mathlib.Core.Path.{_≡_, refl, _∙_}
-use mathlib.Core.Bool.{true}
-use mathlib.Core.List.{List}
-use Prim.Native.Nat.{ℕ, _-_, _≤_}
+use Prim.Native.Nat.{_+_, _-_, _≤_}
 use native.Mathlib.Omega.{arith}
 use lib.ListN.{length, drop}
 use borrow.Author.Needs.{needs}
-use Rattle.model.specs.declared.Tally.{Tally}
-use Rattle.model.specs.Table.{inOrder}
-use Rattle.table.specs.Words.{rowsOf}
 use Rattle.rules.specs.Steps.{heldIn}
 use Rattle.text.specs.Line.{linesOf}
-use Rattle.trace.specs.Run.{lent, runLines, runFrom, run, Known}
-use Rattle.trace.proofs.Laws.Turn.{known-order, line-some, line-inside, turn-on, turn-ends, run-ends}
+use Rattle.trace.specs.Run.{lent, runLines, Known}
+use Rattle.trace.proofs.Laws.Turn.{line-some, line-inside, turn-on, turn-ends, run-ends}
 use Rattle.trace.proofs.run.run_ordered.Statement.{statement}
 use Rattle.trace.proofs.run.run_ordered.Tie as tie
 use Rattle.trace.proofs.run.run_ordered.Reads as reads
@@ -23,20 +18,15 @@ use Rattle.text.proofs.lines.next_line.Reads as next-line-reads
 use Rattle.trace.proofs.run.take_line.Reads as take-line-reads
 
 abbrev Inv-loop : tie.InvT-loop
-Inv-loop words₀ rows live places₀ text left₀ alive₀ at₀ count₀ words places left alive at count =
-    (at ≤ length text) × (count ≤ at) × Known words rows alive (left .issued) places
-    × (runLines lent count (heldIn words rows left) (linesOf (drop at text)) ≡ runLines lent 0 (heldIn words₀ rows left₀) (linesOf text))
+Inv-loop words₀ rows live places₀ spelling before text left₀ alive₀ at₀ count₀ words places left alive at count =
+    (at ≤ length text) × (count ≤ at + 1) × Known words rows alive (left .issued) places
+    × (runLines lent spelling count (heldIn words rows left) (linesOf (drop at text)) ≡ runLines lent spelling before (heldIn words₀ rows left₀) (linesOf text))
 
 abbrev μ-loop : tie.MeasureT-loop
-μ-loop words₀ rows live places₀ text left₀ alive₀ at₀ count₀ words places left alive at count = length text - at
-
--- a run of a table in order goes by its lines
-whole : (ws : List ℕ) (n : ℕ) (t : Tally) (text : List ℕ) → inOrder (rowsOf ws n) (t .issued) ≡ true → runLines lent 0 (heldIn ws n t) (linesOf text) ≡ run (heldIn ws n t) text
-unfolding runFrom
-whole ws n t text o = rw o
+μ-loop words₀ rows live places₀ spelling before text left₀ alive₀ at₀ count₀ words places left alive at count = length text - at
 
 loop-holds : tie.Need-loop-holds Inv-loop μ-loop
-loop-holds c = (omega arith, omega arith, c .before .pre, refl)
+loop-holds c = (omega arith, omega (arith, c .before .pre .1), c .before .pre .0, refl)
 
 sub-next-line : tie.Need-sub-next-line Inv-loop μ-loop
 sub-next-line c = search needs
@@ -60,13 +50,13 @@ enum-known-answer : tie.Need-enum-known-answer Inv-loop μ-loop
 enum-known-answer c = search needs
 
 returns : tie.Need-returns Inv-loop μ-loop
-returns c = record { ran = turn-ends (c .before .before .before .before .before .before .before .before .before .before .before .before .before .args .text .now) (c .before .before .before .before .before .before .before .before .before .before .before .loop .at) (c .before .before .before .before .before .before .before .before .before .before .loop-test .taken) (c .before .before .before .before .before .before .before .before .next-line .result .now) (c .before .before .before .before .before .before .before .before .next-line .ensures) (c .before .before .before .before .before .before .before .before .before .before .before .loop .count) (c .before .before .before .before .before .take-line .ensures .0) (c .before .answer .given .1) ∙ c .before .before .before .before .before .before .before .before .before .before .before .loop .inv .3 ∙ whole (c .before .before .before .before .before .before .before .before .before .before .before .before .before .args .words .now) (c .before .before .before .before .before .before .before .before .before .before .before .before .before .args .rows) (c .before .before .before .before .before .before .before .before .before .before .before .before .before .args .tally) (c .before .before .before .before .before .before .before .before .before .before .before .before .before .args .text .now) (known-order (c .before .before .before .before .before .before .before .before .before .before .before .before .before .pre)); long = c .before .before .before .before .before .take-line .ensures .0 .long }
+returns c = record { ran = turn-ends (c .before .before .before .before .before .before .before .before .before .before .before .before .before .args .text .now) (c .before .before .before .before .before .before .before .before .before .before .before .loop .at) (c .before .before .before .before .before .before .before .before .before .before .loop-test .taken) (c .before .before .before .before .before .before .before .before .next-line .result .now) (c .before .before .before .before .before .before .before .before .next-line .ensures) (c .before .before .before .before .before .before .before .before .before .before .before .loop .count) (c .before .before .before .before .before .take-line .ensures .0) (c .before .answer .given .1) ∙ c .before .before .before .before .before .before .before .before .before .before .before .loop .inv .3; long = c .before .before .before .before .before .take-line .ensures .0 .long }
 
 enum-told : tie.Need-enum-told Inv-loop μ-loop
 enum-told c = search needs
 
 add-at : tie.Need-add-at Inv-loop μ-loop
-add-at c = omega (arith, line-inside (c .before .before .before .before .before .before .before .before .before .before .before .before .args .text .now) (c .before .before .before .before .before .before .before .before .before .before .loop .at) (c .before .before .before .before .before .before .before .before .before .loop-test .taken) (c .before .before .before .before .before .before .before .next-line .result .now) (c .before .before .before .before .before .before .before .next-line .ensures))
+add-at c = omega (arith, c .before .before .before .before .before .before .before .before .before .before .before .before .good .1 .1 .1 .1 .1 .1 .1 .0, line-inside (c .before .before .before .before .before .before .before .before .before .before .before .before .args .text .now) (c .before .before .before .before .before .before .before .before .before .before .loop .at) (c .before .before .before .before .before .before .before .before .before .loop-test .taken) (c .before .before .before .before .before .before .before .next-line .result .now) (c .before .before .before .before .before .before .before .next-line .ensures))
 
 loop-less : tie.Need-loop-less Inv-loop μ-loop
 loop-less c = omega (arith, line-some (c .before .before .before .before .before .before .before .before .before .before .before .before .args .text .now) (c .before .before .before .before .before .before .before .before .before .before .loop .at) (c .before .before .before .before .before .before .before .before .before .loop-test .taken) (c .before .before .before .before .before .before .before .next-line .result .now) (c .before .before .before .before .before .before .before .next-line .ensures), line-inside (c .before .before .before .before .before .before .before .before .before .before .before .before .args .text .now) (c .before .before .before .before .before .before .before .before .before .before .loop .at) (c .before .before .before .before .before .before .before .before .before .loop-test .taken) (c .before .before .before .before .before .before .before .next-line .result .now) (c .before .before .before .before .before .before .before .next-line .ensures))
@@ -75,7 +65,7 @@ loop-again : tie.Need-loop-again Inv-loop μ-loop
 loop-again c = (line-inside (c .before .before .before .before .before .before .before .before .before .before .before .before .args .text .now) (c .before .before .before .before .before .before .before .before .before .before .loop .at) (c .before .before .before .before .before .before .before .before .before .loop-test .taken) (c .before .before .before .before .before .before .before .next-line .result .now) (c .before .before .before .before .before .before .before .next-line .ensures), omega (arith, line-some (c .before .before .before .before .before .before .before .before .before .before .before .before .args .text .now) (c .before .before .before .before .before .before .before .before .before .before .loop .at) (c .before .before .before .before .before .before .before .before .before .loop-test .taken) (c .before .before .before .before .before .before .before .next-line .result .now) (c .before .before .before .before .before .before .before .next-line .ensures), c .before .before .before .before .before .before .before .before .before .before .loop .inv .1), c .before .before .before .before .take-line .ensures .1, turn-on (c .before .before .before .before .before .before .before .before .before .before .before .before .args .text .now) (c .before .before .before .before .before .before .before .before .before .before .loop .at) (c .before .before .before .before .before .before .before .before .before .loop-test .taken) (c .before .before .before .before .before .before .before .next-line .result .now) (c .before .before .before .before .before .before .before .next-line .ensures) (c .before .before .before .before .before .before .before .before .before .before .loop .count) (c .before .before .before .before .take-line .ensures .0) (c .enum-told .given .1) ∙ c .before .before .before .before .before .before .before .before .before .before .loop .inv .3)
 
 returns-2 : tie.Need-returns-2 Inv-loop μ-loop
-returns-2 c = record { ran = run-ends (c .before .before .before .args .text .now) (c .before .loop .at) (c .before .loop .count) (heldIn (c .before .loop .words) (c .before .before .before .args .rows) (c .before .loop .left)) (c .loop-test .left) ∙ c .before .loop .inv .3 ∙ whole (c .before .before .before .args .words .now) (c .before .before .before .args .rows) (c .before .before .before .args .tally) (c .before .before .before .args .text .now) (known-order (c .before .before .before .pre)); long = c .before .loop .inv .2 .long }
+returns-2 c = record { ran = run-ends (c .before .before .before .args .spelling) (c .before .before .before .args .text .now) (c .before .loop .at) (c .before .loop .count) (heldIn (c .before .loop .words) (c .before .before .before .args .rows) (c .before .loop .left)) (c .loop-test .left) ∙ c .before .loop .inv .3; long = c .before .loop .inv .2 .long }
 
 pub run-ordered-spec : {M : Type 1} → statement M
 run-ordered-spec =

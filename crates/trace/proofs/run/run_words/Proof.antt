@@ -20,7 +20,7 @@ use Rattle.trace.proofs.run.run_words.Reads as reads
 use Rattle.trace.proofs.run.run_words.Lts as lts
 use Rattle.table.proofs.find.live_count.Reads as live-count-reads
 use Rattle.table.proofs.ordered.check_order.Reads as check-order-reads
-use Rattle.trace.proofs.run.run_ordered.Reads as run-ordered-reads
+use Rattle.trace.proofs.run.run_text.Reads as run-text-reads
 
 -- a table out of order
 refused : (ws : List ℕ) (n : ℕ) (t : Tally) (text : List ℕ) → inOrder (rowsOf ws n) (t .issued) ≡ false → length ws ≡ 6144 → Runs ws n t text ws (record { tally = t; answer = Refused Disordered 0 })
@@ -33,8 +33,8 @@ live-count-requires c κs = search needs
 check-order-requires : tie.Need-check-order-requires
 check-order-requires c κs = search needs
 
-run-ordered-requires : tie.Need-run-ordered-requires
-run-ordered-requires c κs = record { orderly = record { few = c .before .before .before .before .before .before .before .before .if1 .taken; front = c .before .before .before .before .before .before .live-count .ensures; ordered = sym (c .before .before .before .check-order .ensures .0) ∙ c .before .before .if2 .taken }; placed = c .before .before .before .check-order .ensures .1 .known (c .before .before .if2 .taken); long = c .before .before .before .before .before .before .before .before .before .before .pre }
+run-text-requires : tie.Need-run-text-requires
+run-text-requires c κs = record { orderly = record { few = c .before .before .before .before .before .before .before .before .if1 .taken; front = c .before .before .before .before .before .before .live-count .ensures; ordered = sym (c .before .before .before .check-order .ensures .0) ∙ c .before .before .if2 .taken }; placed = c .before .before .before .check-order .ensures .1 .known (c .before .before .if2 .taken); long = c .before .before .before .before .before .before .before .before .before .before .pre }
 
 returns : tie.Need-returns
 returns c = search needs
@@ -51,7 +51,7 @@ run-words-spec =
     (tie.spec
     live-count-requires
     check-order-requires
-    run-ordered-requires
+    run-text-requires
     returns
     returns-2
     returns-3)

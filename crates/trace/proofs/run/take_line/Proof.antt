@@ -36,14 +36,14 @@ count-refused-requires c κs = search needs
 returns : tie.Need-returns
 returns c =
     let k = c .step-known .ensures in
-    (taken-event (c .before .before .before .before .before .before .before .before .args .words .now) (c .before .before .before .before .before .before .before .before .args .rows) (c .before .before .before .before .before .before .before .before .args .tally) (c .before .before .before .before .before .before .before .before .args .line .now) (sym (ap readAnswer (sym (c .before .before .before .before .found .given .1)) ∙ c .before .before .before .before .before .before .read-event .ensures)) (k .0), record { orderly = k .1; placed = k .2; long = k .0 .long })
+    (taken-event (c .before .before .before .before .before .before .before .before .args .spelling) (c .before .before .before .before .before .before .before .before .args .words .now) (c .before .before .before .before .before .before .before .before .args .rows) (c .before .before .before .before .before .before .before .before .args .tally) (c .before .before .before .before .before .before .before .before .args .line .now) (sym (ap readAnswer (sym (c .before .before .before .before .found .given .1)) ∙ c .before .before .before .before .before .before .read-event .ensures)) (k .0), record { orderly = k .1; placed = k .2; long = k .0 .long })
 
 returns-2 : tie.Need-returns-2
 returns-2 c =
     let line : List ℕ = c .before .before .before .before .before .args .line .now in
     let refusal : ℕ = number (c .before .enum-told .given .0 .0) in
-    let read : readEvent line ≡ refused refusal = sym (ap readAnswer (sym (c .before .enum-told .given .1)) ∙ c .before .before .before .read-event .ensures) in
-    (taken-misspelt (c .before .before .before .before .before .args .words .now) (c .before .before .before .before .before .args .rows) (c .before .before .before .before .before .args .tally) line (read ∙ ap refused (refused-is-2 line refusal read)) (c .count-refused .ensures) (c .before .before .before .before .before .pre .long), rw (ap (λ (y : Tally). y .issued) (c .count-refused .ensures)) (c .before .before .before .before .before .pre))
+    let read : readEvent (c .before .before .before .before .before .args .spelling) line ≡ refused refusal = sym (ap readAnswer (sym (c .before .enum-told .given .1)) ∙ c .before .before .before .read-event .ensures) in
+    (taken-misspelt (c .before .before .before .before .before .args .spelling) (c .before .before .before .before .before .args .words .now) (c .before .before .before .before .before .args .rows) (c .before .before .before .before .before .args .tally) line (read ∙ ap refused (refused-is-2 (c .before .before .before .before .before .args .spelling) line refusal read)) (c .count-refused .ensures) (c .before .before .before .before .before .pre .long), rw (ap (λ (y : Tally). y .issued) (c .count-refused .ensures)) (c .before .before .before .before .before .pre))
 
 pub take-line-spec : {M : Type 1} → statement M
 take-line-spec =

@@ -1,0 +1,69 @@
+-- The spelling of an event is one line, ended by its newline, and none is the line `(trace 2)`: what a text of such lines is cut into.
+-- Assumes nothing.
+use mathlib.Core.Path.{_≡_, refl, ap}
+use mathlib.Core.Bool.{Bool, true, false, cond}
+use mathlib.Core.List.{List, [], _∷_, _++_, append-assoc}
+use Prim.Native.Nat.{ℕ, zero, suc, _+_}
+use lib.Dec.{eqb}
+use Rattle.text.specs.Result.{value, refused}
+use Rattle.text.specs.Class.{classOf}
+use Rattle.text.specs.Line.{through, push, linesOf}
+use Rattle.text.specs.Decimal.{numeral, decimal, numberFrom}
+use Rattle.text.specs.Event.{bytes, spaced, ending, spanNumbers, writtenNumbers, spell, hasSpelling}
+use Rattle.text.specs.Read.{same, guess, readEvent}
+use Rattle.text.proofs.Laws.Digits.{digits, digitAt, decimal-width}
+use Rattle.text.proofs.Laws.Number.{digit-class, digit-small}
+use Rattle.text.proofs.Laws.OneSpelling.{read-is-spelling}
+use Rattle.text.specs.declared.spelling.Spelling.{Spelling}
+use Rattle.text.specs.declared.spelling.Spelling.the-variants.{Plain, Named}
+use Rattle.model.specs.declared.Event.{Event}
+use Rattle.model.specs.declared.Event.the-variants.{Create, Borrow, Read, Write, Drop}
+
+-- a text that is a line by itself, whatever follows
+abbrev Ends : List ℕ → Type 0
+Ends e = (t : List ℕ) → linesOf (e ++ t) ≡ e ∷ linesOf t
+
+-- so is one with digits in front of it, with a number, and with numbers
+digits-end : (n k : ℕ) (e : List ℕ) → Ends e → Ends (digits 10 n k ++ e)
+unfolding digits linesOf push
+digits-end n zero e ends t = ends t
+digits-end n (suc k) e ends t =
+    rw (digit-class (digitAt 10 n k) (digit-small n k)) (ap (push (48 + digitAt 10 n k)) (digits-end n k e ends t))
+
+decimal-end : (n : ℕ) (e : List ℕ) → Ends e → Ends (decimal n ++ e)
+decimal-end n e ends t =
+    let r = decimal-width n in
+    rw (r .2) (digits-end n (suc (r .0)) e ends t)
+
+numbers-end : (ns e : List ℕ) → Ends e → Ends (spaced ns ++ e)
+unfolding spaced linesOf push classOf
+numbers-end [] e ends t = ends t
+numbers-end (n ∷ ns) e ends t =
+    rw (append-assoc (decimal n) (spaced ns) e) (ap (push 32) (decimal-end n (spaced ns ++ e) (numbers-end ns e ends) t))
+
+ending-ends : (r : ℕ) → Ends (bytes (ending r))
+unfolding linesOf push classOf
+ending-ends r = go (eqb r 1)
+  where
+    go : (b : Bool) → Ends (bytes (cond b " ro)\n" " rw)\n"))
+    go true t = refl
+    go false t = refl
+
+-- the lines of a text that begins with an event's spelling are that and the lines of the rest
+pub spell-is-line : (e : Event) (t : List ℕ) → linesOf (spell e ++ t) ≡ spell e ∷ linesOf t
+unfolding spell linesOf push classOf
+spell-is-line (Create w s r) t = rw (numbers-end (writtenNumbers w ++ spanNumbers s) (bytes (ending r)) (ending-ends r) t)
+spell-is-line (Borrow w n s r) t = rw (numbers-end (writtenNumbers w ++ (n .0 ∷ spanNumbers s)) (bytes (ending r)) (ending-ends r) t)
+spell-is-line (Read n s) t = rw (numbers-end (n .0 ∷ spanNumbers s) (bytes ")\n") (λ t. refl) t)
+spell-is-line (Write n s) t = rw (numbers-end (n .0 ∷ spanNumbers s) (bytes ")\n") (λ t. refl) t)
+spell-is-line (Drop n) t = rw (numbers-end (n .0 ∷ []) (bytes ")\n") (λ t. refl) t)
+
+-- a text that reads as an event is a line with its newline
+pub read-is-line : (k : Spelling) (s : List ℕ) (e : Event) → readEvent k s ≡ value e → (t : List ℕ) → linesOf (s ++ t) ≡ s ∷ linesOf t
+read-is-line k s e h t = rw (read-is-spelling k s e h .2) (spell-is-line e t)
+
+-- card 1: the line that tells that names are written out "is no event"
+pub header-is-no-event : (k : Spelling) → readEvent k (bytes "(trace 2)\n") ≡ refused 2
+unfolding readEvent guess through classOf numberFrom same hasSpelling spell spaced decimal numeral
+header-is-no-event Plain = refl
+header-is-no-event Named = refl

@@ -1,0 +1,22 @@
+-- `text::read::borrow_of` meets its contract: each word is what stands behind a space.
+-- Assumes nothing.
+use borrow.Author.Needs.{needs}
+use Rattle.text.proofs.read.borrow_of.Statement.{statement}
+use Rattle.text.proofs.read.borrow_of.Tie as tie
+
+returns : tie.Need-returns
+returns c = cc
+
+pub borrow-of-spec : {M : Type 1} → statement M
+borrow-of-spec =
+    tie.close
+    (tie.spec
+    (λ c κs. search needs)
+    (λ c κs. search needs)
+    (λ c κs. search needs)
+    (λ c κs. search needs)
+    (λ c κs. search needs)
+    (λ c κs. search needs)
+    (λ c κs. search needs)
+    (λ c κs. search needs)
+    returns)

@@ -1,0 +1,59 @@
+-- The first line of a trace: whether it is `(trace 2)`, and what then follows it.
+-- Assumes nothing.
+use mathlib.Core.Path.{_≡_, refl, sym, ap, _∙_}
+use mathlib.Core.Bool.{true, false}
+use mathlib.Core.List.{List, [], _∷_}
+use Prim.Native.Nat.{ℕ, suc, _≤_, _<_}
+use native.Mathlib.Omega.{arith}
+use lib.ListN.{length, drop}
+use lib.Seq.{length-take-le}
+use Rattle.model.specs.declared.Tally.{Tally}
+use Rattle.model.specs.Step.{State}
+use Rattle.model.specs.Table.{inOrder}
+use Rattle.model.proofs.Lists.{clash}
+use Rattle.table.specs.Words.{rowsOf}
+use Rattle.rules.specs.Steps.{heldIn}
+use Rattle.text.specs.Class.{newline}
+use Rattle.text.specs.Line.{through, nextLine, linesOf}
+use Rattle.text.specs.Read.{same}
+use Rattle.text.specs.declared.spelling.Spelling.the-variants.{Plain, Named}
+use Rattle.text.proofs.Laws.Line.{lines-next, through-le}
+use Rattle.text.proofs.Laws.Read.{same-refl, same-true}
+use Rattle.trace.specs.declared.run.RunOutcome.{RunOutcome}
+use Rattle.trace.specs.Run.{header, Checker, runLines, runTrace, runFrom, lent, run, Runs, RunsLines}
+
+-- a text whose first line is the header has its ten bytes in front
+module _ (text : List ℕ) (h : same (nextLine text) header ≡ true) where
+  first-is : nextLine text ≡ header
+  first-is = same-true (nextLine text) header h
+
+  ten : through newline text ≡ 10
+  ten = sym (length-take-le (through newline text) text (through-le newline text)) ∙ ap length first-is
+
+  pub header-inside : 10 ≤ length text
+  header-inside = omega (arith, ten, through-le newline text)
+
+  pub header-lines : linesOf text ≡ header ∷ linesOf (drop 10 text)
+  header-lines = lines-next text (omega (arith, header-inside)) ∙ (λ i. first-is i ∷ linesOf (drop (ten i) text))
+
+  pub trace-named : {S : Type 0} (c : Checker S) (s : S) → runTrace c s (linesOf text) ≡ runLines c Named 1 s (linesOf (drop 10 text))
+  unfolding runTrace
+  trace-named c s = rw (header-lines, same-refl header)
+
+-- any other is one of lines that write no names
+pub trace-plain : (text : List ℕ) → same (nextLine text) header ≡ false → {S : Type 0} (c : Checker S) (s : S) → runTrace c s (linesOf text) ≡ runLines c Plain 0 s (linesOf text)
+unfolding runTrace linesOf
+trace-plain [] h c s = refl
+trace-plain (b ∷ t) h c s = rw (lines-next (b ∷ t) (omega arith), h)
+
+-- a run of a table in order goes by its lines
+in-order : (ws : List ℕ) (n : ℕ) (t : Tally) (text : List ℕ) → inOrder (rowsOf ws n) (t .issued) ≡ true → runTrace lent (heldIn ws n t) (linesOf text) ≡ run (heldIn ws n t) text
+unfolding runFrom
+in-order ws n t text o = rw o
+
+module _ (ws : List ℕ) (n : ℕ) (t : Tally) (text : List ℕ) (o : inOrder (rowsOf ws n) (t .issued) ≡ true) {ws′ : List ℕ} {r : RunOutcome} where
+  pub runs-named : same (nextLine text) header ≡ true → {rest : List ℕ} → rest ≡ drop 10 text → RunsLines Named 1 ws n t rest ws′ r → Runs ws n t text ws′ r
+  runs-named h e k = record { ran = k .ran ∙ ap (λ (l : List ℕ). runLines lent Named 1 (heldIn ws n t) (linesOf l)) e ∙ sym (trace-named text h lent (heldIn ws n t)) ∙ in-order ws n t text o; long = k .long }
+
+  pub runs-plain : same (nextLine text) header ≡ false → RunsLines Plain 0 ws n t text ws′ r → Runs ws n t text ws′ r
+  runs-plain h k = record { ran = k .ran ∙ sym (trace-plain text h lent (heldIn ws n t)) ∙ in-order ws n t text o; long = k .long }
