@@ -60,7 +60,7 @@ enum {
 enum kz_refusal {
     KZ_DISORDERED = 1,       /* the table is not in order, or has more than KZ_MAX_ROWS rows */
     KZ_MISSPELT = 2,         /* a line or listing not in the one spelling; an unknown kind or right */
-    KZ_ILLEGAL_SPAN = 3,     /* a length of 0, or an end above 4,294,967,296 */
+    KZ_ILLEGAL_SPAN = 3,     /* an end above 4,294,967,296 */
     KZ_UNISSUED = 4,         /* name 0, or a name above the issued number */
     KZ_ENDED = 5,            /* a name that was issued, and whose capability has ended */
     KZ_OUTSIDE_SPAN = 6,     /* a span that is not inside the capability's */
@@ -80,7 +80,7 @@ typedef struct kz_cap {
     uint32_t name;   /* 1 to KZ_MAX_NAME, given out in order and never twice */
     uint32_t parent; /* the name it was borrowed from, 0 for a created one */
     uint32_t start;  /* the first address of its span */
-    uint32_t length; /* the number of addresses in its span, at least 1 */
+    uint32_t length; /* the number of addresses in its span, which may be 0 */
     uint32_t right;  /* KZ_RO or KZ_RW */
     uint32_t depth;  /* 1 for a created one, one more for each borrow, at most KZ_MAX_DEPTH */
 } kz_cap;

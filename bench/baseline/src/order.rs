@@ -43,7 +43,7 @@ impl Span {
     }
 
     pub(crate) fn is_legal(self) -> bool {
-        self.start < self.end && self.end <= ADDRESSES
+        self.end <= ADDRESSES
     }
 
     pub(crate) fn is_inside(self, outer: Span) -> bool {

@@ -8,7 +8,9 @@ pub struct Name(pub u32);
 #[derive(Clone, Copy, Debug, PartialEq, Eq, PartialOrd, Ord, Hash)]
 pub struct Addr(pub u32);
 
-/// A run of addresses. Legal when the length is at least 1 and the end at most 4,294,967,296.
+/// A run of addresses, of any length, 0 included. Legal when its end is at most 4,294,967,296. One
+/// of length 0 touches nothing, and lies inside another when its start is at or between the other's
+/// start and end.
 #[derive(Clone, Copy, Debug, PartialEq, Eq, Hash)]
 pub struct Span {
     /// The first address.

@@ -1,4 +1,4 @@
--- Document 01, "Traces to try", those with a star; "Eleven ways to be turned down", the examples that are events; card 1; and
+-- Document 01, "Traces to try", those with a star; "Eleven ways to be turned down", the examples that are events; cards 1 and 2; and
 -- capcheck's example.
 -- One table, and one computed proof over it (proofs/Traces).
 -- Assumes nothing.
@@ -86,8 +86,8 @@ starred =
     ∷ created 1024 ((borrow 1 0 8 RW, 0, 2) ∷ (borrow 1 0 8 RW, 0, 3) ∷ (read 2 0 1, 0, 0) ∷ (read 3 0 1, 0, 0) ∷ []) ((1, RW) ∷ (2, ro) ∷ (3, ro) ∷ [])
     -- 5
     ∷ created 1024 ((borrow 1 0 32 RW, 0, 2) ∷ (borrow 2 16 16 RW, 0, 3) ∷ (write 1 0 1, 0, 0) ∷ []) ((1, RW) ∷ [])
-    -- 6
-    ∷ created 1024 ((drop 1, 0, 0) ∷ (read 1 0 0, 3, 0) ∷ []) []
+    -- 6, where card 2 gives 5
+    ∷ created 1024 ((drop 1, 0, 0) ∷ (read 1 0 0, 5, 0) ∷ []) []
     -- 7
     ∷ trace 1024 ((create 4294967295 1 RW, 0, 1) ∷ (create 4294967295 2 RW, 3, 0) ∷ []) ((1, RW) ∷ [])
     -- 8
@@ -122,8 +122,8 @@ refused =
     from (record { table = namedThree ∷ namedThree ∷ []; tally = noCounts 3 }) ((read 3 0 8, 1, 0) ∷ []) ((3, RW) ∷ (3, RW) ∷ [])
     -- 2: an event whose right is neither 1 nor 2
     ∷ created 2 ((borrow 1 0 8 0, 2, 0) ∷ (create 0 8 3, 2, 0) ∷ []) ((1, RW) ∷ [])
-    -- 3
-    ∷ created 2 ((read 1 0 0, 3, 0) ∷ []) ((1, RW) ∷ [])
+    -- 3: an end above 4,294,967,296; its example in document 01 is allowed by card 2
+    ∷ created 2 ((read 1 4294967295 2, 3, 0) ∷ (read 1 0 0, 0, 0) ∷ []) ((1, RW) ∷ [])
     -- 4
     ∷ created 2 ((read 9 0 8, 4, 0) ∷ []) ((1, RW) ∷ [])
     -- 5
@@ -150,6 +150,15 @@ written =
     ∷ created 1 ((createNamed 3 0 8 RW, 12, 0) ∷ (createNamed 2 0 8 RW, 10, 0) ∷ []) ((1, RW) ∷ [])
     ∷ []
 
+-- Card 2: a span of length 0 touches nothing; it lies inside another up to that one's end; liveness and right are judged as before
+unfoldable pub empty : List Trace
+empty =
+    trace 4 ((create 0 8 RW, 0, 1) ∷ (borrow 1 0 8 RW, 0, 2) ∷ (write 1 4 0, 0, 0) ∷ []) ((1, RW) ∷ (2, RW) ∷ [])
+    ∷ trace 4 ((create 0 8 RW, 0, 1) ∷ (borrow 1 8 0 RW, 0, 2) ∷ (borrow 1 9 0 RW, 6, 0) ∷ (write 1 0 8, 0, 0) ∷ []) ((1, RW) ∷ (2, RW) ∷ [])
+    ∷ trace 4 ((create 0 8 RW, 0, 1) ∷ (borrow 1 0 0 ro, 0, 2) ∷ (write 2 0 0, 7, 0) ∷ (drop 2, 0, 0) ∷ (read 2 0 0, 5, 0) ∷ []) ((1, RW) ∷ [])
+    ∷ trace 4 ((create 4294967295 1 RW, 0, 1) ∷ (create 4294967295 0 RW, 0, 2) ∷ (read 1 4294967295 0, 0, 0) ∷ []) ((1, RW) ∷ (2, RW) ∷ [])
+    ∷ []
+
 -- "The bracket text": what capcheck is shown on
 unfoldable pub printed : Trace
 printed =
@@ -158,7 +167,7 @@ printed =
     ((1, RW) ∷ (2, ro) ∷ (3, RW) ∷ [])
 
 unfoldable pub traces : List Trace
-traces = starred ++ (refused ++ (written ++ (printed ∷ [])))
+traces = starred ++ (refused ++ (written ++ (empty ++ (printed ∷ []))))
 
 -- ---- when a trace goes as it says
 

@@ -68,7 +68,7 @@ pub enum Refusal {
     Disordered,
     // 2: line or listing not in the one spelling; event whose right is neither 1 nor 2.
     Misspelt,
-    // 3: span not legal.
+    // 3: span not legal: it ends above 4,294,967,296.
     IllegalSpan,
     // 4: name 0 or above the issued number.
     Unissued,

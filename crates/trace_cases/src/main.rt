@@ -105,7 +105,11 @@ fn refusals() {
     run_on_disordered(b"");
     run_on_disordered(b"no event\n");
     run_on_empty(2, 0, b"(create 0 64 rw)\n(read 01 0 8)\n");
-    run_on_empty(2, 0, b"(create 0 64 rw)\n(read 1 0 0)\n");
+    run_on_empty(
+        2,
+        0,
+        b"(create 0 64 rw)\n(read 1 0 0)\n(read 1 4294967295 2)\n",
+    );
     run_on_empty(2, 0, b"(create 0 64 rw)\n(read 9 0 8)\n");
     run_on_empty(2, 0, b"(create 0 64 rw)\n(drop 1)\n(read 1 0 8)\n");
     run_on_empty(2, 0, b"(create 0 64 rw)\n(read 1 60 8)\n");

@@ -28,7 +28,7 @@ const TWINS: [Step; 3] = [
 ];
 
 /// Traces on a table with room and no name issued.
-const TRACES: [(&str, &[Step], &str); 10] = [
+const TRACES: [(&str, &[Step], &str); 15] = [
     (
         "trace 1",
         &[
@@ -75,8 +75,8 @@ const TRACES: [(&str, &[Step], &str); 10] = [
         "(issued 3)\n(1 0 64 rw)\n",
     ),
     (
-        "trace 6",
-        &[ROOT, ("(drop 1)", Ok(0)), ("(read 1 0 0)", Err(3))],
+        "trace 6, by card 2",
+        &[ROOT, ("(drop 1)", Ok(0)), ("(read 1 0 0)", Err(5))],
         "(issued 1)\n",
     ),
     (
@@ -88,6 +88,50 @@ const TRACES: [(&str, &[Step], &str); 10] = [
         "trace 7, length 2",
         &[("(create 4294967295 2 rw)", Err(3))],
         "(issued 0)\n",
+    ),
+    (
+        "length 0 touches nothing",
+        &[
+            ("(create 0 8 rw)", Ok(1)),
+            ("(borrow 1 0 8 rw)", Ok(2)),
+            ("(write 1 4 0)", Ok(0)),
+        ],
+        "(issued 2)\n(1 0 8 rw (2 0 8 rw))\n",
+    ),
+    (
+        "length 0 at the end, and behind it",
+        &[
+            ("(create 0 8 rw)", Ok(1)),
+            ("(borrow 1 8 0 rw)", Ok(2)),
+            ("(borrow 1 9 0 rw)", Err(6)),
+        ],
+        "(issued 2)\n(1 0 8 rw (2 8 0 rw))\n",
+    ),
+    (
+        "length 0 through an ended name",
+        &[
+            ("(create 0 8 rw)", Ok(1)),
+            ("(drop 1)", Ok(0)),
+            ("(read 1 0 0)", Err(5)),
+        ],
+        "(issued 1)\n",
+    ),
+    (
+        "length 0 through `ro`",
+        &[
+            ("(create 0 8 rw)", Ok(1)),
+            ("(borrow 1 0 8 ro)", Ok(2)),
+            ("(write 2 0 0)", Err(7)),
+        ],
+        "(issued 2)\n(1 0 8 rw (2 0 8 ro))\n",
+    ),
+    (
+        "length 0 at the last address",
+        &[
+            ("(create 4294967295 1 rw)", Ok(1)),
+            ("(create 4294967295 0 rw)", Ok(2)),
+        ],
+        "(issued 2)\n(1 4294967295 1 rw)\n(2 4294967295 0 rw)\n",
     ),
     (
         "trace 10",
@@ -106,7 +150,11 @@ const TRACES: [(&str, &[Step], &str); 10] = [
 const REFUSALS: [(&str, &[Step], &str); 6] = [
     (
         "refusal 3",
-        &[ROOT, ("(read 1 0 0)", Err(3))],
+        &[
+            ROOT,
+            ("(read 1 0 0)", Ok(0)),
+            ("(read 1 4294967295 2)", Err(3)),
+        ],
         "(issued 1)\n(1 0 64 rw)\n",
     ),
     (
@@ -486,7 +534,7 @@ const MISNAMED: [Step; 12] = [
     ("(borrow 4294967295 1 0 8 rw)", Err(12)),
     ("(create 3 0 8 rw)", Err(12)),
     ("(borrow 3 01 0 8 rw)", Err(2)),
-    ("(create 3 0 0 rw)", Err(3)),
+    ("(create 3 4294967295 2 rw)", Err(3)),
     ("(borrow 3 2 0 8 rw)", Err(4)),
     ("(borrow 3 1 60 8 rw)", Err(6)),
     ("(create 0 8 rw)", Err(2)),

@@ -46,19 +46,20 @@ pub fn area(random: &mut Random) -> Span {
     ])
 }
 
-/// A legal span inside another.
+/// A legal span inside another. It may have length 0, and then start at the other's end.
 fn inside(random: &mut Random, outer: Span) -> Span {
     if random.one_in(3) {
         return outer;
     }
-    let offset = random.below(outer.length.into()) as u32;
+    let last = outer.length.min(u32::MAX - outer.start);
+    let offset = random.below(u64::from(last) + 1) as u32;
     let most = match random.one_in(2) {
         true => outer.length - offset,
         false => (outer.length - offset).min(4),
     };
     Span {
         start: outer.start + offset,
-        length: 1 + random.below(most.into()) as u32,
+        length: random.below(u64::from(most) + 1) as u32,
     }
 }
 

@@ -1,4 +1,4 @@
-//! The values of document 01 and of card 1: spans, rights, events and the numbers of refusals.
+//! The values of document 01 and of cards 1 and 2: spans, rights, events and the numbers of refusals.
 
 pub const MAX_ROWS: usize = 1_024;
 pub const MAX_NAME: u32 = 1_000_000;
@@ -23,11 +23,12 @@ impl Span {
         u64::from(self.start) + u64::from(self.length)
     }
 
+    /// Card 2: a length of 0 is legal.
     pub fn is_legal(self) -> bool {
-        self.length >= 1 && self.end() <= 1 << 32
+        self.end() <= 1 << 32
     }
 
-    /// Whether the two share an address.
+    /// Whether the two share an address; one of length 0 shares none.
     pub fn touches(self, other: Span) -> bool {
         let first_shared = u64::from(self.start.max(other.start));
         first_shared < self.end().min(other.end())

@@ -25,13 +25,14 @@ use Rattle.text.proofs.Laws.Read.{same-refl, same-true}
 use Rattle.listing.proofs.Laws.Sorted.{preorder, InOrder, sorted-preorder, length-sorted}
 use Rattle.listing.proofs.Laws.Live.{live-order}
 use Rattle.listing.proofs.Laws.Front.{Order, order, order-live}
-use Rattle.listing.proofs.Laws.Nested.{nested-reverse, roots-reverse, fields-reverse}
+use Rattle.listing.proofs.Laws.Nested.{Small, nested-reverse, roots-reverse, fields-reverse}
 use Rattle.listing.proofs.Laws.Back.{lines-back, lines-behind, issued-back}
 
--- a table in order whose lengths are numbers of 32 bits, as every table of the code. (A length of 4,294,967,296 at address 0 is legal, and no 32-bit number.)
+-- a table in order whose starts and lengths are numbers of 32 bits, as every table of the code. (A span of length 4,294,967,296 at address 0
+-- is legal, and one of length 0 at address 4,294,967,296, and neither has such numbers.)
 pub record Listable (table : List Cap) (issued : ℕ) : Type 0 where
   pub ordered : inOrder table issued ≡ true
-  pub small : All (λ c. c .length < 2 ^ 32) (liveRows table)
+  pub small : All Small (liveRows table)
 
 -- the live rows in a table of another size
 module _ (n : ℕ) (table : List Cap) (issued : ℕ) (h : inOrder table issued ≡ true) (few : n ≤ 1024) (fits : length (liveRows table) ≤ n) where
