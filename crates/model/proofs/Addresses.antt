@@ -1,11 +1,11 @@
 -- The tests of spans say what document 01 says of their addresses.
 -- Assumes nothing.
 use mathlib.Core.Path.{_≡_}
-use mathlib.Core.Bool.{true}
+use mathlib.Core.Bool.{true, false}
 use Prim.Native.Nat.{ℕ, pred, _<_, _≤_, min, max}
 use native.Mathlib.Omega.{arith}
 use lib.Dec.{leb}
-use borrow.Author.Tests.{leb-true, le-leb, ltb-true, lt-ltb}
+use borrow.Author.Tests.{leb-true, le-leb, ltb-true, lt-ltb, le-ltb}
 use Rattle.model.specs.declared.Span.{Span}
 use Rattle.model.specs.Values.{end, touches, inside}
 use Rattle.model.proofs.Lists.{and-both}
@@ -22,6 +22,10 @@ pub shared : (s t : Span) → touches s t ≡ true → (a : ℕ) × (In a s × I
 shared s t h =
     let l = ltb-true (max (s .start .0) (t .start .0)) (min (end s) (end t)) h in
     (max (s .start .0) (t .start .0), omega arith)
+
+-- A span of length 0 has no address to share.
+pub touches-none : (s t : Span) → s .length ≡ 0 → touches s t ≡ false
+touches-none s t z = le-ltb (max (s .start .0) (t .start .0)) (min (end s) (end t)) (omega arith)
 
 -- A span lies inside another when each of its addresses is one of the other's, if it has any.
 pub inside-each : (s t : Span) → inside s t ≡ true → (a : ℕ) → In a s → In a t

@@ -3,15 +3,16 @@
 -- Assumes nothing.
 use mathlib.Core.Path.{_≡_, refl, sym, ap, ap₂, _∙_}
 use mathlib.Core.Logic.{_⊎_, inl, inr}
-use mathlib.Core.Bool.{true, false, not, _||_, and-true, or-true}
+use mathlib.Core.Bool.{Bool, true, false, not, _&&_, _||_, and-true, or-true}
 use mathlib.Core.List.{List, _∷_, _++_, map, map-map}
 use Prim.Native.Nat.{ℕ, _<_}
 use native.Mathlib.Omega.{arith}
 use lib.Dec.{eqb}
 use borrow.Author.Tests.{ne-eqb, not-true}
+use Rattle.model.specs.declared.Access.the-variants.{Writing}
 use Rattle.model.specs.Lists.{filter, any}
 use Rattle.model.specs.Derivation.{Derivation, ancestry, inSubtree, onAncestry}
-use Rattle.model.specs.Strike.{isEnd, strike, reached}
+use Rattle.model.specs.Strike.{isEnd, strike, reached, reclaimed}
 use Rattle.model.specs.Table.{named, derivation}
 use Rattle.model.specs.Table
 use Rattle.model.specs.Refusals
@@ -20,15 +21,19 @@ use Rattle.model.specs.Counts
 use Rattle.model.specs.Step
 use Rattle.model.specs.History.{Note, New, Accessed, Dropped, derivedBy, derivations, user, Takes, ends, hits, lives, rowOf, alive, rows}
 use Rattle.model.proofs.Lists.{All, All-map, All-zip, All-of, All-append, All-last, test, clash, and-both, or-neither, any-false, map-id}
-use Rattle.model.proofs.Ancestries.{Closed, Step, ancestry-step, ancestry-kept}
+use Rattle.model.proofs.Ancestries.{Closed, Falling, Step, ancestry-step, ancestry-kept, falling-kept}
 use Rattle.model.proofs.Notes.{Sound, floor, falling, named-before, ancestry-older, lives-older, rows-all, revokedBy, revokedBy-cong, rows-noted}
 
 -- ---- a parent lives as long as its children
 
+and-or : (a p q : Bool) → a && (p || q) ≡ false → a && q ≡ false
+and-or true p q h = or-neither p q h .1
+and-or false p q h = refl
+
 -- what ends an ancestor ends its descendants
 ends-up : (w : Note) (through above : List Derivation) (b : Derivation) → ends w through (b ∷ above) ≡ false → ends w through above ≡ false
-unfolding ends reached onAncestry
-ends-up (New c r) through above b h = refl
+unfolding ends reached reclaimed onAncestry
+ends-up (New c r) through above b h = and-or (eqb (c .parent) 0) (isEnd (strike Writing (c .span) through (b ∷ above))) (reached isEnd Writing (c .span) through above) h
 ends-up (Accessed a u s) through above b h = or-neither (isEnd (strike a s through (b ∷ above))) (reached isEnd a s through above) h .1
 ends-up (Dropped u) through above b h = or-neither (eqb u (b .name)) (inSubtree u above) h .1
 
@@ -37,7 +42,7 @@ abbrev pub Through : List Note → Note → Type 0
 Through notes w = eqb (user w) 0 || lives notes (user w) ≡ true
 
 pub closed-noted : (n : ℕ) (w : Note) (notes : List Note) → Sound n (w ∷ notes) → Through notes w → Closed (lives notes) (derivations notes) → Closed (lives (w ∷ notes)) (derivations (w ∷ notes))
-unfolding derivations derivedBy hits ends
+unfolding derivations derivedBy hits ends reclaimed
 closed-noted n w notes s p c =
     All-append _ (derivedBy w) (derivations notes) (made w s p)
     (All-map _ _ stays (derivations notes)
@@ -51,7 +56,12 @@ closed-noted n w notes s p c =
     parent-lives w s b l u e = rw (lives-older n w notes s (b .parent) l, e, and-true (lives notes (b .parent))) u
 
     made : (w : Note) → Sound n (w ∷ notes) → Through notes w → All (λ b. lives (w ∷ notes) (b .name) ≡ true → Under (w ∷ notes) b) (derivedBy w)
-    made (New b r) s p = (λ e. parent-lives (New b r) s b (s .1) p refl, tt)
+    -- a create's parent is 0, and a borrow ends nothing
+    made (New b r) s p = (λ e. go (test (eqb (b .parent) 0)), tt)
+      where
+        go : (eqb (b .parent) 0 ≡ true) ⊎ (eqb (b .parent) 0 ≡ false) → Under (New b r ∷ notes) b
+        go (inl t) = rw t
+        go (inr f) = parent-lives (New b r) s b (s .1) p (rw f)
     made (Accessed a u t) s p = tt
     made (Dropped u) s p = tt
 
@@ -66,6 +76,9 @@ module _ (n : ℕ) (notes : List Note) (s : Sound n notes) (c : Closed (lives no
   derivations-rows : Table.derivations (rows notes) ≡ filter (alive notes) (derivations notes)
   unfolding rows rowOf
   derivations-rows = map-map derivation (rowOf notes) (filter (alive notes) (derivations notes)) ∙ map-id (filter (alive notes) (derivations notes))
+
+  pub falling-rows : Falling n (Table.derivations (rows notes))
+  falling-rows = rw derivations-rows (falling-kept (alive notes) n (derivations notes) (falling n notes s))
 
   ancestry-rows : (x : ℕ) → eqb x 0 || lives notes x ≡ true → ancestry (derivations notes) x ≡ ancestry (Table.derivations (rows notes)) x
   ancestry-rows x h = sym (rw derivations-rows (ancestry-kept (lives notes) n (derivations notes) (falling n notes s) c x h))

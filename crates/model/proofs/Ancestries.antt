@@ -4,7 +4,7 @@ use mathlib.Core.Path.{_≡_, refl, sym, ap, _∙_}
 use mathlib.Core.Logic.{_⊎_, inl, inr}
 use mathlib.Core.Bool.{Bool, true, false, _||_}
 use mathlib.Core.List.{List, [], _∷_}
-use Prim.Native.Nat.{ℕ, _<_}
+use Prim.Native.Nat.{ℕ, _<_, _≤_}
 use native.Mathlib.Omega.{arith}
 use lib.Dec.{eqb}
 use borrow.Author.Tests.{eqb-true, eq-eqb, ne-eqb}
@@ -69,6 +69,37 @@ ancestry-kept k n (b ∷ B) f c x h = go (ancestry-kept k (b .name) B (f .2) (c 
     go ih (inl e) (inr t) = let q : x ≡ b .name = eqb-true x (b .name) e in clash h (cc (not-zero (f .1)))
     go ih (inr e) (inl t) = rw (t, ancestry-past b F x e, ancestry-past b B x e) (ih x h)
     go ih (inr e) (inr t) = rw (t, ancestry-past b B x e) (ih x h)
+
+-- derivations that are left still fall
+falling-wider : (m n : ℕ) (B : List Derivation) → m ≤ n → Falling m B → Falling n B
+falling-wider m n [] l f = tt
+falling-wider m n (b ∷ B) l f = (omega arith, f .1, f .2)
+
+pub falling-kept : (p : Derivation → Bool) (n : ℕ) (B : List Derivation) → Falling n B → Falling n (filter p B)
+falling-kept p n [] f = tt
+falling-kept p n (b ∷ B) f = go (p b) (falling-kept p (b .name) B (f .2))
+  where
+    go : (k : Bool) → Falling (b .name) (filter p B) → Falling n (consIf k b (filter p B))
+    go true r = (f .0, f .1, r)
+    go false r = falling-wider (b .name) n (filter p B) (omega arith) r
+
+-- a name that is not given out has no ancestry, and is on none
+pub ancestry-above : (n x : ℕ) (B : List Derivation) → Falling n B → n ≤ x → ancestry B x ≡ []
+unfolding ancestry
+ancestry-above n x [] f l = refl
+ancestry-above n x (b ∷ B) f l = ancestry-past b B x (ne-eqb x (b .name) (λ (e : x ≡ b .name). omega arith)) ∙ ancestry-above (b .name) x B (f .2) (omega arith)
+
+pub ancestry-below : (n x : ℕ) (B : List Derivation) → Falling n B → All (λ b. b .name < n) (ancestry B x)
+unfolding ancestry
+ancestry-below n x [] f = tt
+ancestry-below n x (b ∷ B) f = go (λ y. ancestry-below (b .name) y B (f .2)) (test (eqb x (b .name)))
+  where
+    wider : (y : ℕ) → All (λ c. c .name < b .name) (ancestry B y) → All (λ c. c .name < n) (ancestry B y)
+    wider y = All-map _ _ (λ c l. omega arith) (ancestry B y)
+
+    go : ((y : ℕ) → All (λ c. c .name < b .name) (ancestry B y)) → (eqb x (b .name) ≡ true) ⊎ (eqb x (b .name) ≡ false) → All (λ c. c .name < n) (ancestry (b ∷ B) x)
+    go ih (inl e) = rw (ancestry-here b B x e) (f .0, wider (b .parent) (ih (b .parent)))
+    go ih (inr e) = rw (ancestry-past b B x e) (wider x (ih x))
 
 -- 0 has no ancestry
 pub ancestry-zero : (n : ℕ) (B : List Derivation) → Falling n B → ancestry B 0 ≡ []

@@ -17,3 +17,4 @@ pub mod Lost
 pub mod Demand3
 pub mod Traces
 pub mod Rows
+pub mod Fresh

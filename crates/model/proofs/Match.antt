@@ -2,7 +2,7 @@
 -- Assumes nothing.
 use mathlib.Core.Path.{_≡_, refl, sym, ap, ap₂, _∙_}
 use mathlib.Core.Logic.{_⊎_, inl, inr}
-use mathlib.Core.Bool.{true, false, not, cond, _||_, or-true, or-false}
+use mathlib.Core.Bool.{Bool, true, false, not, cond, _&&_, _||_, or-true, or-false}
 use mathlib.Core.List.{List, [], _∷_, _++_, map}
 use Prim.Native.Nat.{ℕ, zero, suc, _<_, _≤_}
 use native.Mathlib.Nat.{sub-zero}
@@ -10,13 +10,15 @@ use native.Mathlib.Omega.{arith}
 use lib.Dec.{eqb, ltb}
 use lib.ListN.{length}
 use borrow.Author.Tests.{eqb-true, ne-eqb, ltb-false, not-false}
+use Rattle.model.specs.declared.Span.{Span}
 use Rattle.model.specs.declared.Cap.{Cap}
 use Rattle.model.specs.declared.Tally.{Tally}
+use Rattle.model.specs.declared.Access.the-variants.{Writing}
 use Rattle.model.specs.declared.Event.{Event}
 use Rattle.model.specs.declared.Event.the-variants.{Create, Borrow, Read, Write, Drop}
 use Rattle.model.specs.Lists.{filter, any, answers, final}
 use Rattle.model.specs.Derivation.{Derivation, ancestry}
-use Rattle.model.specs.Strike.{struck}
+use Rattle.model.specs.Strike.{isLower, isEnd, reached, struck, reclaimed}
 use Rattle.model.specs.Step.{State, initial}
 use Rattle.model.specs.Table.{row, named, liveRows, lentTable, lookup, isRight}
 use Rattle.model.specs.Refusals.{refusals, judge}
@@ -29,9 +31,9 @@ use Rattle.model.specs.Step
 use Rattle.model.specs.History.{Note, New, derivedBy, derivations, ends, lowers, hits, lives, rowOf, rows, table, noteOf, emptyHistory}
 use Rattle.model.specs.History
 use Rattle.model.proofs.Lists.{All, All-of, All-map, test, or-neither, filter-all, map-id}
-use Rattle.model.proofs.Ancestries.{Closed, ancestry-step, ancestry-zero}
+use Rattle.model.proofs.Ancestries.{Closed, Falling, ancestry-step, ancestry-zero, ancestry-above}
 use Rattle.model.proofs.Notes.{Sound, falling, rows-all, rowOf-new, revokedBy}
-use Rattle.model.proofs.Agree.{Through, closed-noted, present-lives, rows-after}
+use Rattle.model.proofs.Agree.{Through, closed-noted, falling-rows, present-lives, rows-after}
 use Rattle.model.proofs.Lent.{Named, live-lent, length-lent, lookup-found, lookup-named}
 use Rattle.model.proofs.Judged.{allowed, next-fits}
 
@@ -103,20 +105,35 @@ module _ (n i : ℕ) (notes : List Note) (k : Kept n i notes) where
 
   -- an allowed event does to the live rows what its note does to the history's
   next-rows : (e : Event) → judge (table n notes) i e ≡ 0 → rows (noteOf i e ∷ notes) ≡ rowsAfter i (rows notes) e
-  unfolding refusals noteOf derivedBy ends lowers hits struck revoke afterAccess rowsAfter
+  unfolding refusals noteOf derivedBy ends lowers hits struck reclaimed revoke afterAccess rowsAfter
   next-rows e h = rows-after (suc i) notes (k .sound) (k .closed) (suc (issuedAfter i e)) (noteOf i e) (sound-next e h) (through-next e h) ∙ go e h
     where
+      live : List Derivation
+      live = Table.derivations (rows notes)
+
+      falls : Falling (suc i) live
+      falls = falling-rows (suc i) notes (k .sound) (k .closed)
+
+      -- what the note of a new name leaves of the rows
+      reclaim : Bool → List Derivation → Span → List Cap
+      reclaim isRoot user s =
+          revoke (λ x. isRoot && reached isEnd Writing s user (ancestry live x)) (λ x. isRoot && reached isLower Writing s user (ancestry live x)) (rows notes)
+
+      -- a create goes through no name, and a new name has no ancestry yet
+      outside : ancestry live 0 ≡ ancestry live (suc i)
+      outside = ancestry-zero (suc i) live falls ∙ sym (ancestry-above (suc i) (suc i) live falls (omega arith))
+
       go : (e : Event) → judge (table n notes) i e ≡ 0
           → map (rowOf (noteOf i e ∷ notes)) (derivedBy (noteOf i e)) ++ revokedBy (Table.derivations (rows notes)) (noteOf i e) (rows notes) ≡ rowsAfter i (rows notes) e
       go (Create w s r) h =
           ap₂ {C = List Cap} (λ c l. c ∷ l)
           (new-row (root i s) r 0 (sound-next (Create w s r) h) (not-false (isRight r) (allowed (table n notes) i (Create w s r) h 2)) (rw (ancestry-zero (suc i) (derivations notes) (falling (suc i) notes (k .sound)))))
-          (map-id _ ∙ all-left (rows notes))
+          (ap (λ user. reclaim true user s) outside)
       go (Borrow w u s r) h =
           let p = allowed (table n notes) i (Borrow w u s r) h in
           ap₂ {C = List Cap} (λ c l. c ∷ l)
           (new-row (child i u s) r (lookup (u .0) (rows notes) .depth) (sound-next (Borrow w u s r) h) (not-false (isRight r) (p 2)) (depth-found (u .0) (not-false _ (p 5))))
-          (map-id _ ∙ all-left (rows notes))
+          (ap (λ isRoot. reclaim isRoot (ancestry live (u .0)) s) (or-neither (eqb (u .0) 0) (ltb i (u .0)) (p 4) .0) ∙ map-id _ ∙ all-left (rows notes))
       go (Read u s) h = refl
       go (Write u s) h = refl
       go (Drop u) h = refl

@@ -163,11 +163,18 @@ left B w c = not (hits ends B (c .name .0) w)
 abbrev pub revokedBy : List Derivation → Note → List Cap → List Cap
 revokedBy B w rows = map (lower B w) (filter (left B w) rows)
 
--- it is the same by other derivations with the same ancestries
+-- it is the same where the same names end and the same are lowered
+pub taken-cong : (end lower end′ lower′ : ℕ → Bool) (rows : List Cap) → All (λ c. (end (c .name .0) ≡ end′ (c .name .0)) × (lower (c .name .0) ≡ lower′ (c .name .0))) rows
+    → map (λ c. lowered (lower (c .name .0)) c) (filter (λ c. not (end (c .name .0))) rows) ≡ map (λ c. lowered (lower′ (c .name .0)) c) (filter (λ c. not (end′ (c .name .0))) rows)
+taken-cong end lower end′ lower′ rows h =
+    ap (map (λ c. lowered (lower (c .name .0)) c)) (filter-cong (λ c. not (end (c .name .0))) (λ c. not (end′ (c .name .0))) rows (All-map _ _ (λ c e. ap not (e .0)) rows h))
+    ∙ map-cong (λ c. lowered (lower (c .name .0)) c) (λ c. lowered (lower′ (c .name .0)) c) (filter (λ c. not (end′ (c .name .0))) rows)
+    (All-sub (λ c. not (end′ (c .name .0))) _ rows (All-map _ _ (λ c e. ap (λ hit. lowered hit c) (e .1)) rows h))
+
+-- so by other derivations with the same ancestries
 pub revokedBy-cong : (B C : List Derivation) (w : Note) (rows : List Cap) → All (λ c. (takes : Takes) → hits takes B (c .name .0) w ≡ hits takes C (c .name .0) w) rows → revokedBy B w rows ≡ revokedBy C w rows
 revokedBy-cong B C w rows h =
-    ap (map (lower B w)) (filter-cong (left B w) (left C w) rows (All-map _ _ (λ c e. ap not (e ends)) rows h))
-    ∙ map-cong (lower B w) (lower C w) (filter (left C w) rows) (All-sub (left C w) _ rows (All-map _ _ (λ c e. ap (λ hit. lowered hit c) (e lowers)) rows h))
+    taken-cong (λ x. hits ends B x w) (λ x. hits lowers B x w) (λ x. hits ends C x w) (λ x. hits lowers C x w) rows (All-map _ _ (λ c e. (e ends, e lowers)) rows h)
 
 -- the row that a note makes, and the others without what it takes from them
 module _ (n : ℕ) (w : Note) (notes : List Note) (s : Sound n (w ∷ notes)) where

@@ -34,7 +34,7 @@ use Rattle.model.specs.Step
 use Rattle.model.proofs.Lists.{All, All-map, All-of, All-sub, All-mapped, All-unmap, test, clash, unless, passes, and-both, or-neither, filter-reverse, filter-none, any-map, any-kept}
 use Rattle.model.proofs.Ancestries.{Falling, ancestry-step}
 use Rattle.model.proofs.Lent.{Named, live-lent, length-lent, lookup-named}
-use Rattle.model.proofs.Judged.{allowed, next-fits}
+use Rattle.model.proofs.Judged.{allowed, length-live, access-fits, next-fits}
 use Rattle.model.proofs.Match.{counted-issued}
 
 -- ---- the lent table is arranged
@@ -157,7 +157,7 @@ module _ (hit : ℕ → Bool) where
   abbrev left : Cap → Bool
   left c = not (hit (c .name .0))
 
-  lookup-left : (x : ℕ) → hit x ≡ false → (rows : List Cap) → lookup x (filter left rows) ≡ lookup x rows
+  pub lookup-left : (x : ℕ) → hit x ≡ false → (rows : List Cap) → lookup x (filter left rows) ≡ lookup x rows
   unfolding lookup
   lookup-left x h [] = refl
   lookup-left x h (c ∷ rows) = go (test (named x c)) (test (hit (c .name .0))) (lookup-left x h rows)
@@ -259,6 +259,16 @@ revoke-named : (ends lowers : ℕ → Bool) (rows : List Cap) → Named rows →
 unfolding revoke
 revoke-named ends lowers rows h = All-mapped (lower lowers) (λ c. named 0 c ≡ false) (filter (left ends) rows) (All-sub (left ends) (λ c. named 0 c ≡ false) rows h)
 
+-- the rows that an access leaves rise as they did
+pub access-rowsInOrder : (bound : ℕ) (rows : List Cap) → Named rows → rowsInOrder bound rows ≡ true → (a : Access) (u : ℕ) (s : Span) → rowsInOrder bound (afterAccess a u s rows) ≡ true
+unfolding afterAccess
+access-rowsInOrder bound rows n h a u s =
+    revoke-rowsInOrder (struck isEnd a (derivations rows) u s) (struck isLower a (derivations rows) u s) bound rows (struck-spreads bound rows n h isEnd a u s) (struck-spreads bound rows n h isLower a u s) h
+
+pub access-named : (rows : List Cap) → Named rows → (a : Access) (u : ℕ) (s : Span) → Named (afterAccess a u s rows)
+unfolding afterAccess
+access-named rows n a u s = revoke-named _ _ rows n
+
 -- ---- the whole table
 
 pub record Ordered (t : List Cap) (i : ℕ) : Type 0 where
@@ -277,11 +287,11 @@ ordered t i h =
 
 module _ (t : List Cap) (i : ℕ) (o : Ordered t i) where
   next-named : (e : Event) → Named (rowsAfter i (liveRows t) e)
-  unfolding rowsAfter afterAccess
-  next-named (Create w s r) = (ne-eqb 0 (suc i) (λ (q : 0 ≡ suc i). omega arith), live-named t)
+  unfolding rowsAfter
+  next-named (Create w s r) = (ne-eqb 0 (suc i) (λ (q : 0 ≡ suc i). omega arith), access-named (liveRows t) (live-named t) Writing (suc i) s)
   next-named (Borrow w u s r) = (ne-eqb 0 (suc i) (λ (q : 0 ≡ suc i). omega arith), live-named t)
-  next-named (Read u s) = revoke-named _ _ (liveRows t) (live-named t)
-  next-named (Write u s) = revoke-named _ _ (liveRows t) (live-named t)
+  next-named (Read u s) = access-named (liveRows t) (live-named t) Reading (u .0) s
+  next-named (Write u s) = access-named (liveRows t) (live-named t) Writing (u .0) s
   next-named (Drop u) = revoke-named _ _ (liveRows t) (live-named t)
 
   names-enough : (e : Event) → judge t i e ≡ 0 → leb (issuedAfter i e) 1000000 ≡ true
@@ -292,9 +302,9 @@ module _ (t : List Cap) (i : ℕ) (o : Ordered t i) where
   names-enough (Write u s) h = o .names-left
   names-enough (Drop u) h = o .names-left
 
-  rowInOrder-root : (w : NewName) (s : Span) (r : ℕ) → judge t i (Create w s r) ≡ 0 → rowInOrder (row (root i s) r 1) (liveRows t) ≡ true
+  rowInOrder-root : (w : NewName) (s : Span) (r : ℕ) → judge t i (Create w s r) ≡ 0 → (earlier : List Cap) → rowInOrder (row (root i s) r 1) earlier ≡ true
   unfolding rowInOrder parentInOrder refusals
-  rowInOrder-root w s r h =
+  rowInOrder-root w s r h earlier =
       let p = allowed t i (Create w s r) h in
       rw (not-false (legal s) (p 3), not-false (isRight r) (p 2))
 
@@ -315,31 +325,31 @@ module _ (t : List Cap) (i : ℕ) (o : Ordered t i) where
       )
 
   used-rowsInOrder : (a : Access) (u : ℕ) (s : Span) → rowsInOrder (suc i) (afterAccess a u s (liveRows t)) ≡ true
-  unfolding afterAccess
-  used-rowsInOrder a u s =
-      let spreads : (is : Effect → Bool) → Spreads (struck is a (derivations (liveRows t)) u s) (liveRows t) = λ is. struck-spreads (suc i) (liveRows t) (live-named t) (o .rise) is a u s in
-      revoke-rowsInOrder (struck isEnd a (derivations (liveRows t)) u s) (struck isLower a (derivations (liveRows t)) u s) (suc i) (liveRows t) (spreads isEnd) (spreads isLower) (o .rise)
+  used-rowsInOrder = access-rowsInOrder (suc i) (liveRows t) (live-named t) (o .rise)
 
   next-rowsInOrder : (e : Event) → judge t i e ≡ 0 → rowsInOrder (suc (issuedAfter i e)) (rowsAfter i (liveRows t) e) ≡ true
   unfolding rowsAfter refusals
-  next-rowsInOrder (Create w s r) h = risen (suc (suc i)) (row (root i s) r 1) (liveRows t) (record { below-bound = omega arith; in-place = rowInOrder-root w s r h; rest = o .rise })
+  next-rowsInOrder (Create w s r) h =
+      let left : List Cap = afterAccess Writing (suc i) s (liveRows t) in
+      risen (suc (suc i)) (row (root i s) r 1) left (record { below-bound = omega arith; in-place = rowInOrder-root w s r h left; rest = used-rowsInOrder Writing (suc i) s })
   next-rowsInOrder (Borrow w u s r) h =
       risen (suc (suc i)) (row (child i u s) r (suc (lookup (u .0) (liveRows t) .depth))) (liveRows t) (record { below-bound = omega arith; in-place = rowInOrder-child w u s r h; rest = o .rise })
   next-rowsInOrder (Read u s) h = used-rowsInOrder Reading (u .0) s
   next-rowsInOrder (Write u s) h = used-rowsInOrder Writing (u .0) s
   next-rowsInOrder (Drop u) h = revoke-rowsInOrder _ _ (suc i) (liveRows t) (below-spreads (suc i) (liveRows t) (live-named t) (o .rise) (u .0)) (All-of _ (λ c e. e) (liveRows t)) (o .rise)
 
-  order-next : (e : Event) → judge t i e ≡ 0 → inOrder (lentTable (length t) (rowsAfter i (liveRows t) e)) (issuedAfter i e) ≡ true
+  -- a table as long as t with rows that fit and rise
+  lent-inOrder : (rows : List Cap) (j : ℕ) → length rows ≤ length t → Named rows → leb j 1000000 ≡ true → rowsInOrder (suc j) rows ≡ true → inOrder (lentTable (length t) rows) j ≡ true
   unfolding inOrder
-  order-next e h =
-      rw (
-        length-lent (length t) (rowsAfter i (liveRows t) e) (next-fits t i e h),
-        o .few,
-        liveRowsFirst-lent (length t) (rowsAfter i (liveRows t) e) (next-named e),
-        names-enough e h,
-        live-lent (length t) (rowsAfter i (liveRows t) e) (next-named e),
-      )
-      (next-rowsInOrder e h)
+  lent-inOrder rows j l n b h = rw (length-lent (length t) rows l, o .few, liveRowsFirst-lent (length t) rows n, b, live-lent (length t) rows n) h
+
+  order-next : (e : Event) → judge t i e ≡ 0 → inOrder (lentTable (length t) (rowsAfter i (liveRows t) e)) (issuedAfter i e) ≡ true
+  order-next e h = lent-inOrder (rowsAfter i (liveRows t) e) (issuedAfter i e) (next-fits t i e h) (next-named e) (names-enough e h) (next-rowsInOrder e h)
+
+  -- an access through any name leaves a table in order; so does the half of a create that takes rows away
+  pub access-inOrder : (a : Access) (u : ℕ) (s : Span) → inOrder (lentTable (length t) (afterAccess a u s (liveRows t))) i ≡ true
+  access-inOrder a u s =
+      lent-inOrder (afterAccess a u s (liveRows t)) i (omega (arith, access-fits a u s (liveRows t), length-live t)) (access-named (liveRows t) (live-named t) a u s) (o .names-left) (used-rowsInOrder a u s)
 
 order-outcome : (h : State) (e : Event) (j : ℕ) → judge (h .table) (h .tally .issued) e ≡ j → inOrder (h .table) (h .tally .issued) ≡ true
     → inOrder (Step.outcome j h e .table) (Step.outcome j h e .tally .issued) ≡ true

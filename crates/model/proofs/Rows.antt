@@ -5,7 +5,7 @@ use mathlib.Core.Path.{_≡_, refl, sym, ap, ap₂, _∙_}
 use mathlib.Core.Logic.{_⊎_, inl, inr}
 use mathlib.Core.Bool.{Bool, true, false, not, or-true, _&&_, _||_}
 use mathlib.Core.List.{List, [], _∷_, _++_, map, map-append, reverse, reverse-cons, reverse-reverse, append-assoc}
-use Prim.Native.Nat.{ℕ, zero, suc, _-_, _<_}
+use Prim.Native.Nat.{ℕ, zero, suc, _-_, _<_, _≤_}
 use native.Mathlib.Omega.{arith}
 use lib.Dec.{eqb}
 use lib.ListN.{length, getD, set, replicate, length-map, length-reverse}
@@ -20,7 +20,7 @@ use Rattle.model.specs.Derivation.{ancestry, inSubtree, onAncestry}
 use Rattle.model.specs.Strike.{Effect, strike, reached, struck}
 use Rattle.model.specs.Table.{emptyRow, lookup, derivation, derivations, named, liveRows, lentTable, isEmptyRow, liveRowsFirst, rowsInOrder}
 use Rattle.model.proofs.Lists.{All, All-map, All-append, test, and-both, filter-none, filter-reverse}
-use Rattle.model.proofs.Ancestries.{same, below-differs, ancestry-zero}
+use Rattle.model.proofs.Ancestries.{same, below-differs, ancestry-zero, ancestry-above}
 use Rattle.model.proofs.Lent.{Named}
 use Rattle.model.proofs.Order.{rises, steps, rowsInOrder-falling}
 
@@ -156,3 +156,7 @@ module _ (bound : ℕ) (rows : List Cap) (n : Named rows) (h : rowsInOrder bound
   -- no parent is struck, and in no subtree
   pub no-ancestry : ancestry (derivations rows) 0 ≡ []
   no-ancestry = ancestry-zero bound (derivations rows) (rowsInOrder-falling bound rows n h)
+
+  -- a name that is not given out is in no subtree
+  pub no-ancestry-above : (x : ℕ) → bound ≤ x → ancestry (derivations rows) x ≡ []
+  no-ancestry-above x = ancestry-above bound x (derivations rows) (rowsInOrder-falling bound rows n h)

@@ -9,8 +9,8 @@ use Rattle.model.specs.Table.{liveRows, lentTable, lookup, isEmptyRow, l
 use Rattle.model.specs.Refusals.{refusals, judge}
 use Rattle.model.specs.Effects.{revoke, afterAccess, rowsAfter}
 use Rattle.model.specs.Step.{answer, after}
-use Rattle.model.specs.Traces.{traces, starred, refused, written, empty, printed, holds}
+use Rattle.model.specs.Traces.{traces, starred, refused, written, empty, reused, printed, holds}
 
 pub traces-hold : all holds traces ≡ true
-unfolding traces starred refused written empty printed holds ancestry strike onAncestry reached struck liveRows lentTable lookup isEmptyRow liveRowsFirst rowFitsParent parentInOrder rowInOrder rowsInOrder inOrder refusals judge revoke afterAccess rowsAfter answer after
+unfolding traces starred refused written empty reused printed holds ancestry strike onAncestry reached struck liveRows lentTable lookup isEmptyRow liveRowsFirst rowFitsParent parentInOrder rowInOrder rowsInOrder inOrder refusals judge revoke afterAccess rowsAfter answer after
 traces-hold = refl

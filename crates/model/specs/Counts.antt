@@ -13,7 +13,7 @@ abbrev pub tally : ℕ → ℕ → ℕ → ℕ → ℕ → ℕ → ℕ → Tally
 tally issued creates borrows reads writes drops refused =
     record { issued = issued; creates = creates; borrows = borrows; reads = reads; writes = writes; drops = drops; refused = refused }
 
--- after an allowed event: the issued number, and one more of its kind
+-- after an allowed event: the issued number, and one more of its kind; what a create, write or drop ends is not counted
 abbrev pub countAllowed : Event → Tally → Tally
 countAllowed (Create w s r) t = tally (suc (t .issued)) (countUp (t .creates)) (t .borrows) (t .reads) (t .writes) (t .drops) (t .refused)
 countAllowed (Borrow w u s r) t = tally (suc (t .issued)) (t .creates) (countUp (t .borrows)) (t .reads) (t .writes) (t .drops) (t .refused)

@@ -1,4 +1,4 @@
--- Document 01, "What each event does": what an allowed event does to the live rows and to the issued number.
+-- Document 01, "What each event does", and card 4: what an allowed event does to the live rows and to the issued number.
 -- Assumes nothing.
 use Prim.Native.Nat.{ℕ, suc}
 use mathlib.Core.Bool.{Bool, false, not, cond}
@@ -35,9 +35,12 @@ root issued s = record { name = suc issued; parent = 0; span = s }
 abbrev pub child : ℕ → Name → Span → Derivation
 child issued u s = record { name = suc issued; parent = u .0; span = s }
 
--- the live rows after an allowed event
+-- The live rows after an allowed event.
+-- Card 4: "A create is now a fresh allocation: it ends every live capability its span touches, with subtrees." It is a write to its span
+-- through the new name. That name has no row yet, so it is in the subtree of none: the write is from outside every subtree but its own.
+-- A write through the new row once it stands would leave the same (proofs/Fresh).
 unfoldable pub rowsAfter : ℕ → List Cap → Event → List Cap
-rowsAfter issued rows (Create w s r) = row (root issued s) r 1 ∷ rows
+rowsAfter issued rows (Create w s r) = row (root issued s) r 1 ∷ afterAccess Writing (suc issued) s rows
 rowsAfter issued rows (Borrow w u s r) = row (child issued u s) r (suc (lookup (u .0) rows .depth)) ∷ rows
 rowsAfter issued rows (Read u s) = afterAccess Reading (u .0) s rows
 rowsAfter issued rows (Write u s) = afterAccess Writing (u .0) s rows

@@ -1,4 +1,4 @@
--- Document 01, "The history".
+-- Document 01, "The history", and card 4.
 -- Assumes nothing.
 use Prim.Native.Nat.{ℕ, zero, suc}
 use mathlib.Core.Bool.{Bool, false, not, cond, _&&_, _||_}
@@ -14,7 +14,7 @@ use Rattle.model.specs.declared.Access.the-variants.{Reading, Writing}
 use Rattle.model.specs.Lists.{filter, any, final}
 use Rattle.model.specs.Values.{legal, inside}
 use Rattle.model.specs.Derivation.{Derivation, ancestry, inSubtree}
-use Rattle.model.specs.Strike.{isLower, isEnd, reached}
+use Rattle.model.specs.Strike.{isLower, isEnd, reached, reclaimed}
 use Rattle.model.specs.Table.{row, lentTable}
 use Rattle.model.specs.Refusals.{judge}
 use Rattle.model.specs.Effects.{root, child, newName, issuedAfter}
@@ -69,15 +69,15 @@ user (Dropped u) = u
 abbrev pub Takes : Type 0
 Takes = Note → List Derivation → List Derivation → Bool
 
--- its life: "a drop of it or an ancestor, or a write that strikes it or an ancestor"
+-- its life: "a drop of it or an ancestor, or a write that strikes it or an ancestor"; a create is such a write
 unfoldable pub ends : Takes
-ends (New d r) through x = false
+ends (New d r) through x = reclaimed isEnd d through x
 ends (Accessed a u s) through x = reached isEnd a s through x
 ends (Dropped u) through x = inSubtree u x
 
 -- its `rw`: "a read that strikes it or an ancestor"
 unfoldable pub lowers : Takes
-lowers (New d r) through x = false
+lowers (New d r) through x = reclaimed isLower d through x
 lowers (Accessed a u s) through x = reached isLower a s through x
 lowers (Dropped u) through x = false
 
@@ -88,6 +88,7 @@ hits takes derivations x w = takes w (ancestry derivations (user w)) (ancestry d
 -- ---- life and rights
 
 -- "A name lives when it was noted as new and no later note is a drop of it or an ancestor, or a write that strikes it or an ancestor."
+-- A create's own name lives on: its note is not later than itself.
 unfoldable pub lives : List Note → ℕ → Bool
 lives notes x = any (makes x) notes && not (later x (hits ends (derivations notes) x) notes)
 
@@ -107,7 +108,7 @@ covers notes x s = any (λ d. eqb x (d .name) && inside s (d .span)) (derivation
 
 -- "a read through a capability is allowed exactly when the capability was created or borrowed, the span is legal and within its own,
 -- and since it was made neither it nor any ancestor was dropped, or touched by an allowed write through a capability outside that one's
--- own subtree"
+-- own subtree"; by card 4 a create counts as such a write
 unfoldable pub mayRead : List Note → ℕ → Span → Bool
 mayRead notes u s = legal s && covers notes u s && lives notes u
 

@@ -1,8 +1,10 @@
--- Document 01, "The history": when a read or write strikes a capability, and what a strike takes. The table and the history share this.
+-- Document 01, "The history", and card 4: when a read, write or create strikes a capability, and what a strike takes. The table and the
+-- history share this.
 -- Assumes nothing.
 use Prim.Native.Nat.{ℕ}
 use mathlib.Core.Bool.{Bool, true, false, not, cond, _&&_}
 use mathlib.Core.List.{List, [], _∷_}
+use lib.Dec.{eqb}
 use Rattle.model.specs.declared.Span.{Span}
 use Rattle.model.specs.declared.Access.{Access}
 use Rattle.model.specs.declared.Access.the-variants.{Reading, Writing}
@@ -43,3 +45,9 @@ reached is a s user = onAncestry (λ holder. is (strike a s user holder))
 -- the same of an access through the name u, and of the name x
 unfoldable pub struck : (Effect → Bool) → Access → List Derivation → ℕ → Span → ℕ → Bool
 struck is a derivations u s x = reached is a s (ancestry derivations u) (ancestry derivations x)
+
+-- Card 4: "an allowed create counts as a write from outside every subtree but its own". What is made with parent 0 writes to its span;
+-- what is borrowed takes nothing. The writer is told by what is above it on its ancestry, and above a root is nothing: no earlier
+-- capability has it in its subtree.
+unfoldable pub reclaimed : (Effect → Bool) → Derivation → List Derivation → List Derivation → Bool
+reclaimed is new above x = eqb (new .parent) 0 && reached is Writing (new .span) above x

@@ -1,4 +1,4 @@
--- Document 01, "Traces to try", those with a star; "Eleven ways to be turned down", the examples that are events; cards 1 and 2; and
+-- Document 01, "Traces to try", those with a star; "Eleven ways to be turned down", the examples that are events; cards 1, 2 and 4; and
 -- capcheck's example.
 -- One table, and one computed proof over it (proofs/Traces).
 -- Assumes nothing.
@@ -159,6 +159,19 @@ empty =
     ∷ trace 4 ((create 4294967295 1 RW, 0, 1) ∷ (create 4294967295 0 RW, 0, 2) ∷ (read 1 4294967295 0, 0, 0) ∷ []) ((1, RW) ∷ (2, RW) ∷ [])
     ∷ []
 
+-- Card 4: a create over a live root ends it and its untouched child; one beside it ends nothing; one over a part of a child ends the
+-- child and its parent, which it touches too, and leaves another root alone; one across a root's end ends that root; one of length 0
+-- ends nothing; and into a full table it is 10, though it would free rows
+unfoldable pub reused : List Trace
+reused =
+    created 1024 ((borrow 1 0 8 RW, 0, 2) ∷ (create 32 16 RW, 0, 3) ∷ (read 2 0 8, 5, 0) ∷ []) ((3, RW) ∷ [])
+    ∷ created 1024 ((borrow 1 0 8 RW, 0, 2) ∷ (create 64 16 RW, 0, 3) ∷ (write 2 0 8, 0, 0) ∷ []) ((1, RW) ∷ (2, RW) ∷ (3, RW) ∷ [])
+    ∷ created 1024 ((create 64 64 RW, 0, 2) ∷ (borrow 1 0 16 RW, 0, 3) ∷ (create 8 4 RW, 0, 4) ∷ (read 3 0 8, 5, 0) ∷ (read 1 32 8, 5, 0) ∷ []) ((2, RW) ∷ (4, RW) ∷ [])
+    ∷ created 1024 ((create 63 2 ro, 0, 2) ∷ []) ((2, ro) ∷ [])
+    ∷ created 2 ((borrow 1 0 8 RW, 0, 2) ∷ (create 0 64 RW, 10, 0) ∷ (drop 2, 0, 0) ∷ (create 0 64 RW, 0, 3) ∷ (borrow 3 0 8 RW, 0, 4) ∷ []) ((3, RW) ∷ (4, RW) ∷ [])
+    ∷ created 4 ((create 8 0 RW, 0, 2) ∷ (create 8 1 RW, 0, 3) ∷ []) ((2, RW) ∷ (3, RW) ∷ [])
+    ∷ []
+
 -- "The bracket text": what capcheck is shown on
 unfoldable pub printed : Trace
 printed =
@@ -167,7 +180,7 @@ printed =
     ((1, RW) ∷ (2, ro) ∷ (3, RW) ∷ [])
 
 unfoldable pub traces : List Trace
-traces = starred ++ (refused ++ (written ++ (empty ++ (printed ∷ []))))
+traces = starred ++ (refused ++ (written ++ (empty ++ (reused ++ (printed ∷ [])))))
 
 -- ---- when a trace goes as it says
 

@@ -119,7 +119,8 @@ fn drop_rows(
     settle(words, n, k, &marks, places)
 }
 
-// What an allowed event does to the rows; the answer is how many live then.
+// What an allowed event does to the rows; the answer is how many live then. A create is a write through its new name, which has no row
+// yet and so is in the subtree of none; then that name's row is added.
 fn change(
     words: &mut [u32; 6144],
     n: usize,
@@ -134,7 +135,8 @@ fn change(
     match e {
         Event::Create(_, s, r) => {
             let c = new_row(issued + 1, 0, s, r as u32, 1);
-            append(words, n, k, places, c, k)
+            let left = write_rows(words, n, k, places, issued + 1, s);
+            append(words, n, left, places, c, left)
         }
         Event::Borrow(_, u, s, r) => {
             let q = find(words, k, u.0);

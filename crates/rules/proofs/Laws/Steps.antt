@@ -39,14 +39,16 @@ use Rattle.table.specs.Rows.{nameAt, before, Filled, Front, Found, Places, Orde
 use Rattle.rules.specs.Engine.{Marked, kept, Ready, Settled}
 use Rattle.rules.specs.Steps.{heldIn, Stepped, lends}
 use Rattle.model.proofs.Lists.{test, and-both}
-use Rattle.model.proofs.Judged.{allowed}
+use Rattle.model.proofs.Judged.{allowed, access-fits}
 use Rattle.table.proofs.Laws.Words.{length-in, length-rows, in-first}
 use Rattle.rules.proofs.Laws.Records.{stored, loaded-all, stored-all, stored-same, many-disordered, too-many}
 use Rattle.table.proofs.Laws.Prefix.{before-suc, before-same, length-before, extend}
-use Rattle.model.proofs.Order.{order-after}
+use Rattle.model.proofs.Lent.{Named, live-lent}
+use Rattle.model.proofs.Order.{Ordered, ordered, live-named, access-inOrder, access-named, order-after}
 use Rattle.table.proofs.Laws.Places.{Alike, places-more}
+use Rattle.table.proofs.Laws.Find.{found-zero}
 use Rattle.rules.proofs.Laws.Settle.{before-lent, kept-revoke}
-use Rattle.table.proofs.Laws.Judge.{numbered, orderly-live, orderly-standing, orderly-long, orderly-judge, orderly-zeros}
+use Rattle.table.proofs.Laws.Judge.{numbered, orderly-live, orderly-rise, orderly-standing, orderly-long, orderly-judge, orderly-zeros}
 
 -- a new row after the live ones
 appended : (T : List Cap) (n k : ℕ) (c : Cap) → k < n → n ≤ length T → ((j : ℕ) → k ≤ j → j < n → getD T j emptyRow ≡ emptyRow) → take n (set T k c) ≡ lentTable n (c ∷ before T k)
@@ -130,6 +132,45 @@ module _ (ws : List ℕ) (n k issued : ℕ) (o : Orderly (rowsIn ws) n k issued)
   pub depth-borrow : (w : NewName) (u : Name) (s : Span) (r : ℕ) → judge (take n T) issued (Borrow w u s r) ≡ 0 → lookup (u .0) (before T k) .depth < 64
   unfolding refusals
   depth-borrow w u s r h = leb-false 64 (lookup (u .0) (before T k) .depth) (rw live-is at (allowed (take n T) issued (Borrow w u s r) h 8))
+
+-- after an access through any name the table is in order, its live rows are those that are left, and they are no more than before
+module _ (ws : List ℕ) (n k issued : ℕ) (o : Orderly (rowsIn ws) n k issued) (a : Access) (u : ℕ) (s : Span) (ws′ : List ℕ) {r : ℕ} {places : List ℕ}
+    (left : Settled (rowsIn ws′) n r (afterAccess a u s (before (rowsIn ws) k)) places) where
+  abbrev old : List Cap
+  old = before (rowsIn ws) k
+
+  fit : n ≤ length (rowsIn ws)
+  fit = omega (arith, length-in ws, o .few)
+
+  live-old : liveRows (take n (rowsIn ws)) ≡ old
+  live-old = orderly-live (rowsIn ws) n k issued fit o
+
+  fit-after : n ≤ length (rowsIn ws′)
+  fit-after = omega (arith, length-in ws′, o .few)
+
+  access-orderly : Orderly (rowsIn ws′) n r issued
+  access-orderly = record {
+    few = o .few;
+    front = left .front;
+    ordered =
+        ap (λ (t : List Cap). inOrder t issued) (left .table ∙ ap₂ (λ (m : ℕ) (rows : List Cap). lentTable m (afterAccess a u s rows)) (sym (orderly-long (rowsIn ws) n k issued fit o)) (sym live-old))
+        ∙ access-inOrder (take n (rowsIn ws)) issued (ordered (take n (rowsIn ws)) issued (o .ordered)) a u s;
+  }
+
+  pub access-rows : before (rowsIn ws′) r ≡ afterAccess a u s old
+  access-rows =
+      sym (orderly-live (rowsIn ws′) n r issued fit-after access-orderly) ∙ ap liveRows (left .table)
+      ∙ live-lent n (afterAccess a u s old) (access-named old (subst Named live-old (live-named (take n (rowsIn ws)))) a u s)
+
+  pub access-few : r ≤ k
+  access-few = omega (arith, length-before (rowsIn ws′) r, ap length access-rows, access-fits a u s old, length-before (rowsIn ws) k)
+
+  pub access-ready : length ws′ ≡ 6144 → Ready ws′ (rowsIn ws′) n r
+  access-ready h = ready ws′ n r issued access-orderly h
+
+  -- and a root has no parent among them
+  pub access-root : Found (rowsIn ws′) r 0 r
+  access-root = found-zero (rowsIn ws′) r (orderly-rise (rowsIn ws′) n r issued fit-after access-orderly)
 
 -- ---- the whole step
 
@@ -220,7 +261,7 @@ orderly-after ws n t e k ws′ r live o s f = record {
 -- ---- the rows after an event
 
 module _ (issued : ℕ) (rows : List Cap) where
-  pub next-create : (w : NewName) (s : Span) (r : ℕ) (c : Cap) → c ≡ row (record { name = issued + 1; parent = 0; span = s }) r 1 → c ∷ rows ≡ rowsAfter issued rows (Create w s r)
+  pub next-create : (w : NewName) (s : Span) (r : ℕ) (c : Cap) → c ≡ row (record { name = issued + 1; parent = 0; span = s }) r 1 → c ∷ afterAccess Writing (issued + 1) s rows ≡ rowsAfter issued rows (Create w s r)
   unfolding rowsAfter
   next-create w s r c e = rw (e, add-one)
 

@@ -2,8 +2,8 @@
 -- Assumes nothing.
 use mathlib.Core.Path.{_≡_, sym, ap, _∙_, subst}
 use mathlib.Core.Bool.{false}
-use mathlib.Core.List.{_∷_}
-use Prim.Native.Nat.{_≤_, _<_}
+use mathlib.Core.List.{List, _∷_}
+use Prim.Native.Nat.{_+_, _≤_, _<_}
 use native.Mathlib.Omega.{arith}
 use lib.ListN.{length, take}
 use borrow.Author.Needs.{needs}
@@ -17,9 +17,8 @@ use Rattle.model.specs.Effects.{revoke, afterAccess, rowsAfter}
 use Rattle.table.specs.Words.{rowsIn}
 use Rattle.table.specs.Rows.{before, Found}
 use Rattle.table.proofs.Laws.Words.{length-in}
-use Rattle.table.proofs.Laws.Find.{found-zero}
 use Rattle.table.proofs.Laws.Judge.{orderly-issued, orderly-few, orderly-rise}
-use Rattle.rules.proofs.Laws.Steps.{ready, room-create, room-borrow, there-borrow, depth-borrow, next-create, next-borrow, next-read, next-write, next-drop}
+use Rattle.rules.proofs.Laws.Steps.{ready, access-rows, access-few, access-ready, access-root, room-create, room-borrow, there-borrow, depth-borrow, next-create, next-borrow, next-read, next-write, next-drop}
 use Rattle.rules.proofs.steps.change.Statement.{statement}
 use Rattle.rules.proofs.steps.change.Tie as tie
 
@@ -30,12 +29,26 @@ add-new-row c =
     let i : s .args .issued ≤ 1000000 = orderly-issued T (s .args .n) (s .args .k) (s .args .issued) l (s .pre .0) in
     omega arith
 
-append-requires : tie.Need-append-requires
-append-requires c κs =
+add-write-rows : tie.Need-add-write-rows
+add-write-rows c =
     let s = c .before .before .before .before .before .before in let ws = s .args .words .now in let T = rowsIn ws in
     let l : s .args .n ≤ length T = omega (arith, length-in ws, s .pre .0 .few) in
-    let j = subst (λ (x : Event). judge (take (s .args .n) T) (s .args .issued) x ≡ 0) (c .before .before .before .before .e .given .1) (s .pre .1) in
-    (room-create ws (s .args .n) (s .args .k) (s .args .issued) (s .pre .0) (c .before .before .before .before .e .given .0 .0) (c .before .before .before .before .e .given .0 .1 .0) (c .before .before .before .before .e .given .0 .1 .1 .0) j, ready ws (s .args .n) (s .args .k) (s .args .issued) (s .pre .0) (s .pre .2), s .pre .3, subst (λ (d : Cap). Found T (s .args .k) (d .parent .0) (s .args .k)) (sym (c .before .before .new-row .ensures)) (found-zero T (s .args .k) (orderly-rise T (s .args .n) (s .args .k) (s .args .issued) l (s .pre .0))), subst (λ (d : Cap). 0 < d .name .0) (sym (c .before .before .new-row .ensures)) (omega arith))
+    let i : s .args .issued ≤ 1000000 = orderly-issued T (s .args .n) (s .args .k) (s .args .issued) l (s .pre .0) in
+    omega arith
+
+write-rows-requires : tie.Need-write-rows-requires
+write-rows-requires c κs =
+    let s = c .before .before .before .before .before .before in let ws = s .args .words .now in
+    (ready ws (s .args .n) (s .args .k) (s .args .issued) (s .pre .0) (s .pre .2), s .pre .3)
+
+append-requires : tie.Need-append-requires
+append-requires c κs =
+    let s = c .before .before .before .before .before .before .before .before .before in let ws = s .args .words .now in let T = rowsIn ws in
+    let j = subst (λ (x : Event). judge (take (s .args .n) T) (s .args .issued) x ≡ 0) (c .before .before .before .before .before .before .before .e .given .1) (s .pre .1) in
+    let span = c .before .before .before .before .before .before .before .e .given .0 .1 .0 in
+    let left = c .before .before .write-rows .ensures in
+    let room : s .args .k < s .args .n = room-create ws (s .args .n) (s .args .k) (s .args .issued) (s .pre .0) (c .before .before .before .before .before .before .before .e .given .0 .0) span (c .before .before .before .before .before .before .before .e .given .0 .1 .1 .0) j in
+    (omega (arith, room, access-few ws (s .args .n) (s .args .k) (s .args .issued) (s .pre .0) Writing (s .args .issued + 1) span (c .before .before .write-rows .last .0) (left .0)), access-ready ws (s .args .n) (s .args .k) (s .args .issued) (s .pre .0) Writing (s .args .issued + 1) span (c .before .before .write-rows .last .0) (left .0) (left .1), left .0 .placed, subst (λ (d : Cap). Found (rowsIn (c .before .before .write-rows .last .0)) (c .before .before .write-rows .result) (d .parent .0) (c .before .before .write-rows .result)) (sym (c .before .before .before .before .before .new-row .ensures)) (access-root ws (s .args .n) (s .args .k) (s .args .issued) (s .pre .0) Writing (s .args .issued + 1) span (c .before .before .write-rows .last .0) (left .0)), subst (λ (d : Cap). 0 < d .name .0) (sym (c .before .before .before .before .before .new-row .ensures)) (omega arith))
 
 find-requires : tie.Need-find-requires
 find-requires c κs =
@@ -77,8 +90,8 @@ read-rows-requires c κs =
     let l : s .args .n ≤ length T = omega (arith, length-in ws, s .pre .0 .few) in
     (ready ws (s .args .n) (s .args .k) (s .args .issued) (s .pre .0) (s .pre .2), s .pre .3)
 
-write-rows-requires : tie.Need-write-rows-requires
-write-rows-requires c κs =
+write-rows-requires-2 : tie.Need-write-rows-requires-2
+write-rows-requires-2 c κs =
     let s = c .before .before .before .before .before in let ws = s .args .words .now in let T = rowsIn ws in
     let l : s .args .n ≤ length T = omega (arith, length-in ws, s .pre .0 .few) in
     (ready ws (s .args .n) (s .args .k) (s .args .issued) (s .pre .0) (s .pre .2), s .pre .3)
@@ -91,9 +104,11 @@ drop-rows-requires c κs =
 
 returns : tie.Need-returns
 returns c =
-    let s = c .before .before .before .before .before .before .before in let ws = s .args .words .now in let T = rowsIn ws in
-    let l : s .args .n ≤ length T = omega (arith, length-in ws, s .pre .0 .few) in
-    let e : (c .before .before .before .new-row .result ∷ before T (s .args .k)) ≡ rowsAfter (s .args .issued) (before T (s .args .k)) (s .args .e) = next-create (s .args .issued) (before T (s .args .k)) (c .before .before .before .before .before .e .given .0 .0) (c .before .before .before .before .before .e .given .0 .1 .0) (c .before .before .before .before .before .e .given .0 .1 .1 .0) (c .before .before .before .new-row .result) (c .before .before .before .new-row .ensures) ∙ ap (λ (x : Event). rowsAfter (s .args .issued) (before T (s .args .k)) x) (sym (c .before .before .before .before .before .e .given .1)) in
+    let s = c .before .before .before .before .before .before .before .before .before .before in let ws = s .args .words .now in let T = rowsIn ws in
+    let span = c .before .before .before .before .before .before .before .before .e .given .0 .1 .0 in
+    let new = c .before .before .before .before .before .before .new-row .result in
+    let rows = access-rows ws (s .args .n) (s .args .k) (s .args .issued) (s .pre .0) Writing (s .args .issued + 1) span (c .before .before .before .write-rows .last .0) (c .before .before .before .write-rows .ensures .0) in
+    let e = ap (λ (l : List Cap). new ∷ l) rows ∙ next-create (s .args .issued) (before T (s .args .k)) (c .before .before .before .before .before .before .before .before .e .given .0 .0) span (c .before .before .before .before .before .before .before .before .e .given .0 .1 .1 .0) new (c .before .before .before .before .before .before .new-row .ensures) ∙ ap (λ (x : Event). rowsAfter (s .args .issued) (before T (s .args .k)) x) (sym (c .before .before .before .before .before .before .before .before .e .given .1)) in
     (rw (← e) (c .append .ensures .0), c .append .ensures .1)
 
 returns-2 : tie.Need-returns-2
@@ -115,7 +130,7 @@ returns-4 c =
     let s = c .before .before .before .before .before .before in let ws = s .args .words .now in let T = rowsIn ws in
     let l : s .args .n ≤ length T = omega (arith, length-in ws, s .pre .0 .few) in
     let e : afterAccess Writing (c .before .before .before .before .e4 .given .0 .0 .0) (c .before .before .before .before .e4 .given .0 .1 .0) (before T (s .args .k)) ≡ rowsAfter (s .args .issued) (before T (s .args .k)) (s .args .e) = next-write (s .args .issued) (before T (s .args .k)) (c .before .before .before .before .e4 .given .0 .0) (c .before .before .before .before .e4 .given .0 .1 .0) ∙ ap (λ (x : Event). rowsAfter (s .args .issued) (before T (s .args .k)) x) (sym (c .before .before .before .before .e4 .given .1)) in
-    (rw (← e) (c .write-rows .ensures .0), c .write-rows .ensures .1)
+    (rw (← e) (c .write-rows2 .ensures .0), c .write-rows2 .ensures .1)
 
 returns-5 : tie.Need-returns-5
 returns-5 c =
@@ -132,6 +147,8 @@ change-spec =
     add-new-row
     (λ c. search needs)
     (λ c κs. search needs)
+    add-write-rows
+    write-rows-requires
     append-requires
     (λ c. search needs)
     find-requires
@@ -144,7 +161,7 @@ change-spec =
     (λ c. search needs)
     read-rows-requires
     (λ c. search needs)
-    write-rows-requires
+    write-rows-requires-2
     (λ c. search needs)
     drop-rows-requires
     returns
