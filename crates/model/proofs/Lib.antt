@@ -18,3 +18,4 @@ pub mod Demand3
 pub mod Traces
 pub mod Rows
 pub mod Fresh
+pub mod Together
