@@ -19,3 +19,4 @@ pub mod Traces
 pub mod Rows
 pub mod Fresh
 pub mod Together
+pub mod Requests

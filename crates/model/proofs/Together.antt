@@ -147,7 +147,7 @@ allowed t issued names z =
 
 -- ---- single drops in falling order
 
-singleDrops-cons : (x : ℕ) (names : List ℕ) → singleDrops (x ∷ names) ≡ singleDrops names ++ (Drop (record { 0 = x }) ∷ [])
+pub singleDrops-cons : (x : ℕ) (names : List ℕ) → singleDrops (x ∷ names) ≡ singleDrops names ++ (Drop (record { 0 = x }) ∷ [])
 singleDrops-cons x names = rw (reverse-cons x names) (map-append (λ u. Drop (record { 0 = u })) (reverse names) (x ∷ []))
 
 -- the rows that a group leaves fit where they stood
