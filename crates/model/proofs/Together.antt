@@ -17,6 +17,7 @@ use Rattle.model.specs.Derivation.{Derivation, ancestry, inSubtree}
 use Rattle.model.specs.Table.{derivation, derivations, named, liveRows, lentTable, liveRowsFirst, rowsInOrder, inOrder}
 use Rattle.model.specs.Refusals.{disordered, standing, refusals, judge}
 use Rattle.model.specs.Effects.{revoke, rowsAfter}
+use Rattle.model.specs.Counts.{countRefused}
 use Rattle.model.specs.Step.{State, isAllowed, answer, outcome, after}
 use Rattle.model.specs.History.{History, noteOf}
 use Rattle.model.specs.History
@@ -25,8 +26,89 @@ use Rattle.model.proofs.Lists.{All, All-map, All-of, All-sub, test, cla
 use Rattle.model.proofs.Ancestries.{Closed, Falling, ancestry-kept, ancestry-upto}
 use Rattle.model.proofs.Lent.{Named, live-lent, length-lent}
 use Rattle.model.proofs.Judged.{length-live}
+use Rattle.model.proofs.Frame
 use Rattle.model.proofs.Order.{steps, rowsInOrder-falling, live-named, ordered, order-after, order-final}
 use Rattle.model.proofs.Rows.{lent-live}
+
+-- ---- the number given
+
+-- 1 comes before all, and 13 next.
+pub disordered-first : (t : List Cap) (issued : ℕ) (names : List ℕ) → inOrder t issued ≡ false → judgeGroup t issued names ≡ 1
+unfolding judgeGroup groupRefusals
+disordered-first t issued names d = rw d
+
+pub misgrouped-next : (t : List Cap) (issued : ℕ) (names : List ℕ) → inOrder t issued ≡ true → isGroup names ≡ false → judgeGroup t issued names ≡ 13
+unfolding judgeGroup groupRefusals
+misgrouped-next t issued names o g = rw (o, g)
+
+-- Then "the first name refused gives the number", each judged on the same table.
+module _ (rows : List Cap) (issued : ℕ) where
+  passed : (unissued ended : Bool) (rest : ℕ) → _≡_ {A = ℕ} (cond unissued 4 (cond ended 5 0)) 0 → cond unissued 4 (cond ended 5 rest) ≡ rest
+  passed true e rest z = absurd (four z)
+    where
+      four : _≡_ {A = ℕ} 4 0 → ⊥
+      four q = omega arith
+  passed false true rest z = absurd (five z)
+    where
+      five : _≡_ {A = ℕ} 5 0 → ⊥
+      five q = omega arith
+  passed false false rest z = refl
+
+  caught : (unissued ended : Bool) (rest k : ℕ) → cond unissued 4 (cond ended 5 0) ≡ suc k → cond unissued 4 (cond ended 5 rest) ≡ suc k
+  caught true e rest k z = z
+  caught false true rest k z = z
+  caught false false rest k z = absurd (none z)
+    where
+      none : _≡_ {A = ℕ} 0 (suc k) → ⊥
+      none q = omega arith
+
+  in-turn : (before : List ℕ) (x : ℕ) (later : List ℕ) (k : ℕ) → All (λ u. first (standing rows issued (record { 0 = u })) ≡ 0) before → first (standing rows issued (record { 0 = x })) ≡ suc k
+      → first (standings rows issued (before ++ (x ∷ later))) ≡ suc k
+  unfolding standings
+  in-turn [] x later k a z = caught (eqb x 0 || ltb issued x) (not (any (named x) rows)) (first (standings rows issued later)) k z
+  in-turn (u ∷ before) x later k a z =
+      passed (eqb u 0 || ltb issued u) (not (any (named u) rows)) (first (standings rows issued (before ++ (x ∷ later)))) (a .0)
+      ∙ in-turn before x later k (a .1) z
+
+pub first-refused : (t : List Cap) (issued : ℕ) (before : List ℕ) (x : ℕ) (later : List ℕ) (k : ℕ) → inOrder t issued ≡ true → isGroup (before ++ (x ∷ later)) ≡ true
+    → All (λ u. judge t issued (Drop (record { 0 = u })) ≡ 0) before → judge t issued (Drop (record { 0 = x })) ≡ suc k → judgeGroup t issued (before ++ (x ∷ later)) ≡ suc k
+unfolding judgeGroup groupRefusals judge refusals
+first-refused t issued before x later k o g a z =
+    rw (o, g) (in-turn (liveRows t) issued before x later k (All-map _ _ (λ u e. rw o at e) before a) (rw o at z))
+
+-- ---- either all are dropped or none
+
+module _ (h : State) (q : Request) where
+  -- Refusal 1 changes nothing.
+  pub disordered-keeps : answerRequest h q .refusal ≡ 1 → afterRequest h q ≡ h
+  unfolding answerRequest afterRequest
+  disordered-keeps = go q
+    where
+      go : (q : Request) → answerRequest h q .refusal ≡ 1 → afterRequest h q ≡ h
+      go (Single e) r = Frame.disordered-keeps h e r
+      go (Group names) r = ap (λ j. groupOutcome j h names) r
+
+  -- A refused request leaves the table unchanged.
+  pub refused-table : (k : ℕ) → answerRequest h q .refusal ≡ suc k → afterRequest h q .table ≡ h .table
+  unfolding answerRequest afterRequest
+  refused-table k = go q
+    where
+      kept : (k : ℕ) (names : List ℕ) → groupOutcome (suc k) h names .table ≡ h .table
+      kept zero names = refl
+      kept (suc k) names = refl
+
+      go : (q : Request) → answerRequest h q .refusal ≡ suc k → afterRequest h q .table ≡ h .table
+      go (Single e) r = Frame.refused-table h e k r
+      go (Group names) r = ap (λ j. groupOutcome j h names .table) r ∙ kept k names
+
+  -- A refusal other than 1 raises the refused count once, short of its ceiling.
+  pub refused-tally : (k : ℕ) → answerRequest h q .refusal ≡ suc (suc k) → afterRequest h q .tally ≡ countRefused (h .tally)
+  unfolding answerRequest afterRequest
+  refused-tally k = go q
+    where
+      go : (q : Request) → answerRequest h q .refusal ≡ suc (suc k) → afterRequest h q .tally ≡ countRefused (h .tally)
+      go (Single e) r = Frame.refused-tally h e k r
+      go (Group names) r = ap (λ j. groupOutcome j h names .tally) r
 
 -- ---- names that rise
 
@@ -119,12 +201,12 @@ pub record Allowed (t : List Cap) (issued : ℕ) (names : List ℕ) : Type 0 whe
   pub is-group : isGroup names ≡ true
   pub all-stand : All (Stands (liveRows t) issued) names
 
-module _ (rows : List Cap) (issued : ℕ) where
-  numbered : (names : List ℕ) → all (λ c. ltb 0 (c .0)) (standings rows issued names) ≡ true
-  unfolding standings
-  numbered [] = refl
-  numbered (u ∷ names) = numbered names
+numbered : (rows : List Cap) (issued : ℕ) (names : List ℕ) → all (λ c. ltb 0 (c .0)) (standings rows issued names) ≡ true
+unfolding standings
+numbered rows issued [] = refl
+numbered rows issued (u ∷ names) = numbered rows issued names
 
+module _ (rows : List Cap) (issued : ℕ) where
   none-refused : (names : List ℕ) → all (λ c. not (c .1)) (standings rows issued names) ≡ true → All (Stands rows issued) names
   unfolding standings
   none-refused [] h = tt
@@ -305,49 +387,3 @@ module _ (x : ℕ) where
   pub one-after-noted : (n : ℕ) (h : History) → afterNoted n h (Group (x ∷ [])) ≡ History.after n h (Drop (record { 0 = x }))
   unfolding afterNoted History.after
   one-after-noted n h = rw (one-judged (History.table n (h .notes)) (h .count)) (one-noted (judge (History.table n (h .notes)) (h .count) (Drop (record { 0 = x }))) h)
-
--- ---- the number given
-
--- 1 comes before all, and 13 next.
-pub disordered-first : (t : List Cap) (issued : ℕ) (names : List ℕ) → inOrder t issued ≡ false → judgeGroup t issued names ≡ 1
-unfolding judgeGroup groupRefusals
-disordered-first t issued names d = rw d
-
-pub misgrouped-next : (t : List Cap) (issued : ℕ) (names : List ℕ) → inOrder t issued ≡ true → isGroup names ≡ false → judgeGroup t issued names ≡ 13
-unfolding judgeGroup groupRefusals
-misgrouped-next t issued names o g = rw (o, g)
-
--- Then "the first name refused gives the number", each judged on the same table.
-module _ (rows : List Cap) (issued : ℕ) where
-  passed : (unissued ended : Bool) (rest : ℕ) → _≡_ {A = ℕ} (cond unissued 4 (cond ended 5 0)) 0 → cond unissued 4 (cond ended 5 rest) ≡ rest
-  passed true e rest z = absurd (four z)
-    where
-      four : _≡_ {A = ℕ} 4 0 → ⊥
-      four q = omega arith
-  passed false true rest z = absurd (five z)
-    where
-      five : _≡_ {A = ℕ} 5 0 → ⊥
-      five q = omega arith
-  passed false false rest z = refl
-
-  caught : (unissued ended : Bool) (rest k : ℕ) → cond unissued 4 (cond ended 5 0) ≡ suc k → cond unissued 4 (cond ended 5 rest) ≡ suc k
-  caught true e rest k z = z
-  caught false true rest k z = z
-  caught false false rest k z = absurd (none z)
-    where
-      none : _≡_ {A = ℕ} 0 (suc k) → ⊥
-      none q = omega arith
-
-  in-turn : (before : List ℕ) (x : ℕ) (later : List ℕ) (k : ℕ) → All (λ u. first (standing rows issued (record { 0 = u })) ≡ 0) before → first (standing rows issued (record { 0 = x })) ≡ suc k
-      → first (standings rows issued (before ++ (x ∷ later))) ≡ suc k
-  unfolding standings
-  in-turn [] x later k a z = caught (eqb x 0 || ltb issued x) (not (any (named x) rows)) (first (standings rows issued later)) k z
-  in-turn (u ∷ before) x later k a z =
-      passed (eqb u 0 || ltb issued u) (not (any (named u) rows)) (first (standings rows issued (before ++ (x ∷ later)))) (a .0)
-      ∙ in-turn before x later k (a .1) z
-
-pub first-refused : (t : List Cap) (issued : ℕ) (before : List ℕ) (x : ℕ) (later : List ℕ) (k : ℕ) → inOrder t issued ≡ true → isGroup (before ++ (x ∷ later)) ≡ true
-    → All (λ u. judge t issued (Drop (record { 0 = u })) ≡ 0) before → judge t issued (Drop (record { 0 = x })) ≡ suc k → judgeGroup t issued (before ++ (x ∷ later)) ≡ suc k
-unfolding judgeGroup groupRefusals judge refusals
-first-refused t issued before x later k o g a z =
-    rw (o, g) (in-turn (liveRows t) issued before x later k (All-map _ _ (λ u e. rw o at e) before a) (rw o at z))
