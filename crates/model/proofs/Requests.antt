@@ -14,13 +14,12 @@ use Rattle.model.specs.Refusals.{judge}
 use Rattle.model.specs.Effects.{newName}
 use Rattle.model.specs.Step.{State, Verdict, verdict, isAllowed, initial, stateAfter}
 use Rattle.model.specs.Step
-use Rattle.model.specs.Counts
 use Rattle.model.specs.History.{Note, Dropped, History, noteOf, table, emptyHistory, historyAfter, lives, livesRw, mayRead, mayWrite}
 use Rattle.model.specs.History
 use Rattle.model.specs.Together.{Request, Single, Group, judgeGroup, groupOutcome, answerRequest, afterRequest, stateAfterRequests, groupNoted, answerNoted, afterNoted, historyAfterRequests, singleDrops, groupEvents, plainEvents}
-use Rattle.model.specs.Demand3.{Demand3, Demand3Together}
+use Rattle.model.specs.Demand3.{Demand3Together}
 use Rattle.model.proofs.Lists.{and-both, all-append, final-append, answers-append}
-use Rattle.model.proofs.Match.{Kept, Match, same-answer, match-after, run, at-first}
+use Rattle.model.proofs.Match.{Match, same-answer, match-after, run, at-first}
 use Rattle.model.proofs.Demand3.{named, demand3}
 use Rattle.model.proofs.Together.{Singly, singly, singleDrops-cons, group-singly, group-table}
 

@@ -1,9 +1,8 @@
 -- Card 5, "frames dropped together": names dropped together leave what single drops in falling order of name leave.
 -- Assumes nothing.
 use mathlib.Core.Path.{_≡_, refl, sym, ap, _∙_}
-use mathlib.Core.Logic.{_⊎_, inl, inr}
 use mathlib.Core.Bool.{Bool, true, false, not, cond, _&&_, _||_, or-true, or-false}
-use mathlib.Core.List.{List, [], _∷_, _++_, map, map-append, reverse, reverse-cons}
+use mathlib.Core.List.{List, [], _∷_, _++_, map-append, reverse, reverse-cons}
 use Prim.Native.Nat.{ℕ, zero, suc, _<_, _≤_}
 use native.Mathlib.Omega.{arith}
 use lib.Dec.{eqb, ltb, leb}
@@ -13,17 +12,17 @@ use Rattle.model.specs.declared.Cap.{Cap}
 use Rattle.model.specs.declared.Event.{Event}
 use Rattle.model.specs.declared.Event.the-variants.{Drop}
 use Rattle.model.specs.Lists.{filter, any, all, first, final, answers}
-use Rattle.model.specs.Derivation.{Derivation, ancestry, inSubtree}
-use Rattle.model.specs.Table.{derivation, derivations, named, liveRows, lentTable, liveRowsFirst, rowsInOrder, inOrder}
-use Rattle.model.specs.Refusals.{disordered, standing, refusals, judge}
+use Rattle.model.specs.Derivation.{ancestry, inSubtree}
+use Rattle.model.specs.Table.{derivation, derivations, named, liveRows, lentTable, rowsInOrder, inOrder}
+use Rattle.model.specs.Refusals.{standing, refusals, judge}
 use Rattle.model.specs.Effects.{revoke, rowsAfter}
 use Rattle.model.specs.Counts.{countRefused}
 use Rattle.model.specs.Step.{State, isAllowed, answer, outcome, after}
 use Rattle.model.specs.History.{History, noteOf}
 use Rattle.model.specs.History
 use Rattle.model.specs.Together.{Request, Single, Group, risesAbove, risesStrictly, isGroup, standings, groupRefusals, judgeGroup, inSubtrees, rowsWithout, groupOutcome, answerRequest, afterRequest, groupNoted, answerNoted, afterNoted, singleDrops}
-use Rattle.model.proofs.Lists.{All, All-map, All-of, All-sub, test, clash, unless, and-both, or-neither, and-neither, any-false, any-kept, any-or, passes, filter-cong, filter-filter, filter-map, filter-all, length-filter, map-id, first-zero, all-append, final-append, answers-append}
-use Rattle.model.proofs.Ancestries.{Closed, Falling, ancestry-kept, ancestry-upto}
+use Rattle.model.proofs.Lists.{All, All-map, All-of, All-sub, and-both, or-neither, and-neither, any-false, any-kept, any-or, passes, filter-cong, filter-filter, filter-map, filter-all, length-filter, map-id, first-zero, all-append, final-append, answers-append}
+use Rattle.model.proofs.Ancestries.{Closed, ancestry-kept, ancestry-upto}
 use Rattle.model.proofs.Lent.{Named, live-lent, length-lent}
 use Rattle.model.proofs.Judged.{length-live}
 use Rattle.model.proofs.Frame
@@ -65,9 +64,9 @@ module _ (rows : List Cap) (issued : ℕ) where
   in-turn : (before : List ℕ) (x : ℕ) (later : List ℕ) (k : ℕ) → All (λ u. first (standing rows issued (record { 0 = u })) ≡ 0) before → first (standing rows issued (record { 0 = x })) ≡ suc k
       → first (standings rows issued (before ++ (x ∷ later))) ≡ suc k
   unfolding standings
-  in-turn [] x later k a z = caught (eqb x 0 || ltb issued x) (not (any (named x) rows)) (first (standings rows issued later)) k z
+  in-turn [] x later k a z = caught (eqb x 0 || ltb issued x) (not (any (named x) rows)) _ k z
   in-turn (u ∷ before) x later k a z =
-      passed (eqb u 0 || ltb issued u) (not (any (named u) rows)) (first (standings rows issued (before ++ (x ∷ later)))) (a .0)
+      passed (eqb u 0 || ltb issued u) (not (any (named u) rows)) _ (a .0)
       ∙ in-turn before x later k (a .1) z
 
 pub first-refused : (t : List Cap) (issued : ℕ) (before : List ℕ) (x : ℕ) (later : List ℕ) (k : ℕ) → inOrder t issued ≡ true → isGroup (before ++ (x ∷ later)) ≡ true
@@ -131,6 +130,15 @@ rising (x ∷ names) h = above x names h
 
 -- ---- rows in order without some names
 
+-- the rows that are left stay as they are
+pub without-left : (names : List ℕ) (rows : List Cap) → rowsWithout names rows ≡ filter (λ c. not (inSubtrees names (ancestry (derivations rows) (c .name .0)))) rows
+unfolding rowsWithout revoke
+without-left names rows = map-id _
+
+-- what has no ancestry is in no subtree
+pub group-none : (names : List ℕ) → inSubtrees names [] ≡ false
+group-none names = any-false (λ u. inSubtree u []) names (All-of _ (λ u. refl) names)
+
 module _ (bound : ℕ) (rows : List Cap) (n : Named rows) (h : rowsInOrder bound rows ≡ true) where
   -- a row is in the subtree of one of the names when it is one of them, or its parent is in one's
   pub group-step : (names : List ℕ)
@@ -143,11 +151,6 @@ module _ (bound : ℕ) (rows : List Cap) (n : Named rows) (h : rowsInOrder bound
 
     abbrev left : List Cap
     left = filter (λ c. kept (c .name .0)) rows
-
-    -- the rows that are left stay as they are
-    pub without-left : rowsWithout names rows ≡ left
-    unfolding rowsWithout revoke
-    without-left = map-id _
 
     parents-kept : Closed kept (derivations rows)
     parents-kept = mapped rows (group-step names)
@@ -172,7 +175,7 @@ module _ (bound : ℕ) (rows : List Cap) (n : Named rows) (h : rowsInOrder bound
     pub without-more : (issued x : ℕ) → rowsAfter issued (rowsWithout names rows) (Drop (record { 0 = x })) ≡ rowsWithout (x ∷ names) rows
     unfolding rowsAfter rowsWithout revoke
     without-more issued x =
-        ap (λ l. rowsAfter issued l (Drop (record { 0 = x }))) without-left
+        ap (λ l. rowsAfter issued l (Drop (record { 0 = x }))) (without-left names rows)
         ∙ map-id _
         ∙ filter-cong (λ c. not (inSubtree x (ancestry (derivations left) (c .name .0)))) (λ c. not (inSubtree x (ancestry (derivations rows) (c .name .0)))) left
         (All-map _ _ (λ c k. ap (λ a. not (inSubtree x a)) (ancestry-left (c .name .0) k)) left (passes (λ c. kept (c .name .0)) rows))
@@ -188,7 +191,7 @@ module _ (bound : ℕ) (rows : List Cap) (n : Named rows) (h : rowsInOrder bound
         off u l = any-false (λ d. eqb u (d .name)) (ancestry (derivations rows) x) (All-map _ _ (λ d k. ne-eqb u (d .name) (λ (e : u ≡ d .name). omega arith)) (ancestry (derivations rows) x) (ancestry-upto bound x (derivations rows) (rowsInOrder-falling bound rows n h)))
 
     pub smaller-stays : (x : ℕ) → All (λ u. x < u) names → any (named x) (rowsWithout names rows) ≡ any (named x) rows
-    smaller-stays x a = rw without-left (any-kept (λ c. c .name .0) kept x (smaller-kept x a) rows)
+    smaller-stays x a = rw (without-left names rows) (any-kept (λ c. c .name .0) kept x (smaller-kept x a) rows)
 
 -- ---- an allowed group
 
@@ -204,7 +207,7 @@ pub record Allowed (t : List Cap) (issued : ℕ) (names : List ℕ) : Type 0 whe
 numbered : (rows : List Cap) (issued : ℕ) (names : List ℕ) → all (λ c. ltb 0 (c .0)) (standings rows issued names) ≡ true
 unfolding standings
 numbered rows issued [] = refl
-numbered rows issued (u ∷ names) = numbered rows issued names
+numbered rows issued (u ∷ names) = numbered _ issued names
 
 module _ (rows : List Cap) (issued : ℕ) where
   none-refused : (names : List ℕ) → all (λ c. not (c .1)) (standings rows issued names) ≡ true → All (Stands rows issued) names
@@ -235,12 +238,10 @@ singleDrops-cons x names = rw (reverse-cons x names) (map-append (λ u. Drop (re
 -- the rows that a group leaves fit where they stood
 module _ (t : List Cap) (names : List ℕ) where
   without-named : Named (rowsWithout names (liveRows t))
-  unfolding rowsWithout revoke
-  without-named = rw (map-id _) (All-sub _ _ (liveRows t) (live-named t))
+  without-named = rw (without-left names (liveRows t)) (All-sub _ _ (liveRows t) (live-named t))
 
   without-fits : length (rowsWithout names (liveRows t)) ≤ length t
-  unfolding rowsWithout revoke
-  without-fits = rw (map-id _) (omega (arith, length-filter (λ c. not (inSubtrees names (ancestry (derivations (liveRows t)) (c .name .0)))) (liveRows t), length-live t))
+  without-fits = rw (without-left names (liveRows t)) (omega (arith, length-filter (λ c. not (inSubtrees names (ancestry (derivations (liveRows t)) (c .name .0)))) (liveRows t), length-live t))
 
 -- what single drops in falling order leave, each of which is allowed in its turn
 pub record Singly (h : State) (names : List ℕ) : Type 0 where
@@ -253,8 +254,7 @@ module _ (h : State) (o : inOrder (h .table) (h .tally .issued) ≡ true) where
   rows = liveRows (h .table)
 
   dropped-none : rowsWithout [] rows ≡ rows
-  unfolding rowsWithout revoke
-  dropped-none = map-id _ ∙ filter-all _ rows (All-of _ (λ c. refl) rows)
+  dropped-none = without-left [] rows ∙ filter-all _ rows (All-of _ (λ c. refl) rows)
 
   -- one more drop, of a smaller name
   module _ (x : ℕ) (names : List ℕ) (below : All (λ u. x < u) names) (stands : Stands rows (h .tally .issued) x) (s : Singly h names) where

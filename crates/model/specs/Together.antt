@@ -12,7 +12,7 @@ use Rattle.model.specs.declared.Event.the-variants.{Drop}
 use Rattle.model.specs.Lists.{any, first, final}
 use Rattle.model.specs.Derivation.{Derivation, ancestry, inSubtree}
 use Rattle.model.specs.Table.{derivations, liveRows, lentTable}
-use Rattle.model.specs.Refusals.{disordered, standing, judge}
+use Rattle.model.specs.Refusals.{disordered, standing}
 use Rattle.model.specs.Effects.{revoke}
 use Rattle.model.specs.Counts.{countDropped, countRefused}
 use Rattle.model.specs.Step.{Verdict, verdict, State, answer, after, initial}
