@@ -41,39 +41,60 @@ unfolding judgeGroup groupRefusals
 misgrouped-next t issued names o g = rw (o, g)
 
 -- Then "the first name refused gives the number", each judged on the same table.
+caught : (unissued ended : Bool) (rest k : ℕ) → cond unissued 4 (cond ended 5 0) ≡ suc k → cond unissued 4 (cond ended 5 rest) ≡ suc k
+caught true e rest k z = z
+caught false true rest k z = z
+caught false false rest k z = absurd (none z)
+  where
+    none : _≡_ {A = ℕ} 0 (suc k) → ⊥
+    none q = omega arith
+
+passed : (unissued ended : Bool) (rest : ℕ) → _≡_ {A = ℕ} (cond unissued 4 (cond ended 5 0)) 0 → cond unissued 4 (cond ended 5 rest) ≡ rest
+passed true e rest z = absurd (four z)
+  where
+    four : _≡_ {A = ℕ} 4 0 → ⊥
+    four q = omega arith
+passed false true rest z = absurd (five z)
+  where
+    five : _≡_ {A = ℕ} 5 0 → ⊥
+    five q = omega arith
+passed false false rest z = refl
+
 module _ (rows : List Cap) (issued : ℕ) where
-  passed : (unissued ended : Bool) (rest : ℕ) → _≡_ {A = ℕ} (cond unissued 4 (cond ended 5 0)) 0 → cond unissued 4 (cond ended 5 rest) ≡ rest
-  passed true e rest z = absurd (four z)
-    where
-      four : _≡_ {A = ℕ} 4 0 → ⊥
-      four q = omega arith
-  passed false true rest z = absurd (five z)
-    where
-      five : _≡_ {A = ℕ} 5 0 → ⊥
-      five q = omega arith
-  passed false false rest z = refl
+  abbrev number : ℕ → ℕ
+  number u = first (standing rows issued (record { 0 = u }))
 
-  caught : (unissued ended : Bool) (rest k : ℕ) → cond unissued 4 (cond ended 5 0) ≡ suc k → cond unissued 4 (cond ended 5 rest) ≡ suc k
-  caught true e rest k z = z
-  caught false true rest k z = z
-  caught false false rest k z = absurd (none z)
-    where
-      none : _≡_ {A = ℕ} 0 (suc k) → ⊥
-      none q = omega arith
-
-  in-turn : (before : List ℕ) (x : ℕ) (later : List ℕ) (k : ℕ) → All (λ u. first (standing rows issued (record { 0 = u })) ≡ 0) before → first (standing rows issued (record { 0 = x })) ≡ suc k
-      → first (standings rows issued (before ++ (x ∷ later))) ≡ suc k
+  -- a name that is refused gives the number, whatever comes later
+  pub name-refused : (u : ℕ) (later : List ℕ) (k : ℕ) → number u ≡ suc k → first (standings rows issued (u ∷ later)) ≡ suc k
   unfolding standings
-  in-turn [] x later k a z = caught (eqb x 0 || ltb issued x) (not (any (named x) rows)) _ k z
-  in-turn (u ∷ before) x later k a z =
-      passed (eqb u 0 || ltb issued u) (not (any (named u) rows)) _ (a .0)
-      ∙ in-turn before x later k (a .1) z
+  name-refused u later k z = caught (eqb u 0 || ltb issued u) (not (any (named u) rows)) _ k z
 
+  -- after a name that is not refused, the later ones give it
+  pub name-passed : (u : ℕ) (later : List ℕ) → number u ≡ 0 → first (standings rows issued (u ∷ later)) ≡ first (standings rows issued later)
+  unfolding standings
+  name-passed u later z = passed (eqb u 0 || ltb issued u) (not (any (named u) rows)) _ z
+
+  in-turn : (before : List ℕ) (x : ℕ) (later : List ℕ) (k : ℕ) → All (λ u. number u ≡ 0) before → number x ≡ suc k → first (standings rows issued (before ++ (x ∷ later))) ≡ suc k
+  in-turn [] x later k a z = name-refused x later k z
+  in-turn (u ∷ before) x later k a z = name-passed u (before ++ (x ∷ later)) (a .0) ∙ in-turn before x later k (a .1) z
+
+  all-passed : (names : List ℕ) → All (λ u. number u ≡ 0) names → first (standings rows issued names) ≡ 0
+  unfolding standings
+  all-passed [] a = refl
+  all-passed (u ∷ names) a = name-passed u names (a .0) ∙ all-passed names (a .1)
+
+-- It is the number that a single drop of that name gets on the same table.
 pub first-refused : (t : List Cap) (issued : ℕ) (before : List ℕ) (x : ℕ) (later : List ℕ) (k : ℕ) → inOrder t issued ≡ true → isGroup (before ++ (x ∷ later)) ≡ true
     → All (λ u. judge t issued (Drop (record { 0 = u })) ≡ 0) before → judge t issued (Drop (record { 0 = x })) ≡ suc k → judgeGroup t issued (before ++ (x ∷ later)) ≡ suc k
 unfolding judgeGroup groupRefusals judge refusals
 first-refused t issued before x later k o g a z =
     rw (o, g) (in-turn (liveRows t) issued before x later k (All-map _ _ (λ u e. rw o at e) before a) (rw o at z))
+
+-- Where none is refused, the group is allowed.
+pub none-refused : (t : List Cap) (issued : ℕ) (names : List ℕ) → inOrder t issued ≡ true → isGroup names ≡ true → All (λ u. judge t issued (Drop (record { 0 = u })) ≡ 0) names
+    → judgeGroup t issued names ≡ 0
+unfolding judgeGroup groupRefusals judge refusals
+none-refused t issued names o g a = rw (o, g) (all-passed (liveRows t) issued names (All-map _ _ (λ u e. rw o at e) names a))
 
 -- ---- either all are dropped or none
 
@@ -210,13 +231,13 @@ numbered rows issued [] = refl
 numbered rows issued (u ∷ names) = numbered _ issued names
 
 module _ (rows : List Cap) (issued : ℕ) where
-  none-refused : (names : List ℕ) → all (λ c. not (c .1)) (standings rows issued names) ≡ true → All (Stands rows issued) names
+  standing-all : (names : List ℕ) → all (λ c. not (c .1)) (standings rows issued names) ≡ true → All (Stands rows issued) names
   unfolding standings
-  none-refused [] h = tt
-  none-refused (u ∷ names) h =
+  standing-all [] h = tt
+  standing-all (u ∷ names) h =
       let p = and-both (not (eqb u 0 || ltb issued u)) (not (not (any (named u) rows)) && all (λ c. not (c .1)) (standings rows issued names)) h in
       let q = and-both (not (not (any (named u) rows))) (all (λ c. not (c .1)) (standings rows issued names)) (p .1) in
-      ((not-true (eqb u 0 || ltb issued u) (p .0), not-false (any (named u) rows) (not-true (not (any (named u) rows)) (q .0))), none-refused names (q .1))
+      ((not-true (eqb u 0 || ltb issued u) (p .0), not-false (any (named u) rows) (not-true (not (any (named u) rows)) (q .0))), standing-all names (q .1))
 
 pub allowed : (t : List Cap) (issued : ℕ) (names : List ℕ) → judgeGroup t issued names ≡ 0 → Allowed t issued names
 unfolding judgeGroup groupRefusals
@@ -227,7 +248,7 @@ allowed t issued names z =
     record {
       in-order = not-false (inOrder t issued) (not-true (not (inOrder t issued)) (p .0));
       is-group = not-false (isGroup names) (not-true (not (isGroup names)) (q .0));
-      all-stand = none-refused (liveRows t) issued names (q .1);
+      all-stand = standing-all (liveRows t) issued names (q .1);
     }
 
 -- ---- single drops in falling order

@@ -1,6 +1,6 @@
 -- Document 01, "Eleven ways to be turned down", of an event, and card 1: the conditions 1 to 10 and 12, and which of them each event
 -- meets.
--- Assumes nothing. (2 is here in its half about events; its other half, and 11, are of the text.)
+-- Assumes nothing. (2 is here in its half about events; its other half, and 11, are of the text; 13 is in Together.)
 use Prim.Native.Nat.{ℕ, suc}
 use mathlib.Core.Bool.{Bool, false, not, cond, _||_}
 use mathlib.Core.List.{List, [], _∷_, _++_}
