@@ -102,15 +102,19 @@ typedef struct kz_tally {
 /*
  * One event. `kind` is one of the five; what a kind lacks is passed as 0 and not looked at:
  *
- *   KZ_CREATE  start length right        a new root
- *   KZ_BORROW  name start length right   a new capability under a live one
+ *   KZ_CREATE  start length right        a new root, freshly allocated: ends every capability that is
+ *                                        touched, and its subtree
+ *   KZ_BORROW  name start length right   a new capability under a live one; takes nothing away
  *   KZ_READ    name start length         lowers to read-only every capability that is touched and is
  *                                        neither the reader nor an ancestor of it, and its subtree
  *   KZ_WRITE   name start length         ends the same capabilities and their subtrees
  *   KZ_DROP    name                      ends the capability and its subtree
  *
+ * A span of length 0 touches nothing, so a create of length 0 ends nothing. Whether a row is empty is
+ * judged on the table before the event: KZ_TABLE_FULL is given also where a create would end some.
+ *
  * Allowed: the value is the new name for a create or borrow, else 0. The table and the tally follow
- * the event.
+ * the event; the tally counts the event, and not what it ended.
  * Refused, with value 0: KZ_DISORDERED changes nothing. Any other refusal adds one to the refused
  * count and changes nothing else.
  */

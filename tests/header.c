@@ -54,6 +54,25 @@ static void check_events(void) {
     CHECK(tally.reads == 1 && tally.writes == 1 && tally.drops == 1 && tally.refused == 4);
 }
 
+static void check_reused_memory(void) {
+    kz_cap table[3];
+    kz_tally tally;
+    memset(table, 0, sizeof table);
+    memset(&tally, 0, sizeof tally);
+    CHECK(kz_create(table, 3, &tally, 0, 64, KZ_RW) == 1);
+    CHECK(kz_borrow(table, 3, &tally, 1, 0, 16, KZ_RW) == 2);
+    CHECK(kz_create(table, 3, &tally, 8, 0, KZ_RW) == 3);
+    CHECK(kz_create(table, 3, &tally, 32, 8, KZ_RW) == refused(KZ_TABLE_FULL, 0));
+    CHECK(kz_drop(table, 3, &tally, 3) == 0);
+    CHECK(kz_create(table, 3, &tally, 64, 8, KZ_RW) == 4);
+    CHECK(table[0].name == 1 && table[1].name == 2 && table[2].name == 4);
+    CHECK(kz_drop(table, 3, &tally, 4) == 0);
+    CHECK(kz_create(table, 3, &tally, 32, 8, KZ_RO) == 5);
+    CHECK(table[0].name == 5 && table[1].name == 0);
+    CHECK(kz_read(table, 3, &tally, 2, 0, 8) == refused(KZ_ENDED, 0));
+    CHECK(tally.creates == 4 && tally.writes == 0 && tally.drops == 2 && tally.refused == 2);
+}
+
 static void check_named_events(void) {
     kz_cap table[2];
     kz_tally tally;
@@ -170,6 +189,7 @@ static void check_longest(void) {
 int main(void) {
     check_layout();
     check_events();
+    check_reused_memory();
     check_named_events();
     check_text();
     check_named_text();

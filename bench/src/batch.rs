@@ -5,7 +5,7 @@ use std::hint::black_box;
 use interface::{Event, Interface};
 
 use crate::timing::Batch;
-use crate::workload::{Lent, event_on_first_tree};
+use crate::workload::Lent;
 
 /// About so many bytes of tables stand in a batch, few enough for the second cache.
 const BATCH_BYTES: usize = 128 * 1024;
@@ -86,8 +86,7 @@ fn allowed(answer: u64) {
     assert!(black_box(answer) >> 32 == 0, "refusal {}", answer >> 32);
 }
 
-pub fn apply(kind: u8, lent: Lent) -> Box<dyn Batch> {
-    let event = event_on_first_tree(kind);
+pub fn apply(event: Event, lent: Lent) -> Box<dyn Batch> {
     let bytes = lent.table.len() * size_of::<interface::Cap>();
     let call = move |implementation: &dyn Interface, lent: &mut Lent| {
         implementation.apply(&mut lent.table, &mut lent.tally, event)

@@ -6,7 +6,10 @@ mod timing;
 mod workload;
 
 use timing::{Batch, Contenders, median_times};
-use workload::{BORROW, CREATE, DROP, READ, STEADY_ROWS, WRITE, steady_text, two_trees};
+use workload::{
+    BORROW, CREATE, DROP, READ, STEADY_ROWS, WRITE, create_beside, event_on_first_tree,
+    steady_text, two_trees,
+};
 
 const SIZES: [usize; 4] = [16, 64, 256, 1_024];
 
@@ -18,23 +21,26 @@ type Measurement = (&'static str, fn(usize) -> Box<dyn Batch>);
 /// A call, and the batch that times it.
 type LineMeasurement = (&'static str, fn() -> Box<dyn Batch>);
 
-/// The calls whose time depends on the rows. Create and borrow begin with one row less, so that
-/// the table is full after them.
-const BY_ROWS: [Measurement; 8] = [
+/// The calls whose time depends on the rows. Creates and the borrow begin with one row less; after
+/// the create beside the trees and after the borrow the table is full.
+const BY_ROWS: [Measurement; 9] = [
     ("apply create", |rows| {
-        batch::apply(CREATE, two_trees(rows - 1, rows))
+        batch::apply(create_beside(), two_trees(rows - 1, rows))
+    }),
+    ("apply reuse", |rows| {
+        batch::apply(event_on_first_tree(CREATE), two_trees(rows - 1, rows))
     }),
     ("apply borrow", |rows| {
-        batch::apply(BORROW, two_trees(rows - 1, rows))
+        batch::apply(event_on_first_tree(BORROW), two_trees(rows - 1, rows))
     }),
     ("apply read", |rows| {
-        batch::apply(READ, two_trees(rows, rows))
+        batch::apply(event_on_first_tree(READ), two_trees(rows, rows))
     }),
     ("apply write", |rows| {
-        batch::apply(WRITE, two_trees(rows, rows))
+        batch::apply(event_on_first_tree(WRITE), two_trees(rows, rows))
     }),
     ("apply drop", |rows| {
-        batch::apply(DROP, two_trees(rows, rows))
+        batch::apply(event_on_first_tree(DROP), two_trees(rows, rows))
     }),
     ("write_listing", |rows| {
         batch::write_listing(two_trees(rows, rows))
@@ -58,10 +64,12 @@ const BY_LINE: [LineMeasurement; 2] = [
 const NOTES: &str = "\
 Times are medians for one call, both implementations taking turns; 'growth' is the time over the
 time at a quarter of the rows. All rows are live: two trees of borrows, their rows in turn. Each
-timed apply and run has a fresh copy of the table, made outside the timed part. The read, write and
-drop go through one tree's root over its whole span and so meet half of the rows. A listing is
-written into and read from the same buffers each time. A run takes up to 65,536 bytes of lines, all
-allowed and in the same proportions at every size, that keep the table nearly full.";
+timed apply and run has a fresh copy of the table, made outside the timed part. 'apply create' makes
+a root beside the trees and ends nothing; 'apply reuse' is a create over one tree's whole span and
+ends its rows, half of all. The read, write and drop go through one tree's root over its whole span
+and so meet half of the rows. A listing is written into and read from the same buffers each time. A
+run takes up to 65,536 bytes of lines, all allowed and in the same proportions at every size, that
+keep the table nearly full; its creates are beside the trees and end nothing.";
 
 fn main() {
     let contenders: Vec<_> = interface::library()

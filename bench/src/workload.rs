@@ -87,8 +87,8 @@ fn borrowed(random: &mut Random, parent: &Cap) -> Cap {
     }
 }
 
-/// An event through the root of the first tree over its whole span: a read lowers half of the rows
-/// of `two_trees`, a write or a drop ends them.
+/// An event over the whole span of the first tree, through its root where the kind has a name: a read
+/// lowers half of the rows of `two_trees`, a write, drop or create ends them, a borrow takes nothing.
 pub fn event_on_first_tree(kind: u8) -> Event {
     Event {
         kind,
@@ -100,11 +100,20 @@ pub fn event_on_first_tree(kind: u8) -> Event {
     }
 }
 
+/// A create behind the two trees, which touches neither and so ends nothing.
+pub fn create_beside() -> Event {
+    Event {
+        start: 2 * TREE_LENGTH,
+        ..event_on_first_tree(CREATE)
+    }
+}
+
 /// How many rows `steady_text` uses besides those that live already.
 pub const STEADY_ROWS: usize = 3;
 
 /// Lines that are all allowed, in equal rounds: an object beside the two trees is made, borrowed,
-/// used and dropped, and some row of the trees is read through.
+/// used and dropped, and some row of the trees is read through. A round's create has the memory of
+/// the last round's object, which has been dropped, and so ends nothing.
 pub fn steady_text(lent: &Lent, size: usize) -> Vec<u8> {
     let mut random = Random::new();
     let mut text = String::with_capacity(size);

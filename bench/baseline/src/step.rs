@@ -61,15 +61,15 @@ impl Ordered<'_> {
         refusal
     }
 
-    /// The event's kind and the row that it goes through (0 for a create), or the first refusal.
-    fn judge(&self, event: Event) -> Result<(Kind, usize), Refusal> {
+    /// The event's kind and the row that it goes through (none for a create), or the first refusal.
+    fn judge(&self, event: Event) -> Result<(Kind, Option<usize>), Refusal> {
         let kind = event.known_kind().ok_or(Refusal::Misspelt)?;
         if kind.has_span() && !event.span().is_legal() {
             return Err(Refusal::IllegalSpan);
         }
         let user = match kind.has_name() {
-            true => self.judge_user(event, kind)?,
-            false => 0,
+            true => Some(self.judge_user(event, kind)?),
+            false => None,
         };
         if kind.makes() {
             self.judge_room(event.written)?;
@@ -114,16 +114,18 @@ impl Ordered<'_> {
         Ok(())
     }
 
-    fn carry_out(&mut self, event: Event, kind: Kind, user: usize) -> u32 {
+    fn carry_out(&mut self, event: Event, kind: Kind, user: Option<usize>) -> u32 {
         self.tally.count_allowed(kind);
         match kind {
-            Kind::Create => return self.append(event, None),
-            Kind::Borrow => return self.append(event, Some(user)),
+            Kind::Create | Kind::Write => self.remove(&self.revoked(user, event.span())),
             Kind::Read => self.lower(&self.revoked(user, event.span())),
-            Kind::Write => self.remove(&self.revoked(user, event.span())),
             Kind::Drop => self.remove(&self.subtree(user)),
+            Kind::Borrow => {}
         }
-        0
+        match kind.makes() {
+            true => self.append(event, user),
+            false => 0,
+        }
     }
 
     fn append(&mut self, event: Event, parent: Option<usize>) -> u32 {
@@ -146,9 +148,9 @@ impl Ordered<'_> {
         self.tally.issued
     }
 
-    /// The rows that an access takes something from. Parents stand before their children, so one
-    /// pass carries a mark down.
-    fn revoked(&self, user: usize, span: Span) -> Marks {
+    /// The rows that an access takes something from; a create is a write that no row is the user of.
+    /// Parents stand before their children, so one pass carries a mark down.
+    fn revoked(&self, user: Option<usize>, span: Span) -> Marks {
         let spared = self.ancestry(user);
         let mut marks = [false; MAX_ROWS];
         for (at, row) in self.table[..self.index.live].iter().enumerate() {
@@ -158,9 +160,9 @@ impl Ordered<'_> {
         marks
     }
 
-    fn ancestry(&self, row: usize) -> Marks {
+    fn ancestry(&self, row: Option<usize>) -> Marks {
         let mut marks = [false; MAX_ROWS];
-        let mut next = Some(row);
+        let mut next = row;
         while let Some(at) = next {
             marks[at] = true;
             next = self.index.parent(at);
@@ -168,11 +170,11 @@ impl Ordered<'_> {
         marks
     }
 
-    fn subtree(&self, root: usize) -> Marks {
+    fn subtree(&self, root: Option<usize>) -> Marks {
         let mut marks = [false; MAX_ROWS];
-        marks[root] = true;
-        for at in root + 1..self.index.live {
-            marks[at] = self.index.parent(at).is_some_and(|parent| marks[parent]);
+        for at in 0..self.index.live {
+            let inherited = self.index.parent(at).is_some_and(|parent| marks[parent]);
+            marks[at] = inherited || root == Some(at);
         }
         marks
     }
@@ -188,6 +190,9 @@ impl Ordered<'_> {
 
     /// Closes the gaps that the marked rows leave, and clears the rows that come free.
     fn remove(&mut self, marks: &Marks) {
+        if !marks[..self.index.live].contains(&true) {
+            return;
+        }
         let mut moved_to = [NO_ROW; MAX_ROWS];
         let mut kept = 0;
         for at in 0..self.index.live {

@@ -13,11 +13,12 @@ pub enum Refusal {
     Disordered = 1,
     /// A line or listing is not in the one spelling.
     Misspelt = 2,
-    /// A length is 0, or an end is above 4,294,967,296.
+    /// An end is above 4,294,967,296.
     IllegalSpan = 3,
     /// A name is 0 or above the issued number.
     Unissued = 4,
-    /// A name was issued, and its capability has ended.
+    /// A name was issued, and its capability has ended: it was dropped, or written to from outside, or
+    /// its memory was handed out again, itself or an ancestor.
     Ended = 5,
     /// A span is not inside the capability's.
     OutsideSpan = 6,
@@ -29,7 +30,8 @@ pub enum Refusal {
     NamesSpent = 9,
     /// A written name is not the issued number plus one.
     Misnamed = 12,
-    /// A create or borrow when no row is empty, or a listing with more capabilities than rows.
+    /// A create or borrow when no row is empty, also where the create would end some; or a listing with
+    /// more capabilities than rows.
     TableFull = 10,
     /// A text is longer than the output buffer.
     BufferTooShort = 11,

@@ -3,7 +3,8 @@
 //! The caller lends a table of capabilities and a tally. Each event (create, borrow, read, write,
 //! drop) is allowed or refused, and the table follows the allowed ones: a read lowers to read-only,
 //! and a write ends, every capability that it touches and that is neither its user nor an ancestor
-//! of its user. Nothing is taken away when a borrow is made.
+//! of its user, with their subtrees. A create is a fresh allocation and ends every capability that it
+//! touches. Nothing is taken away when a borrow is made.
 //!
 //! ```
 //! use kelzoud::{apply, Addr, Answer, Cap, Event, Name, Refusal, Right, Span, Tally};
@@ -24,6 +25,18 @@
 //! assert_eq!(apply(&mut table, &mut tally, write), Answer::Allowed(None));
 //! let read = Event::Read { name: Name(2), span };
 //! assert_eq!(apply(&mut table, &mut tally, read), Answer::Refused(Refusal::Ended));
+//! ```
+//!
+//! Memory that is handed out again, without a drop, leaves no stale capability behind:
+//!
+//! ```
+//! use kelzoud::{run, Cap, Refusal, RunAnswer, Tally};
+//!
+//! let mut table = [Cap::EMPTY; 16];
+//! let mut tally = Tally::default();
+//! let text = b"(create 0 64 rw)\n(borrow 1 0 8 rw)\n(create 32 16 rw)\n(read 2 0 8)\n";
+//! let answer = run(&mut table, &mut tally, text);
+//! assert_eq!(answer, RunAnswer::Refused { refusal: Refusal::Ended, line: 4 });
 //! ```
 //!
 //! A log may write out the name of what each create and borrow makes, and is then checked for it:

@@ -47,7 +47,8 @@ impl Right {
 /// [`Misnamed`](crate::Refusal::Misnamed).
 #[derive(Clone, Copy, Debug, PartialEq, Eq, Hash)]
 pub enum Event {
-    /// Makes a new root.
+    /// Makes a new root, as a fresh allocation: ends every capability that its span touches, with
+    /// their subtrees. One of length 0 ends nothing.
     Create {
         /// The root's name, where it is written out.
         written: Option<Name>,
@@ -56,7 +57,7 @@ pub enum Event {
         /// The root's right.
         right: Right,
     },
-    /// Makes a new capability under a live one.
+    /// Makes a new capability under a live one. Nothing is taken away.
     Borrow {
         /// The new capability's name, where it is written out.
         written: Option<Name>,

@@ -159,11 +159,49 @@ fn written_names_are_judged() {
     assert_eq!(take(with_name(root, 0)), misnamed);
     assert_eq!(take(with_name(root, 2)), misnamed);
     assert_eq!(take(with_name(root, 1)), Answer::Allowed(Some(Name(1))));
-    assert_eq!(take(root), Answer::Allowed(Some(Name(2))));
+    let beside = Event::Create {
+        written: None,
+        span: span(8, 8),
+        right: Right::ReadWrite,
+    };
+    assert_eq!(take(beside), Answer::Allowed(Some(Name(2))));
     assert_eq!(take(with_name(root, 2)), misnamed);
     let full = Answer::Refused(Refusal::TableFull);
     assert_eq!(take(with_name(root, 3)), full);
     assert_eq!((tally.issued, tally.creates, tally.refused), (2, 2, 4));
+}
+
+#[test]
+fn a_create_ends_what_it_touches() {
+    let mut table = [Cap::EMPTY; 3];
+    let mut tally = Tally::default();
+    let mut take = |event| apply(&mut table, &mut tally, event);
+    let create = |start, length| Event::Create {
+        written: None,
+        span: span(start, length),
+        right: Right::ReadWrite,
+    };
+    let borrow = Event::Borrow {
+        written: None,
+        parent: Name(1),
+        span: span(0, 8),
+        right: Right::ReadWrite,
+    };
+    let read = Event::Read {
+        name: Name(2),
+        span: span(0, 8),
+    };
+    assert_eq!(take(create(0, 64)), Answer::Allowed(Some(Name(1))));
+    assert_eq!(take(borrow), Answer::Allowed(Some(Name(2))));
+    assert_eq!(take(create(64, 8)), Answer::Allowed(Some(Name(3))));
+    assert_eq!(take(read), Answer::Allowed(None));
+    let full = Answer::Refused(Refusal::TableFull);
+    assert_eq!(take(create(32, 16)), full);
+    assert_eq!(take(Event::Drop { name: Name(3) }), Answer::Allowed(None));
+    assert_eq!(take(create(32, 16)), Answer::Allowed(Some(Name(4))));
+    assert_eq!(take(read), Answer::Refused(Refusal::Ended));
+    assert_eq!((table[0].name, table[1]), (4, Cap::EMPTY));
+    assert_eq!((tally.creates, tally.writes, tally.drops), (3, 0, 1));
 }
 
 #[test]

@@ -10,6 +10,7 @@ pub mod Roots
 pub mod Merging
 pub mod Front
 pub mod Lent
+pub mod Padded
 pub mod ReadListing
 pub mod Nested
 pub mod Back

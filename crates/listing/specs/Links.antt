@@ -8,7 +8,7 @@ use lib.ListN.{length, getD}
 use Rattle.model.specs.declared.Cap.{Cap}
 use Rattle.model.specs.Lists.{all}
 use Rattle.model.specs.Table.{named, rowsInOrder}
-use Rattle.rules.specs.Engine.{nameAt, parentAt}
+use Rattle.table.specs.Rows.{nameAt, parentAt}
 
 -- the live rows of a table in order, by rising name, whatever number was issued
 pub record Live (rows : List Cap) : Type 0 where

@@ -8,7 +8,7 @@ use lib.Dec.{eqb}
 use lib.ListN.{length, getD, drop}
 use Rattle.model.specs.declared.Cap.{Cap}
 use Rattle.model.specs.Table.{emptyRow, liveRows}
-use Rattle.rules.specs.Engine.{nameAt}
+use Rattle.table.specs.Rows.{nameAt}
 use Rattle.text.specs.Decimal.{decimal}
 use Rattle.text.specs.Event.{bytes, spaced, line}
 

@@ -10,7 +10,7 @@ use lib.ListN.{length}
 use Rattle.model.specs.declared.Cap.{Cap}
 use Rattle.model.specs.Answers.{number}
 use Rattle.model.specs.Table.{liveRows, lentTable, inOrder}
-use Rattle.rules.specs.Words.{rowsOf, rowsIn}
+use Rattle.table.specs.Words.{rowsOf, rowsIn}
 use Rattle.text.specs.Result.{Result, value, refused}
 use Rattle.text.specs.Read.{same}
 use Rattle.listing.specs.Listing.{listing}

@@ -3,8 +3,7 @@
 use model::Addr;
 use model::Cap;
 use model::Name;
-use rules::words;
-use text::lines;
+use table::words;
 use text::numbers;
 use text::read;
 ghost use mathlib.Core.Path.{_≡_};
@@ -48,31 +47,37 @@ fn last(text: &[u8], count: usize) -> &[u8]
     past(text, text.len() - count)
 }
 
-// The row that a form's words spell.
-fn row_of(text: &[u8], parent: u32, depth: u32) -> Cap
-    ensures { λ r. ⌜ r ≡ rowOf (now (text .entry)) parent depth ⌝ }
-{
-    let name = past(text, 1);
-    let start = lines::after_space(name);
-    let length = lines::after_space(start);
-    let right = lines::after_space(length);
-    Cap {
-        name: Name(numbers::number(name)),
-        parent: Name(parent),
-        start: Addr(numbers::number(start)),
-        length: numbers::number(length),
-        right: read::right_of(right) as u32,
-        depth,
-    }
+// The head of a form: its row, and how many bytes are left behind the two letters of its right.
+pub struct Head {
+    pub row: Cap,
+    pub left: usize,
 }
 
-// The text of a form's children, behind the two letters of its right.
-fn children_of(text: &[u8]) -> &[u8]
-    ensures { λ r. ⌜ now r ≡ childrenText (now (text .entry)) ⌝ }
+// Reads the row that a form's words spell, up to the text of its children.
+fn head_of(text: &[u8], parent: u32, depth: u32) -> Head
+    ensures { λ r. ⌜ (r .row ≡ rowOf (now (text .entry)) parent depth) × (r .left ≤ length (now (text .entry)))
+        × (drop (length (now (text .entry)) - r .left) (now (text .entry)) ≡ childrenText (now (text .entry))) ⌝ }
 {
-    let start = lines::after_space(past(text, 1));
-    let right = lines::after_space(lines::after_space(start));
-    past(right, 2)
+    let name_text = past(text, 1);
+    let name = numbers::read_word(name_text);
+    let start_text = past(name_text, name.end);
+    let start = numbers::read_word(start_text);
+    let length_text = past(start_text, start.end);
+    let length = numbers::read_word(length_text);
+    let right_text = past(length_text, length.end);
+    let row = Cap {
+        name: Name(name.value),
+        parent: Name(parent),
+        start: Addr(start.value),
+        length: length.value,
+        right: read::right_of(right_text) as u32,
+        depth,
+    };
+    let children = past(right_text, 2);
+    Head {
+        row,
+        left: children.len(),
+    }
 }
 
 // Whether a child follows: the depth and the table allow one, and the text goes on with a space.
@@ -93,10 +98,12 @@ fn read_form(text: &[u8], words: &mut [u32; 6144], count: usize, parent: u32, de
     ensures { λ r. ⌜ (count < r .count) × Stored (now (words .exit)) (r .count)
         × Reads (λ (k : ℕ). readForm k parent depth (record { rest = now (text .entry); rows = newest (now (words .entry)) count })) (2 * length (now (text .entry)) + 1) (now (text .entry)) (r .left) (newest (now (words .exit)) (r .count)) ⌝ }
 {
-    let row = row_of(text, parent, depth);
+    let head = head_of(text, parent, depth);
+    let row = head.row;
     let name = row.name.0;
     let stored = add_row(words, count, row);
-    let children = children_of(text);
+    let behind = head.left;
+    let children = last(text, behind);
     let inner = read_run(children, words, stored, name, depth);
     let left = inner.left;
     let rest = past(last(children, left), 1);

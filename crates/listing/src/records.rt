@@ -13,7 +13,7 @@ ghost use mathlib.Core.Path.{_≡_};
 ghost use lib.ListN.{length};
 ghost use Rattle.listing.specs.WriteListing.{WritesListing};
 ghost use Rattle.listing.specs.ReadInto.{withIssued, ReadsInto};
-ghost use Rattle.rules.specs.Words.{rowsOf};
+ghost use Rattle.table.specs.Words.{rowsOf};
 ghost use Rattle.rules.specs.Steps.{heldIn, lends};
 
 // Writes the listing of a table of any number of rows. Above 1,024 it is not in order.

@@ -1,4 +1,2 @@
-pub mod Words
 pub mod Engine
-pub mod Stands
 pub mod Steps

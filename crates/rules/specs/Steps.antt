@@ -15,7 +15,7 @@ use Rattle.model.specs.Effects
 use Rattle.model.specs.Counts
 use Rattle.model.specs.Step
 use Rattle.model.specs.Answers.{verdictOf}
-use Rattle.rules.specs.Words.{rowsOf}
+use Rattle.table.specs.Words.{rowsOf}
 
 -- what the words and the tally lend
 abbrev pub heldIn : List ℕ → ℕ → Tally → State

@@ -4,15 +4,10 @@ use model::Answer;
 use model::Tally;
 
 pub mod count;
-pub mod find;
-mod judge;
 mod marks;
-pub mod ordered;
 pub mod records;
 mod settle;
-mod spans;
 pub mod steps;
-pub mod words;
 
 // What an event leaves of the tally, and its answer.
 pub struct Outcome {

@@ -1,10 +1,10 @@
 // What an access or a drop takes: a mark for each row, 0 keep, 1 lower, 2 end.
-use crate::find::find;
-use crate::spans::do_touch;
-use crate::spans::span_of;
-use crate::words::row_at;
 use model::Access;
 use model::Span;
+use table::find::find;
+use table::spans::do_touch;
+use table::spans::span_of;
+use table::words::row_at;
 ghost use mathlib.Core.Path.{_≡_};
 ghost use mathlib.Core.Bool.{false, cond};
 ghost use Prim.Native.Nat.{_≤_, max};
@@ -13,8 +13,9 @@ ghost use lib.ListN.{getD};
 ghost use Rattle.model.specs.Table.{derivations};
 ghost use Rattle.model.specs.Strike.{isEnd, isLower, struck};
 ghost use Rattle.model.specs.Derivation.{ancestry, inSubtree};
-ghost use Rattle.rules.specs.Words.{rowsIn};
-ghost use Rattle.rules.specs.Engine.{before, Rise, Places, LiveRows, OnAncestry, weight, own, ownOfAccess, ownOfDrop, Marked, Spread, Downward};
+ghost use Rattle.table.specs.Words.{rowsIn};
+ghost use Rattle.table.specs.Rows.{before, Rise, Places, LiveRows};
+ghost use Rattle.rules.specs.Engine.{OnAncestry, weight, own, ownOfAccess, ownOfDrop, Marked, Spread, Downward};
 
 fn effect_mark(a: Access) -> u8
     ensures { λ r. ⌜ r ≡ weight (Rattle.model.specs.Strike.effectOf a) ⌝ }

@@ -1,18 +1,18 @@
 // The lent table and tally: records to words and back.
 use crate::steps::step;
-use crate::words::row_at;
-use crate::words::set_row;
 use model::Answer;
 use model::Cap;
 use model::Event;
 use model::Tally;
+use table::words::row_at;
+use table::words::set_row;
 ghost use mathlib.Core.Path.{_≡_};
 ghost use mathlib.Core.List.{_++_};
 ghost use Prim.Native.Nat.{_≤_, _*_, min};
 ghost use lib.ListN.{length, take, drop};
 ghost use Rattle.model.specs.Step;
 ghost use Rattle.model.specs.Answers.{verdictOf};
-ghost use Rattle.rules.specs.Words.{flat, rowsOf};
+ghost use Rattle.table.specs.Words.{flat, rowsOf};
 ghost use Rattle.rules.specs.Steps.{lends};
 
 // `rows_held`, `load` and `store` are for the crates above, each of which has its own thin calls over a lent table. None of

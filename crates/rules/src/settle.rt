@@ -1,8 +1,8 @@
 // Rows after their marks: the gaps close, and the rest is cleared.
-use crate::words::empty_row;
-use crate::words::row_at;
-use crate::words::set_row;
 use model::Cap;
+use table::words::empty_row;
+use table::words::row_at;
+use table::words::set_row;
 ghost use mathlib.Core.Path.{_≡_};
 ghost use mathlib.Core.Bool.{cond};
 ghost use Prim.Native.Nat.{_+_, _<_, _≤_};
@@ -10,8 +10,9 @@ ghost use lib.ListN.{length, getD, set};
 ghost use lib.Dec.{eqb, ltb};
 ghost use Rattle.model.specs.Table.{emptyRow};
 ghost use Rattle.model.specs.Effects.{lowered};
-ghost use Rattle.rules.specs.Words.{rowsIn};
-ghost use Rattle.rules.specs.Engine.{Places, Ready, Downward, kept, Closes, Clears, Lowers, Settled};
+ghost use Rattle.table.specs.Words.{rowsIn};
+ghost use Rattle.table.specs.Rows.{Places};
+ghost use Rattle.rules.specs.Engine.{Ready, Downward, kept, Closes, Clears, Lowers, Settled};
 
 // A row with `ro`, if its mark is 1.
 fn marked_row(c: Cap, mark: u8) -> Cap

@@ -14,8 +14,8 @@ use Rattle.model.specs.Step.{Verdict, State}
 use Rattle.model.specs.Step
 use Rattle.model.specs.Answers.{number, verdictOf}
 use Rattle.rules.specs.declared.Outcome.{Outcome}
-use Rattle.rules.specs.Words.{rowsIn}
-use Rattle.rules.specs.Engine.{Places, Orderly}
+use Rattle.table.specs.Words.{rowsIn}
+use Rattle.table.specs.Rows.{Places, Orderly}
 use Rattle.rules.specs.Steps.{heldIn}
 use Rattle.text.specs.Result.{Result, value, refused}
 use Rattle.text.specs.Line.{linesOf}

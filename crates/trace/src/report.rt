@@ -13,7 +13,7 @@ ghost use Prim.Native.Nat.{_≤_};
 ghost use lib.ListN.{length};
 ghost use Rattle.model.specs.Answers.{number};
 ghost use Rattle.model.specs.Table.{inOrder};
-ghost use Rattle.rules.specs.Words.{rowsOf};
+ghost use Rattle.table.specs.Words.{rowsOf};
 ghost use Rattle.text.specs.Event.{bytes, spaced};
 ghost use Rattle.text.specs.Put.{Room, Put};
 ghost use Rattle.text.specs.Write.{Writes};

@@ -1,4 +1,5 @@
-// Document 01's traces and examples of refusals, run and printed. The file `stdout` beside src/ has what document 01 says of them.
+// Document 01's traces and examples of refusals, and card 1's, run and printed. The file `stdout` beside src/ has what the papers say
+// of them.
 use libc::STDOUT_FILENO;
 use listing::reading;
 use listing::reading::ListingRead;
@@ -124,8 +125,22 @@ fn refusals() {
     );
 }
 
+// Card 1: names written out; a wrong name; and misspelt, a line without its name, another number, a header without its newline, and
+// `(trace 2)` behind the first line.
+fn named() {
+    console::print_check(b"(trace 2)\n(create 1 0 64 rw)\n(borrow 2 1 0 8 rw)\n(read 1 0 8)\n");
+    console::print_check(b"(trace 2)\n");
+    console::print_check(b"(trace 2)\n(create 1 0 64 rw)\n(borrow 3 1 0 8 rw)\n");
+    console::print_check(b"(trace 2)\n(create 0 64 rw)\n");
+    console::print_check(b"(trace 1)\n");
+    console::print_check(b"(trace 2)");
+    console::print_check(b"(create 0 64 rw)\n(trace 2)\n");
+    console::print_check(b"(trace 2)\n(trace 2)\n");
+}
+
 fn main() {
     traces();
+    named();
     few_rows();
     refusals();
     last_name();

@@ -43,11 +43,15 @@ pub fn packed_run(answer: oracle::Run) -> u64 {
     }
 }
 
-pub fn oracle_event(event: Event) -> oracle::Event {
-    let span = Span {
+fn span_of(event: Event) -> Span {
+    Span {
         start: event.start,
         length: event.length,
-    };
+    }
+}
+
+pub fn oracle_event(event: Event) -> oracle::Event {
+    let span = span_of(event);
     oracle::Event::from_fields(event.kind, event.written, event.name, span, event.right)
 }
 
@@ -147,6 +151,52 @@ pub fn every_answer_met() -> Result<u64, String> {
     }
 }
 
+/// Sorts of creates, for what they meet.
+const CREATES: [&str; 6] = [
+    "ends nothing that lives",
+    "ends some, and leaves some",
+    "ends all",
+    "ends one that it does not touch, below one that it touches",
+    "has length 0, within a live span",
+    "is refused 10, over what it would end",
+];
+
+/// How often events were creates of each sort.
+static CREATES_MET: [AtomicU64; 6] = [const { AtomicU64::new(0) }; 6];
+
+/// Counts a create for the rows before it and after.
+fn count_create(before: &[Row], lent: &Lent, event: Event, verdict: Result<u32, Refused>) {
+    let allowed = verdict.is_ok();
+    let Span { start, length } = span_of(event);
+    let touched = |row: &Row| row.span().touches(span_of(event));
+    let is_left = |row: &Row| lent.rows.iter().any(|left| left.name == row.name);
+    let live = oracle::live_rows(before);
+    let left = live.iter().filter(|row| is_left(row)).count();
+    let around = |row: &Row| row.start < start && u64::from(start) < row.span().end();
+    let sorts = [
+        allowed && left == live.len() && left > 0,
+        allowed && left < live.len() && left > 0,
+        allowed && left == 0 && live.len() > 1,
+        allowed && live.iter().any(|row| !touched(row) && !is_left(row)),
+        allowed && length == 0 && live.iter().any(around),
+        verdict == Err(10) && live.iter().any(touched),
+    ];
+    for (met, is_of_sort) in CREATES_MET.iter().zip(sorts) {
+        met.fetch_add(is_of_sort.into(), Ordering::Relaxed);
+    }
+}
+
+/// Whether events were creates of every sort, each often enough that no accident decides.
+pub fn every_create_met() -> Result<u64, String> {
+    let met = CREATES_MET
+        .each_ref()
+        .map(|met| met.load(Ordering::Relaxed));
+    match met.iter().all(|count| *count >= 200) {
+        true => Ok(met.iter().sum()),
+        false => Err(format!("creates: {:?}", CREATES.iter().zip(met))),
+    }
+}
+
 /// One event by the oracle alone.
 pub fn oracle_apply(lent: &mut Lent, event: Event) -> Result<u32, Refused> {
     oracle::apply(&mut lent.rows, &mut lent.tally, oracle_event(event))
@@ -155,7 +205,11 @@ pub fn oracle_apply(lent: &mut Lent, event: Event) -> Result<u32, Refused> {
 /// One event on what is lent, which is then as the event leaves it.
 pub fn apply(subject: Subject, lent: &mut Lent, event: Event) -> Result<u64, String> {
     let (answer, found) = lend(lent, |table, tally| subject.apply(table, tally, event))?;
+    let before = (event.kind == 1).then(|| lent.rows.clone());
     let verdict = oracle_apply(lent, event);
+    if let Some(before) = before {
+        count_create(&before, lent, event, verdict);
+    }
     MET[usize::from(verdict.err().unwrap_or(0))].fetch_add(1, Ordering::Relaxed);
     same_answer(packed(verdict), answer)?;
     same_lent(lent, &found)?;

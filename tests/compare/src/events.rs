@@ -126,6 +126,9 @@ pub fn groups(report: &mut Report, subject: Subject) {
             at_limits(random, subject, spelling)
         });
     }
+    report.group("creates beside writes through what they made", |random| {
+        creates_as_writes(random, subject)
+    });
     report.group("lists of events and their history", |random| {
         histories(random, subject, 1_600, 24, Spelling::Plain)
     });
@@ -165,6 +168,16 @@ fn chain(first_name: u32, rows: usize) -> Vec<Row> {
     (1..=rows as u32).map(row).collect()
 }
 
+/// Roots of eight addresses, each so far behind the last: side by side, or all over the same ones.
+fn roots(rows: usize, apart: u32) -> Vec<Row> {
+    let row = |name| Row {
+        name,
+        start: name * apart,
+        ..chain(1, 1)[0]
+    };
+    (1..=rows as u32).map(row).collect()
+}
+
 /// Tables in order but for one limit, and tables just within it.
 fn at_limits(random: &mut Random, subject: Subject, spelling: Spelling) -> Checked {
     let depth = MAX_DEPTH as usize;
@@ -178,11 +191,8 @@ fn at_limits(random: &mut Random, subject: Subject, spelling: Spelling) -> Check
         }
     }
     for rows in MAX_ROWS - 1..=MAX_ROWS + 1 {
-        let roots = (1..=rows as u32).map(|name| Row {
-            name,
-            ..chain(1, 1)[0]
-        });
-        tables.push((roots.collect(), rows as u32));
+        tables.push((roots(rows, 0), rows as u32));
+        tables.push((roots(rows, 8), rows as u32));
     }
     let mut cases = 0;
     for (mut rows, issued) in tables {
@@ -240,6 +250,56 @@ fn smallest_table(subject: Subject, lent: &Lent, events: &[Event]) -> String {
     let why = outcome(&rows, &events).expect_err("a smaller case fails too");
     let tally = lent.tally;
     format!("{why}\n  rows {rows:?}\n  tally {tally:?}\n  events {events:?}")
+}
+
+/// Creates on tables in order. Refused ones are not counted.
+fn creates_as_writes(random: &mut Random, subject: Subject) -> Checked {
+    let mut cases = 0;
+    while cases < 6_000 {
+        let shape = Shape::partly_full(random, 16);
+        let lent = generate::ordered(random, &shape);
+        let event = generate::events(random, lent.clone(), 1, Spelling::Plain)[0];
+        let (kind, right) = (1, 2);
+        let create = Event {
+            kind,
+            right,
+            ..event
+        };
+        let same = create_as_write(subject, &lent, create);
+        cases += same.map_err(|why| format!("{why}\n  {lent:?}\n  {create:?}"))?;
+    }
+    Ok(cases)
+}
+
+/// Card 4: a create is a write from outside every subtree but its own. It leaves what a write to its
+/// span through its name leaves, once that name has a row, and a write after it ends nothing more.
+fn create_as_write(subject: Subject, lent: &Lent, create: Event) -> Checked {
+    let mut created = lent.clone();
+    let answer = agree::apply(subject, &mut created, create)?;
+    if answer >> 32 != 0 {
+        return Ok(0);
+    }
+    let name = answer as u32;
+    let mut written = lent.clone();
+    written.tally.issued = name;
+    let new_row = oracle::live_rows(&lent.rows).len();
+    written.rows[new_row] = Row {
+        name,
+        start: create.start,
+        length: create.length,
+        ..chain(1, 1)[0]
+    };
+    let kind = 4;
+    let write = Event {
+        kind,
+        name,
+        ..create
+    };
+    same_answer(0, agree::apply(subject, &mut written, write)?)?;
+    agree::same("rows", &created.rows, &written.rows)?;
+    same_answer(0, agree::apply(subject, &mut written, write)?)?;
+    agree::same("rows", &created.rows, &written.rows)?;
+    Ok(1)
 }
 
 /// Lists of events from empty tables, beside the history of document 01. In the named spelling some

@@ -1,4 +1,4 @@
-//! Every trace and example of document 01 and of card 1, with the answers written out.
+//! Every trace and example of document 01 and of cards 1, 2 and 4, with the answers written out.
 
 use interface::Event;
 use oracle::{MAX_DEPTH, MAX_NAME, MAX_ROWS, Spelling, Tally};
@@ -192,6 +192,152 @@ const REFUSALS: [(&str, &[Step], &str); 6] = [
     ),
 ];
 
+/// Tables with room for the traces of reused memory.
+const ROOM: &[usize] = &[4, 16, MAX_ROWS];
+
+/// Card 4: rows on which a trace is taken, and the trace.
+const REUSED: [(&str, &[usize], &[Step], &str); 12] = [
+    (
+        "a create ends a root that it touches, and its untouched child",
+        ROOM,
+        &[
+            ROOT,
+            ("(borrow 1 0 8 rw)", Ok(2)),
+            ("(create 32 16 rw)", Ok(3)),
+            ("(read 2 0 8)", Err(5)),
+        ],
+        "(issued 3)\n(3 32 16 rw)\n",
+    ),
+    (
+        "a create beside a root ends nothing",
+        ROOM,
+        &[
+            ROOT,
+            ("(borrow 1 0 8 rw)", Ok(2)),
+            ("(create 64 16 rw)", Ok(3)),
+            ("(write 2 0 8)", Ok(0)),
+        ],
+        "(issued 3)\n(1 0 64 rw (2 0 8 rw))\n(3 64 16 rw)\n",
+    ),
+    (
+        "a create in a part of a child ends it and its root, and no other root",
+        ROOM,
+        &[
+            ROOT,
+            ("(create 64 64 rw)", Ok(2)),
+            ("(borrow 1 0 16 rw)", Ok(3)),
+            ("(create 8 4 rw)", Ok(4)),
+            ("(read 3 0 8)", Err(5)),
+            ("(read 1 32 8)", Err(5)),
+        ],
+        "(issued 4)\n(2 64 64 rw)\n(4 8 4 rw)\n",
+    ),
+    (
+        "a create across a root's end, read-only",
+        ROOM,
+        &[ROOT, ("(create 63 2 ro)", Ok(2))],
+        "(issued 2)\n(2 63 2 ro)\n",
+    ),
+    (
+        "a create into a full table, though it would free rows",
+        &[2],
+        &[
+            ROOT,
+            ("(borrow 1 0 8 rw)", Ok(2)),
+            ("(create 0 64 rw)", Err(10)),
+            ("(drop 2)", Ok(0)),
+            ("(create 0 64 rw)", Ok(3)),
+            ("(borrow 3 0 8 rw)", Ok(4)),
+        ],
+        "(issued 4)\n(3 0 64 rw (4 0 8 rw))\n",
+    ),
+    (
+        "a create of length 0 ends nothing, and one over it spares it",
+        ROOM,
+        &[ROOT, ("(create 8 0 rw)", Ok(2)), ("(create 8 1 rw)", Ok(3))],
+        "(issued 3)\n(2 8 0 rw)\n(3 8 1 rw)\n",
+    ),
+    (
+        "a child of length 0 ends with its root",
+        ROOM,
+        &[
+            ROOT,
+            ("(borrow 1 8 0 rw)", Ok(2)),
+            ("(create 0 1 rw)", Ok(3)),
+            ("(read 2 8 0)", Err(5)),
+        ],
+        "(issued 3)\n(3 0 1 rw)\n",
+    ),
+    (
+        "the same memory on one row",
+        &[1],
+        &[
+            ROOT,
+            ("(create 0 64 rw)", Err(10)),
+            ("(read 1 0 64)", Ok(0)),
+        ],
+        "(issued 1)\n(1 0 64 rw)\n",
+    ),
+    (
+        "the same memory on two rows",
+        &[2],
+        &[
+            ROOT,
+            ("(create 0 64 rw)", Ok(2)),
+            ("(create 0 64 ro)", Ok(3)),
+            ("(create 0 64 rw)", Ok(4)),
+        ],
+        "(issued 4)\n(4 0 64 rw)\n",
+    ),
+    (
+        "a create that is refused ends nothing",
+        ROOM,
+        &[ROOT, ("(create 32 4294967295 rw)", Err(3))],
+        "(issued 1)\n(1 0 64 rw)\n",
+    ),
+    (
+        "creates up to the last address",
+        ROOM,
+        &[
+            ("(create 4294967295 1 rw)", Ok(1)),
+            ("(create 0 4294967295 rw)", Ok(2)),
+            ("(read 1 4294967295 1)", Ok(0)),
+            ("(create 1 4294967295 rw)", Ok(3)),
+        ],
+        "(issued 3)\n(3 1 4294967295 rw)\n",
+    ),
+    (
+        "names of the old object and of the new one",
+        ROOM,
+        &STALE,
+        "(issued 3)\n(3 4096 32 rw)\n",
+    ),
+];
+
+/// An object is not dropped, its memory is handed out again, and its names are used.
+const STALE: [Step; 7] = [
+    ("(create 4096 32 rw)", Ok(1)),
+    ("(borrow 1 4096 8 rw)", Ok(2)),
+    ("(create 4096 32 rw)", Ok(3)),
+    ("(write 3 4096 8)", Ok(0)),
+    ("(write 2 4096 8)", Err(5)),
+    ("(read 1 4104 8)", Err(5)),
+    ("(drop 1)", Err(5)),
+];
+
+const REUSED_INPUT: &str = "\
+(create 0 64 rw)
+(borrow 1 0 8 rw)
+(create 32 16 rw)
+(read 2 0 8)
+";
+
+const REUSED_OUTPUT: &str = "\
+(refused 5 4)
+(issued 3)
+(3 32 16 rw)
+";
+
 const CAPCHECK_INPUT: &str = "\
 (create 0 64 rw)
 (borrow 1 0 16 rw)
@@ -209,14 +355,15 @@ const CAPCHECK_OUTPUT: &str = "\
 
 pub fn groups(report: &mut Report, subject: Subject) {
     for (name, steps, listing) in TRACES {
-        report.group(name, |_| in_many_sizes(subject, steps, listing));
+        let sizes = &[3, 4, 16, MAX_ROWS];
+        report.group(name, |_| in_sizes(subject, sizes, steps, listing));
     }
     report.group("trace 8", |_| check_trace(subject, &one_row()));
     report.group("trace 9", |_| check_trace(subject, &no_rows()));
     report.group("trace 11, depth, and refusal 8", |_| depth(subject));
     report.group("trace 11, names", |_| check_trace(subject, &last_name()));
     for (name, steps, listing) in REFUSALS {
-        report.group(name, |_| on_two_rows(subject, steps, listing));
+        report.group(name, |_| in_sizes(subject, &[2], steps, listing));
     }
     report.group("refusal 1", |_| disordered(subject));
     report.group("refusal 2", |_| misspelt(subject));
@@ -224,6 +371,15 @@ pub fn groups(report: &mut Report, subject: Subject) {
     report.group("refusal 11", |_| short_buffer(subject));
     report.group("capcheck's example", |_| {
         capcheck(subject, CAPCHECK_INPUT, CAPCHECK_OUTPUT)
+    });
+    for (name, sizes, steps, listing) in REUSED {
+        report.group(name, |_| in_sizes(subject, sizes, steps, listing));
+    }
+    report.group("what reused memory adds to the tally", |_| {
+        reused_tally(subject)
+    });
+    report.group("capcheck on reused memory", |_| {
+        capcheck(subject, REUSED_INPUT, REUSED_OUTPUT)
     });
     report.group("named traces and refusals", |_| named_traces(subject));
     report.group("refusal 12, misnamed", |_| misnamed(subject));
@@ -275,13 +431,14 @@ fn names_spent() -> Trace<'static> {
     }
 }
 
-fn in_many_sizes(subject: Subject, steps: &[Step], listing: &str) -> Checked {
+/// The trace on so many rows, for each of the sizes.
+fn in_sizes(subject: Subject, sizes: &[usize], steps: &[Step], listing: &str) -> Checked {
     let mut cases = 0;
-    for rows in [3, 4, 16, MAX_ROWS] {
+    for rows in sizes {
         cases += check_trace(
             subject,
             &Trace {
-                rows,
+                rows: *rows,
                 issued: 0,
                 steps,
                 listing,
@@ -289,18 +446,6 @@ fn in_many_sizes(subject: Subject, steps: &[Step], listing: &str) -> Checked {
         )?;
     }
     Ok(cases)
-}
-
-fn on_two_rows(subject: Subject, steps: &[Step], listing: &str) -> Checked {
-    check_trace(
-        subject,
-        &Trace {
-            rows: 2,
-            issued: 0,
-            steps,
-            listing,
-        },
-    )
 }
 
 /// Takes the steps one by one as events, and as a run up to each refusal.
@@ -425,6 +570,25 @@ fn short_buffer(subject: Subject) -> Checked {
     }
 }
 
+/// What a create ends is counted nowhere: the create is counted once, as a create.
+fn reused_tally(subject: Subject) -> Checked {
+    let mut lent = Lent::empty(4);
+    for (line, _) in STALE {
+        let event = read(subject, line)?;
+        agree::apply(subject, &mut lent, event)?;
+    }
+    let expected = Tally {
+        issued: 3,
+        creates: 2,
+        borrows: 1,
+        writes: 1,
+        refused: 3,
+        ..Tally::default()
+    };
+    agree::same("tally", expected, lent.tally)?;
+    Ok(1)
+}
+
 fn capcheck(subject: Subject, input: &str, output: &str) -> Checked {
     let mut out = [0; 256];
     let answer = subject.check(input.as_bytes(), &mut out);
@@ -464,7 +628,8 @@ fn named_capcheck(subject: Subject) -> Checked {
 fn named_traces(subject: Subject) -> Checked {
     let in_room = TRACES.map(|(_, steps, listing)| (16, steps, listing));
     let in_two = REFUSALS.map(|(_, steps, listing)| (2, steps, listing));
-    let traces = in_room.into_iter().chain(in_two);
+    let reused = REUSED.map(|(_, sizes, steps, listing)| (sizes[0], steps, listing));
+    let traces = in_room.into_iter().chain(in_two).chain(reused);
     let traces = traces.map(|(rows, steps, listing)| Trace {
         rows,
         issued: 0,
@@ -534,7 +699,7 @@ const MISNAMED: [Step; 12] = [
     ("(borrow 4294967295 1 0 8 rw)", Err(12)),
     ("(create 3 0 8 rw)", Err(12)),
     ("(borrow 3 01 0 8 rw)", Err(2)),
-    ("(create 3 0 0 rw)", Err(3)),
+    ("(create 3 4294967295 2 rw)", Err(3)),
     ("(borrow 3 2 0 8 rw)", Err(4)),
     ("(borrow 3 1 60 8 rw)", Err(6)),
     ("(create 0 8 rw)", Err(2)),

@@ -63,6 +63,31 @@ fn inside(random: &mut Random, outer: Span) -> Span {
     }
 }
 
+/// A span that touches no live capability, where there is one at the first address or behind a root.
+/// Tables are filled with roots by creates of such spans.
+fn beside(random: &mut Random, live: &[Row]) -> Option<Span> {
+    let roots: Vec<Span> = live
+        .iter()
+        .filter(|row| row.parent == 0)
+        .map(Row::span)
+        .collect();
+    let is_free = |start: &u32| {
+        let (start, length) = (*start, 1);
+        !roots
+            .iter()
+            .any(|root| root.touches(Span { start, length }))
+    };
+    let ends = roots.iter().filter_map(|root| root.end().try_into().ok());
+    let starts: Vec<u32> = ends.chain([0]).filter(is_free).collect();
+    let start = *starts.get(random.index(starts.len().max(1)))?;
+    let behind = roots.iter().map(|root| root.start).filter(|at| *at > start);
+    let room = behind.min().unwrap_or(u32::MAX) - start;
+    Some(Span {
+        start,
+        length: random.below(u64::from(room.min(12)) + 1) as u32,
+    })
+}
+
 /// Counts at their ceiling, near it, and anywhere.
 pub fn tally(random: &mut Random) -> Tally {
     let mut count = || match random.below(3) {
@@ -212,6 +237,10 @@ fn event(random: &mut Random, lent: &Lent, area: Span, spelling: Spelling) -> Ev
         1 => live.iter().max_by_key(|row| row.depth).copied(),
         _ => live.get(random.index(live.len().max(1))).copied(),
     };
+    let kind = match random.one_in(50) {
+        true => random.pick(&[0, 6, 7, 128, 255]),
+        false => random.pick(&[1, 2, 2, 2, 3, 3, 4, 4, 5]),
+    };
     let outer = user.map_or(area, |user| user.span());
     let span = match random.below(10) {
         0 => Span {
@@ -229,11 +258,14 @@ fn event(random: &mut Random, lent: &Lent, area: Span, spelling: Spelling) -> Ev
         _ if outer.is_legal() => inside(random, outer),
         _ => outer,
     };
+    // A create over what lives ends it, so half of the creates are made beside.
+    let free = match kind == 1 && random.one_in(2) {
+        true => beside(random, live),
+        false => None,
+    };
+    let span = free.unwrap_or(span);
     Event {
-        kind: match random.one_in(50) {
-            true => random.pick(&[0, 6, 7, 128, 255]),
-            false => random.pick(&[1, 2, 2, 2, 3, 3, 4, 4, 5]),
-        },
+        kind,
         written: match spelling {
             Spelling::Plain => None,
             Spelling::Named => Some(written_name(random, lent.tally.issued)),

@@ -72,6 +72,9 @@ fn main() -> ExitCode {
     report.group("every answer of an event was met", |_| {
         agree::every_answer_met()
     });
+    report.group("every sort of create was met", |_| {
+        agree::every_create_met()
+    });
     match report.finish() {
         true => ExitCode::SUCCESS,
         false => ExitCode::FAILURE,

@@ -121,13 +121,25 @@ fn capcheck(
     Ok(inputs)
 }
 
-/// Inputs at the longest length and one byte above it, allowed and refused.
+/// Inputs at the longest length and one byte above it, allowed and refused: creates over the same
+/// address, of which each ends the last, and creates side by side, which fill the table.
 fn long_texts(subject: Subject) -> Checked {
-    let creates = "(create 0 1 rw)\n".repeat(MAX_INPUT / 16);
+    let again = "(create 0 1 rw)\n".repeat(MAX_INPUT / 16);
+    let create = |start| format!("(create {start} 1 rw)\n");
+    let beside: String = (0..=MAX_ROWS).map(create).collect();
     let reads = "(create 0 1 rw)\n".to_string() + &"(read 1 0 1)\n".repeat((MAX_INPUT - 16) / 13);
-    let cases = at_most(subject, &creates)? + at_most(subject, &reads)?;
+    let mut cases = 1;
+    for text in [again, filled_up(beside), reads] {
+        cases += at_most(subject, &text)?;
+    }
     agree::check(subject, &vec![0; 1_000_000])?;
-    Ok(cases + 1)
+    Ok(cases)
+}
+
+/// The text, and after it bytes that are no line, up to the longest input.
+fn filled_up(text: String) -> String {
+    let rest = MAX_INPUT - text.len();
+    text + &"x".repeat(rest)
 }
 
 /// The same with names, where the header counts as bytes of the input and as a line.
@@ -135,12 +147,16 @@ fn long_named_texts(subject: Subject) -> Checked {
     let header = str::from_utf8(HEADER).expect("the header is text");
     let root = "(create 1 0 64 rw)\n";
     let reads = "(read 1 0 1)\n".repeat((MAX_INPUT - header.len() - root.len()) / 13);
-    let create = |name| format!("(create {name} 0 1 rw)\n");
-    let creates: String = (1..=MAX_ROWS + 1).map(create).collect();
-    let rest = MAX_INPUT - header.len() - creates.len();
-    let creates = creates + &"x".repeat(rest);
-    Ok(at_most(subject, &format!("{header}{root}{reads}"))?
-        + at_most(subject, &format!("{header}{creates}"))?)
+    let creates = |apart: usize| {
+        let create = |name| format!("(create {name} {} 1 rw)\n", name * apart);
+        let lines: String = (1..=MAX_ROWS + 1).map(create).collect();
+        filled_up(format!("{header}{lines}"))
+    };
+    let mut cases = 0;
+    for text in [format!("{header}{root}{reads}"), creates(0), creates(1)] {
+        cases += at_most(subject, &text)?;
+    }
+    Ok(cases)
 }
 
 /// An input of the longest length, without its last byte, and with one more.

@@ -102,7 +102,8 @@ impl History {
         path
     }
 
-    /// Whether an access through `user` touches the name's span from outside the name's subtree.
+    /// Whether a read, write or create through `user`, of a create the name that it made, touches the
+    /// name's span from outside the name's subtree.
     fn strikes(&self, user: u32, span: Span, name: u32) -> bool {
         let touches = self.made(name).is_some_and(|made| made.span.touches(span));
         touches && !self.ancestry(user).contains(&name)
@@ -112,17 +113,19 @@ impl History {
         names.iter().any(|name| self.strikes(user, span, *name))
     }
 
-    /// Whether an event noted after the name was made is one of those that take something from it.
-    fn any_later(&self, made: Made, takes: impl Fn(Event) -> bool) -> bool {
-        let later = &self.notes[made.at + 1..];
-        later.iter().any(|note| takes(note.event))
+    /// Whether a note later than the one that made the name is one of those that take something from
+    /// it.
+    fn any_later(&self, made: Made, takes: impl Fn(&Note) -> bool) -> bool {
+        self.notes[made.at + 1..].iter().any(takes)
     }
 
+    /// Card 4: a create counts as a write through the name that it made.
     pub fn lives(&self, name: u32) -> bool {
         let path = self.ancestry(name);
-        let ends = |event| match event {
+        let ends = |note: &Note| match note.event {
             Event::Drop { name } => path.contains(&name),
             Event::Write { name, span } => self.strikes_any(name, span, &path),
+            Event::Create { span, .. } => self.strikes_any(note.made, span, &path),
             _ => false,
         };
         self.made(name)
@@ -132,7 +135,7 @@ impl History {
     /// Whether the name was made writable and no later read took that away.
     pub fn is_read_write(&self, name: u32) -> bool {
         let path = self.ancestry(name);
-        let lowers = |event| match event {
+        let lowers = |note: &Note| match note.event {
             Event::Read { name, span } => self.strikes_any(name, span, &path),
             _ => false,
         };

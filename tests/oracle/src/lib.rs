@@ -1,4 +1,4 @@
-//! A second checker, written from document 01 and card 1 alone and for clarity alone.
+//! A second checker, written from document 01 and cards 1, 2 and 4 alone and for clarity alone.
 //!
 //! It shares no code and no plan with what it judges: the history derives everything from its notes
 //! each time it is asked, the rows of a lent table are searched from end to end, and text is taken

@@ -169,7 +169,10 @@ pub fn apply(rows: &mut [Row], tally: &mut Tally, event: Event) -> Result<u32, R
 
 fn rows_after(live: &[Row], event: Event, new_name: u32) -> Vec<Row> {
     match event {
-        Event::Create { span, right, .. } => with_new(live, new_name, None, span, right),
+        Event::Create { span, right, .. } => {
+            let left = without(live, &reclaimed(live, span));
+            with_new(&left, new_name, None, span, right)
+        }
         Event::Borrow {
             parent,
             span,
@@ -189,7 +192,7 @@ fn rows_after(live: &[Row], event: Event, new_name: u32) -> Vec<Row> {
             rows.collect()
         }
         Event::Write { name, span } => without(live, &revoked(live, name, span)),
-        Event::Drop { name } => without(live, &subtree(live, name)),
+        Event::Drop { name } => without(live, &subtrees(live, |row| row.name == name)),
         Event::Unknown => live.to_vec(),
     }
 }
@@ -212,8 +215,9 @@ fn without(live: &[Row], ended: &[u32]) -> Vec<Row> {
     kept.copied().collect()
 }
 
-fn subtree(live: &[Row], name: u32) -> Vec<u32> {
-    let below = |row: &&Row| ancestry(live, row).iter().any(|at| at.name == name);
+/// The names in the subtrees of the rows that pass.
+fn subtrees(live: &[Row], passes: impl Fn(&Row) -> bool) -> Vec<u32> {
+    let below = |row: &&Row| ancestry(live, row).into_iter().any(&passes);
     live.iter().filter(below).map(|row| row.name).collect()
 }
 
@@ -221,9 +225,14 @@ fn subtree(live: &[Row], name: u32) -> Vec<u32> {
 /// the user nor an ancestor of it, and their subtrees.
 fn revoked(live: &[Row], user: u32, span: Span) -> Vec<u32> {
     let spared = find(live, user).map_or(Vec::new(), |user| ancestry(live, user));
-    let struck = |row: &Row| row.span().touches(span) && !spared.contains(&row);
-    let below = |row: &&Row| ancestry(live, row).into_iter().any(struck);
-    live.iter().filter(below).map(|row| row.name).collect()
+    subtrees(live, |row| {
+        row.span().touches(span) && !spared.contains(&row)
+    })
+}
+
+/// Card 4: the names that a create ends, which are all that its span touches, and their subtrees.
+fn reclaimed(live: &[Row], span: Span) -> Vec<u32> {
+    subtrees(live, |row| row.span().touches(span))
 }
 
 /// What an allowed event adds to the tally.

@@ -7,7 +7,7 @@ use native.Mathlib.Omega.{arith}
 use lib.ListN.{length, getD, set, length-set, List·getD-eq-default}
 use Rattle.model.specs.declared.Cap.{Cap}
 use Rattle.model.specs.Table.{emptyRow}
-use Rattle.rules.specs.Engine.{nameAt, parentAt}
+use Rattle.table.specs.Rows.{nameAt, parentAt}
 use Rattle.text.specs.Put.{Put, Room}
 use Rattle.listing.specs.Listing.{pieces, form, formAt, childrenFrom, rootsFrom}
 use Rattle.listing.specs.Links.{Next, Linked}

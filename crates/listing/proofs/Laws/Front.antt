@@ -12,13 +12,13 @@ use borrow.Author.Tests.{leb-true}
 use Rattle.model.specs.declared.Cap.{Cap}
 use Rattle.model.specs.Lists.{all}
 use Rattle.model.specs.Table.{named, liveRows, liveRowsFirst, rowsInOrder, inOrder}
-use Rattle.rules.specs.Words.{rowsOf, rowsIn}
-use Rattle.rules.specs.Engine.{Front}
+use Rattle.table.specs.Words.{rowsOf, rowsIn}
+use Rattle.table.specs.Rows.{Front}
 use Rattle.model.proofs.Lists.{All, and-both}
 use Rattle.model.proofs.Lent.{Named}
 use Rattle.model.proofs.Order.{rowsInOrder-wider, live-named}
-use Rattle.rules.proofs.Laws.Words.{length-rows, length-in, in-first}
-use Rattle.rules.proofs.Laws.Ordered.{before-reverse, liveRowsFirst-front, live-front}
+use Rattle.table.proofs.Laws.Words.{length-rows, length-in, in-first}
+use Rattle.table.proofs.Laws.Ordered.{before-reverse, liveRowsFirst-front, live-front}
 use Rattle.listing.specs.Listing.{listed, listing}
 use Rattle.listing.specs.Links.{Live}
 

@@ -15,9 +15,9 @@ use Rattle.model.specs.declared.Refusal.the-variants.{Disordered}
 use Rattle.model.specs.Step.{State}
 use Rattle.model.specs.Table.{inOrder}
 use Rattle.model.proofs.Lists.{test}
-use Rattle.rules.specs.Words.{rowsOf}
+use Rattle.table.specs.Words.{rowsOf}
 use Rattle.rules.specs.Steps.{heldIn, lends}
-use Rattle.rules.proofs.Laws.Words.{length-rows}
+use Rattle.table.proofs.Laws.Words.{length-rows}
 use Rattle.rules.proofs.Laws.Records.{stored, many-disordered, too-many, loaded-all, stored-all, stored-same}
 use Rattle.text.specs.Result.{Result, refused}
 use Rattle.text.specs.declared.write.Written.{Written}

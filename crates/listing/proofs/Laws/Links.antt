@@ -11,7 +11,7 @@ use lib.Seq.{drop-cons, getD-set-same, getD-set-other}
 use borrow.Author.Tests.{eqb-true, eqb-false, ltb-true, ltb-false, ne-eqb}
 use Rattle.model.specs.declared.Cap.{Cap}
 use Rattle.model.specs.Table.{emptyRow}
-use Rattle.rules.specs.Engine.{nameAt, parentAt}
+use Rattle.table.specs.Rows.{nameAt, parentAt}
 use Rattle.listing.specs.Listing.{children, roots}
 use Rattle.listing.specs.Links.{Next, Linked}
 use Rattle.listing.proofs.Laws.Sorted.{InOrder}

@@ -11,9 +11,9 @@ use lib.Seq.{drop-cons}
 use borrow.Author.Tests.{eq-eqb}
 use Rattle.model.specs.declared.Cap.{Cap}
 use Rattle.model.specs.Table.{emptyRow}
-use Rattle.rules.proofs.Laws.Words.{length-rows}
-use Rattle.rules.specs.Words.{rowAt, rowsOf}
-use Rattle.rules.specs.Engine.{nameAt, parentAt}
+use Rattle.table.proofs.Laws.Words.{length-rows}
+use Rattle.table.specs.Words.{rowAt, rowsOf}
+use Rattle.table.specs.Rows.{nameAt, parentAt}
 use Rattle.text.specs.Event.{bytes, spaced}
 use Rattle.listing.specs.Listing.{right, pieces, form, children, roots, formAt, childrenFrom, rootsFrom, issuedLine, listed, formLength, total, formsLength}
 use Rattle.listing.proofs.Laws.Sorted.{preorder, InOrder, sorted-preorder, total-sorted}

@@ -13,9 +13,9 @@ use borrow.Author.Tests.{eqb-true, eqb-false, ltb-true, ltb-false, not-true}
 use Rattle.model.specs.declared.Cap.{Cap}
 use Rattle.model.specs.Lists.{any, all}
 use Rattle.model.specs.Table.{emptyRow, named, rowsInOrder}
-use Rattle.rules.specs.Words.{rowsOf, rowsIn}
-use Rattle.rules.specs.Engine.{nameAt, parentAt, Rise}
-use Rattle.rules.proofs.Laws.Words.{length-rows, rows-at, in-at}
+use Rattle.table.specs.Words.{rowsOf, rowsIn}
+use Rattle.table.specs.Rows.{nameAt, parentAt, Rise}
+use Rattle.table.proofs.Laws.Words.{length-rows, rows-at, in-at}
 use Rattle.model.proofs.Lists.{All, All-map, All-append, test, clash, and-both}
 use Rattle.model.proofs.Order.{rises, place, parentInOrder-rowFitsParent}
 use Rattle.listing.specs.Links.{Live}

@@ -12,11 +12,11 @@ use lib.Seq.{take-append-add, take-at}
 use borrow.Author.Tests.{le-leb, lt-leb}
 use Rattle.model.specs.declared.Cap.{Cap}
 use Rattle.model.specs.Table.{emptyRow, liveRows, lentTable, liveRowsFirst, inOrder}
-use Rattle.rules.specs.Words.{rowAt, rowsOf, rowsIn}
-use Rattle.rules.specs.Engine.{Front}
+use Rattle.table.specs.Words.{rowAt, rowsOf, rowsIn}
+use Rattle.table.specs.Rows.{Front}
 use Rattle.model.proofs.Lists.{test, clash}
 use Rattle.model.proofs.Rows.{lent-live}
-use Rattle.rules.proofs.Laws.Words.{length-in, in-first}
+use Rattle.table.proofs.Laws.Words.{length-in, in-first}
 use Rattle.text.specs.Result.{Result, value, refused}
 use Rattle.listing.specs.Forms.{guessIssued}
 use Rattle.listing.specs.Stored.{Stored}

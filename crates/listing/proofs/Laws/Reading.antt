@@ -64,6 +64,12 @@ children-short s e =
     let p = children-part s in
     omega (arith, ap length (e ∙ p .1), length-drop (p .0) s)
 
+-- the children are the last bytes of the text, as many as they have
+pub children-left : (s : List ℕ) {t : List ℕ} → t ≡ childrenText s → drop (length s - length t) s ≡ childrenText s
+children-left s e =
+    let p = children-part s in
+    ap (λ (l : List ℕ). drop (length s - length l) s) (e ∙ p .1) ∙ last-drop (p .0) s ∙ sym (p .1)
+
 pub nonempty : (s : List ℕ) → getD s 0 0 ≡ 32 → 1 ≤ length s
 nonempty [] h = absurd (omega arith)
 nonempty (b ∷ s) h = omega arith

@@ -23,7 +23,7 @@ pub record Left (text : List ℕ) (ws : List ℕ) (left count : ℕ) : Type 0 wh
   pub same : readLines k (record { rest = tail text left; rows = newest ws count }) ≡ readLines 1024 (record { rest = text; rows = [] })
 
 pub all-left : (text ws : List ℕ) → Stored ws 0 → Left text ws (length text) 0
-unfolding Rattle.rules.specs.Words.rowsOf
+unfolding Rattle.table.specs.Words.rowsOf
 all-left text ws s =
     let z : length text - length text ≡ 0 = omega arith in
     record { inside = omega arith; stored = s; k = 1024; enough = omega arith; same = ap (λ (n : ℕ). readLines 1024 (record { rest = drop n text; rows = [] })) z }

@@ -8,8 +8,8 @@ use lib.ListN.{length, set, take, drop, take-append-drop, replicate, length-reve
 use lib.Seq.{drop-at, take-suc-set}
 use Rattle.model.specs.declared.Cap.{Cap}
 use Rattle.model.specs.Table.{emptyRow, lentTable}
-use Rattle.rules.specs.Words.{rowsOf, rowsIn}
-use Rattle.rules.proofs.Laws.Words.{length-rows, length-in, in-first}
+use Rattle.table.specs.Words.{rowsOf, rowsIn}
+use Rattle.table.proofs.Laws.Words.{length-rows, length-in, in-first}
 use Rattle.model.proofs.Rows.{lent-new}
 use Rattle.listing.specs.Stored.{newest, Stored}
 

@@ -19,14 +19,15 @@ use Rattle.model.specs.Derivation.{Derivation, ancestry, inSubtree, onAncestry}
 use Rattle.model.specs.Strike.{Effect, Keep, Lower, End, isLower, isEnd, effectOf, strike, reached, struck}
 use Rattle.model.specs.Values.{touches}
 use Rattle.model.specs.Table.{emptyRow, span, derivation, derivations, named, parentInOrder}
-use Rattle.rules.specs.Engine.{nameAt, parentAt, before, Rise, Found, LiveRows, OnAncestry, weight, own, ownOfAccess, ownOfDrop, mark, Marked, Spread, Downward}
+use Rattle.table.specs.Rows.{nameAt, parentAt, before, Rise, Found, LiveRows}
+use Rattle.rules.specs.Engine.{OnAncestry, weight, own, ownOfAccess, ownOfDrop, mark, Marked, Spread, Downward}
 use Rattle.model.proofs.Lists.{test, clash, or-neither}
 use Rattle.model.proofs.Ancestries.{below-differs, ancestry-here, ancestry-past}
 use Rattle.model.proofs.Lent.{Named}
 use Rattle.model.proofs.Order.{place, parentInOrder-rowFitsParent}
 use Rattle.model.proofs.Rows.{struck-step, below-step, no-ancestry}
-use Rattle.rules.proofs.Laws.Prefix.{last, all-before, at-before, none-named, named-none}
-use Rattle.rules.proofs.Laws.Ordered.{rise-sub, rowsInOrder-rise, rowsInOrder-at}
+use Rattle.table.proofs.Laws.Prefix.{last, all-before, at-before, none-named, named-none, place-of}
+use Rattle.table.proofs.Laws.Ordered.{rise-sub, rowsInOrder-rise, rowsInOrder-at}
 
 -- ---- places and names
 
@@ -38,16 +39,6 @@ same-place T k i j r l m e = go (test (ltb i j)) (test (ltb j i))
     go (inl t) q = let p : nameAt T i < nameAt T j = r .sorted i j (ltb-true i j t) m in absurd (omega arith)
     go (inr f) (inl t) = let p : nameAt T j < nameAt T i = r .sorted j i (ltb-true j i t) l in absurd (omega arith)
     go (inr f) (inr g) = omega (arith, ltb-false i j f, ltb-false j i g)
-
--- a name that is there has a place
-pub place-of : (T : List Cap) (k x : ℕ) → any (named x) (before T k) ≡ true → (q : ℕ) × ((q < k) × (nameAt T q ≡ x))
-unfolding before
-place-of T zero x h = clash h refl
-place-of T (suc k) x h = go (test (eqb x (nameAt T k))) (place-of T k x)
-  where
-    go : (eqb x (nameAt T k) ≡ true) ⊎ (eqb x (nameAt T k) ≡ false) → (any (named x) (before T k) ≡ true → (q : ℕ) × ((q < k) × (nameAt T q ≡ x))) → (q : ℕ) × ((q < suc k) × (nameAt T q ≡ x))
-    go (inl t) ih = (k, (omega arith, sym (eqb-true x (nameAt T k) t)))
-    go (inr f) ih = let p = ih (rw f at h) in (p .0, (omega (arith, p .1 .0), p .1 .1))
 
 -- ---- ancestries by places
 

@@ -11,8 +11,8 @@ use lib.Seq.{length-take-le, take-suc, drop-cons, take-at, drop-append-add, drop
 use borrow.Author.Tests.{lt-leb}
 use Rattle.model.specs.declared.Cap.{Cap}
 use Rattle.model.specs.Table.{emptyRow, inOrder}
-use Rattle.rules.specs.Words.{six, setRow, flat, rowAt, rowsOf}
-use Rattle.rules.proofs.Laws.Words.{setRow-eq, length-rows, rows-at}
+use Rattle.table.specs.Words.{six, setRow, flat, rowAt, rowsOf}
+use Rattle.table.proofs.Laws.Words.{setRow-eq, length-rows, rows-at}
 
 pub length-flat : (cs : List Cap) → length (flat cs) ≡ length cs * 6
 unfolding flat

@@ -16,11 +16,12 @@ use Rattle.model.specs.declared.Cap.{Cap}
 use Rattle.model.specs.Lists.{any}
 use Rattle.model.specs.Table.{emptyRow, named, lentTable}
 use Rattle.model.specs.Effects.{lowered, revoke}
-use Rattle.rules.specs.Engine.{nameAt, parentAt, before, Filled, Found, Places, mark, Marked, Downward, kept, Closes, Clears, Lowers, Settled}
+use Rattle.table.specs.Rows.{nameAt, parentAt, before, Filled, Found, Places}
+use Rattle.rules.specs.Engine.{mark, Marked, Downward, kept, Closes, Clears, Lowers, Settled}
 use Rattle.model.proofs.Lists.{All, test, or-neither}
-use Rattle.rules.proofs.Laws.Prefix.{last, before-suc, before-same, length-before, at-before}
-use Rattle.rules.proofs.Laws.Places.{Alike, places-same, places-none, places-more, places-past}
-use Rattle.rules.proofs.Laws.Ordered.{before-reverse}
+use Rattle.table.proofs.Laws.Prefix.{last, before-suc, before-same, length-before, at-before}
+use Rattle.table.proofs.Laws.Places.{Alike, places-same, places-none, places-more, places-past}
+use Rattle.table.proofs.Laws.Ordered.{before-reverse}
 
 -- ---- closing up
 

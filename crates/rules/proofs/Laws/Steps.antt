@@ -34,20 +34,21 @@ use Rattle.model.specs.Refusals.{checks, refusals, judge}
 use Rattle.model.specs.Effects.{newName, revoke, afterAccess, rowsAfter}
 use Rattle.model.specs.Counts.{countAllowed, countRefused}
 use Rattle.model.specs.Answers.{number, verdictOf}
-use Rattle.rules.specs.Words.{rowsOf, rowsIn}
-use Rattle.rules.specs.Engine.{nameAt, before, Filled, Front, Found, Places, Marked, kept, Orderly, Ready, Settled}
+use Rattle.table.specs.Words.{rowsOf, rowsIn}
+use Rattle.table.specs.Rows.{nameAt, before, Filled, Front, Found, Places, Orderly}
+use Rattle.rules.specs.Engine.{Marked, kept, Ready, Settled}
 use Rattle.rules.specs.Steps.{heldIn, Stepped, lends}
 use Rattle.model.proofs.Lists.{test, and-both}
 use Rattle.model.proofs.Judged.{allowed, access-fits}
-use Rattle.rules.proofs.Laws.Words.{length-in, length-rows, in-first}
+use Rattle.table.proofs.Laws.Words.{length-in, length-rows, in-first}
 use Rattle.rules.proofs.Laws.Records.{stored, loaded-all, stored-all, stored-same, many-disordered, too-many}
-use Rattle.rules.proofs.Laws.Prefix.{before-suc, before-same, length-before, extend}
+use Rattle.table.proofs.Laws.Prefix.{before-suc, before-same, length-before, extend}
 use Rattle.model.proofs.Lent.{Named, live-lent}
 use Rattle.model.proofs.Order.{Ordered, ordered, live-named, access-inOrder, access-named, order-after}
-use Rattle.rules.proofs.Laws.Places.{Alike, places-more}
-use Rattle.rules.proofs.Laws.Find.{found-zero}
+use Rattle.table.proofs.Laws.Places.{Alike, places-more}
+use Rattle.table.proofs.Laws.Find.{found-zero}
 use Rattle.rules.proofs.Laws.Settle.{before-lent, kept-revoke}
-use Rattle.rules.proofs.Laws.Judge.{numbered, orderly-live, orderly-rise, orderly-standing, orderly-long, orderly-judge, orderly-zeros}
+use Rattle.table.proofs.Laws.Judge.{numbered, orderly-live, orderly-rise, orderly-standing, orderly-long, orderly-judge, orderly-zeros}
 
 -- a new row after the live ones
 appended : (T : List Cap) (n k : ℕ) (c : Cap) → k < n → n ≤ length T → ((j : ℕ) → k ≤ j → j < n → getD T j emptyRow ≡ emptyRow) → take n (set T k c) ≡ lentTable n (c ∷ before T k)

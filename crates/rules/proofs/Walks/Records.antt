@@ -34,7 +34,7 @@ use denote.Triple.Clauses.{ensured, lasts}
 use denote.Triple.Walked.{says}
 use Rattle.model.specs.declared.Cap.{Cap}
 use Rattle.model.proofs.Cap as T
-use Rattle.rules.specs.Words.{rowsOf}
+use Rattle.table.specs.Words.{rowsOf}
 use Rattle.rules.proofs.Laws.Records.{loaded, length-loaded, stored}
 use Rattle.rules.proofs.Walks.Local.{Ws}
 use Rattle.rules.proofs.records.rows_held as held′

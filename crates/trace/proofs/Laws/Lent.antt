@@ -13,7 +13,7 @@ use Rattle.model.specs.declared.Tally.{Tally}
 use Rattle.model.specs.Step.{State}
 use Rattle.model.specs.Table.{inOrder}
 use Rattle.model.proofs.Lists.{test}
-use Rattle.rules.specs.Words.{rowsOf}
+use Rattle.table.specs.Words.{rowsOf}
 use Rattle.rules.specs.Steps.{heldIn, lends}
 use Rattle.rules.proofs.Laws.Records.{stored, many-disordered, too-many, loaded-all, stored-all, stored-same}
 use Rattle.trace.specs.declared.run.RunAnswer.{RunAnswer}

@@ -16,7 +16,7 @@ use Rattle.model.specs.Answers.{number}
 use Rattle.model.specs.Table.{emptyRow, lentTable, inOrder}
 use Rattle.model.specs.Step.{State, initial}
 use Rattle.model.proofs.Order.{order-fresh}
-use Rattle.rules.specs.Words.{rowsOf, rowsIn}
+use Rattle.table.specs.Words.{rowsOf, rowsIn}
 use Rattle.rules.specs.Steps.{heldIn}
 use Rattle.text.specs.Event.{bytes, line}
 use Rattle.text.specs.Result.{value, refused}

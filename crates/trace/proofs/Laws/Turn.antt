@@ -28,10 +28,10 @@ use Rattle.model.specs.Step.{Verdict, State}
 use Rattle.model.specs.Table.{inOrder}
 use Rattle.model.proofs.Order.{order-after}
 use Rattle.rules.specs.declared.Outcome.{Outcome}
-use Rattle.rules.specs.Words.{rowsOf}
+use Rattle.table.specs.Words.{rowsOf}
 use Rattle.rules.specs.Steps.{heldIn, Stepped}
-use Rattle.rules.proofs.Laws.Words.{in-first}
-use Rattle.rules.proofs.Laws.Judge.{numbered}
+use Rattle.table.proofs.Laws.Words.{in-first}
+use Rattle.table.proofs.Laws.Judge.{numbered}
 use Rattle.trace.specs.declared.run.RunAnswer.the-variants.{Refused as RunRefused}
 use Rattle.trace.specs.Run.{takeRead, takeLine, runLines, lent, ranOf, Known, Takes}
 

@@ -22,10 +22,9 @@ use Rattle.listing.proofs.forms.read_run.Kinds as read-run-kinds
 use Rattle.listing.proofs.forms.+read_form+read_run.Lts-read_run as read-run-lts
 use Rattle.listing.proofs.forms.add_row.Reads as add-row-reads
 use Rattle.listing.proofs.forms.child_follows.Reads as child-follows-reads
-use Rattle.listing.proofs.forms.children_of.Reads as children-of-reads
+use Rattle.listing.proofs.forms.head_of.Reads as head-of-reads
 use Rattle.listing.proofs.forms.last.Reads as last-reads
 use Rattle.listing.proofs.forms.past.Reads as past-reads
-use Rattle.listing.proofs.forms.row_of.Reads as row-of-reads
 use Rattle.listing.proofs.forms.+read_form+read_run.{statement}
 use Rattle.listing.proofs.forms.+read_form+read_run.Tie.{close}
 
@@ -68,37 +67,36 @@ read-run-μ-loop text words₀ count parent depth left₀ stored₀ words left s
 
 pub +read-form+read-run-spec : {M : Type 1} → statement M
 +read-form+read-run-spec = close μ-read-form μ-read-run (λ t. read-form-lts.spec (
-  row-of-reads.Asked,
-  row-of-reads.Learnt,
+  head-of-reads.Asked,
+  head-of-reads.Learnt,
   add-row-reads.Asked,
   add-row-reads.Learnt,
-  children-of-reads.Asked,
-  children-of-reads.Learnt,
-  read-run-below t,
-  read-run.Post,
   last-reads.Asked,
   last-reads.Learnt,
+  read-run-below t,
+  read-run.Post,
   past-reads.Asked,
   past-reads.Learnt,
 )
     (read-form-at t)
     read-form.Post
     (λ c κs. search needs)
-    (λ c κs. c .before .before .before .pre .1)
-    (λ c κs. search needs)
+    (λ c κs. c .before .before .before .before .pre .1)
+    (λ c κs. c .before .before .before .head-of .ensures .1)
     (λ c κs.
-    let start = c .before .before .before .before .before .before in
+    let start = c .before .before .before .before .before .before .before in
     let s = start .args .text .now in
     let is-t : 2 * length s + 1 ≡ t = start .pre .0 in
-    let less : 2 * length (c .before .children-of .result .now) < t = omega (arith, children-short s (c .before .children-of .ensures)) in
+    let less : 2 * length (c .before .last .result .now) < t = omega (arith, children-short s (c .before .last .ensures ∙ c .before .before .before .before .before .head-of .ensures .2)) in
     (less, c .before .before .add-row .ensures .1))
     (λ c κs. c .read-run .ensures .2 .inside)
     (λ c κs. search needs)
     (λ c.
-    let a = c .before .before .before .before .before .before .before .before .before .args in
+    let a = c .before .before .before .before .before .before .before .before .before .before .args in
     let add = c .before .before .before .before .before .add-row .ensures in
+    let head = c .before .before .before .before .before .before .before .before .head-of .ensures in
     let inner = c .before .before .read-run .ensures in
-    (omega (arith, add .0, inner .0), inner .1, form-reads (a .text .now) (newest (a .words .now) (a .count)) (a .parent) (a .depth) (c .before .before .before .before .before .before .before .row-of .ensures) (add .2) (c .before .before .before .before .children-of .ensures) (inner .2) (c .past .ensures ∙ ap (drop 1) (c .before .last .ensures)))))
+    (omega (arith, add .0, inner .0), inner .1, form-reads (a .text .now) (newest (a .words .now) (a .count)) (a .parent) (a .depth) (head .0) (add .2) (c .before .before .before .before .last .ensures ∙ head .2) (inner .2) (c .past .ensures ∙ ap (drop 1) (c .before .last2 .ensures)))))
     λ t. read-run-lts.spec (
       last-reads.Asked,
       last-reads.Learnt,

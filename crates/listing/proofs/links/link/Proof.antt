@@ -7,8 +7,8 @@ use native.Mathlib.Omega.{arith}
 use lib.ListN.{length, replicate, length-replicate}
 use borrow.Author.Needs.{needs}
 use Rattle.model.specs.declared.Cap.{Cap}
-use Rattle.rules.specs.Words.{rowsOf}
-use Rattle.rules.proofs.Laws.Words.{length-rows}
+use Rattle.table.specs.Words.{rowsOf}
+use Rattle.table.proofs.Laws.Words.{length-rows}
 use Rattle.listing.proofs.Laws.Live.{live-order}
 use Rattle.listing.proofs.Laws.Links.{Filling, filling-start, filling-step, filling-end}
 use Rattle.listing.proofs.links.link.Statement.{statement}
@@ -22,22 +22,30 @@ module _ (ws first next : List ℕ) (n : ℕ) (few : n ≤ 1024) where
       (filling-start (rowsOf ws n) first next (omega arith) (ap length f ∙ length-replicate 1025 n) (e ∙ ap (replicate 1025) (sym long)))
 
 abbrev Inv-loop : tie.InvT-loop
-Inv-loop words n first₀ next₀ i₀ first next i = (i ≤ n) × Filling (rowsOf words n) first next i
+Inv-loop words n first₀ next₀ seen i₀ first next i = (i ≤ n) × Filling (rowsOf words n) first next i
 
 abbrev μ-loop : tie.MeasureT-loop
-μ-loop words n first₀ next₀ i₀ first next i = i
+μ-loop words n first₀ next₀ seen i₀ first next i = i
 
 loop-holds : tie.Need-loop-holds Inv-loop μ-loop
-loop-holds c = (omega arith, start (c .args .words .now) (c .args .first .now) (c .args .next .now) (c .args .n) (c .pre .0) (c .pre .2) (c .pre .3))
+loop-holds c =
+    let s = c .before .before in
+    (omega arith, start (s .args .words .now) (s .args .first .now) (s .args .next .now) (s .args .n) (s .pre .0) (s .pre .2) (s .pre .3))
+
+parent-row-requires : tie.Need-parent-row-requires Inv-loop μ-loop
+parent-row-requires c κs =
+    let l = c .before .before in
+    let s = l .before .before .before in
+    (omega arith, s .pre .0, s .pre .1, l .before .note-rows .ensures)
 
 loop-again : tie.Need-loop-again Inv-loop μ-loop
 loop-again c =
-    let l = c .before .before .before in
-    let s = l .before in
+    let l = c .before .before .before .before in
+    let s = l .before .before .before in
     let rows : List Cap = rowsOf (s .args .words .now) (s .args .n) in
     let long : length rows ≡ s .args .n = length-rows (s .args .words .now) (s .args .n) in
     let i : ℕ = l .loop .i - 1 in
-    let up : l .loop .i ≡ suc i = omega (arith, c .before .before .loop-test .taken) in (
+    let up : l .loop .i ≡ suc i = omega (arith, c .before .before .before .loop-test .taken) in (
       omega arith,
       filling-step rows (l .loop .first) (l .loop .next) i (c .before .parent-row .result) (live-order (s .pre .1)) (omega arith) (omega arith) (omega (arith, c .before .parent-row .ensures .0))
           (c .before .parent-row .ensures .1) (subst (Filling rows (l .loop .first) (l .loop .next)) up (l .loop .inv .1)),
@@ -46,7 +54,7 @@ loop-again c =
 returns : tie.Need-returns Inv-loop μ-loop
 returns c =
     let l = c .before in
-    let s = l .before in
+    let s = l .before .before .before in
     let rows : List Cap = rowsOf (s .args .words .now) (s .args .n) in
     let zero : l .loop .i ≡ 0 = omega (arith, c .loop-test .left) in
     filling-end rows (l .loop .first) (l .loop .next) (live-order (s .pre .1)) (subst (Filling rows (l .loop .first) (l .loop .next)) zero (l .loop .inv .1))
@@ -57,9 +65,10 @@ link-spec =
     (tie.spec
     Inv-loop
     μ-loop
+    (λ c κs. search needs)
     loop-holds
     (λ c. search needs)
-    (λ c κs. search needs)
+    parent-row-requires
     (λ c. search needs)
     (λ c. search needs)
     (λ c. search needs)

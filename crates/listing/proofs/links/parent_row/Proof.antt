@@ -11,10 +11,10 @@ use borrow.Author.Needs.{needs}
 use borrow.Author.Tests.{ltb-true, ltb-false}
 use Rattle.model.specs.declared.Cap.{Cap}
 use Rattle.model.specs.Table.{emptyRow}
-use Rattle.rules.specs.Words.{rowsOf, rowsIn}
-use Rattle.rules.specs.Engine.{nameAt, parentAt, Found}
-use Rattle.rules.proofs.Laws.Words.{length-rows}
-use Rattle.rules.proofs.Laws.Prefix.{named-none}
+use Rattle.table.specs.Words.{rowsOf, rowsIn}
+use Rattle.table.specs.Rows.{nameAt, parentAt, Found}
+use Rattle.table.proofs.Laws.Words.{length-rows}
+use Rattle.table.proofs.Laws.Prefix.{named-none}
 use Rattle.listing.proofs.Laws.Sorted.{InOrder}
 use Rattle.listing.proofs.Laws.Live.{live-order, row-in, rise-in, parent-earlier}
 use Rattle.listing.proofs.links.parent_row.Statement.{statement}
@@ -50,16 +50,26 @@ returns c =
     let w = s .args .words .now in
     (omega arith, root w (s .args .n) (s .args .i) (s .pre .1) (s .pre .0) (parent-is w (s .args .n) (s .args .i) (s .pre .1) (s .pre .0) (c .before .row-at .ensures) ∙ c .if1 .taken))
 
-find-requires : tie.Need-find-requires
-find-requires c κs =
-    let s = c .before .before in
+find-near-requires : tie.Need-find-near-requires
+find-near-requires c κs =
+    let s = c .before .before .before .before .before in
     (s .pre .1, rise-in (s .args .words .now) (s .args .n) (s .pre .1) (live-order (s .pre .2)))
 
 returns-2 : tie.Need-returns-2
 returns-2 c =
-    let s = c .before .before .before in
+    let s = c .before .before .before .before .before .before in
     let w = s .args .words .now in
-    child w (s .args .n) (s .args .i) (s .pre .1) (s .pre .0) (live-order (s .pre .2)) _ (c .find .result) (parent-is w (s .args .n) (s .args .i) (s .pre .1) (s .pre .0) (c .before .before .row-at .ensures)) (c .before .if1 .left) (c .find .ensures)
+    child w (s .args .n) (s .args .i) (s .pre .1) (s .pre .0) (live-order (s .pre .2)) _ (c .find-near .result) (parent-is w (s .args .n) (s .args .i) (s .pre .1) (s .pre .0) (c .before .before .before .before .before .row-at .ensures)) (c .before .before .before .before .if1 .left) (c .find-near .ensures)
 
 pub parent-row-spec : {M : Type 1} → statement M
-parent-row-spec = tie.close (tie.spec (λ c κs. search needs) returns find-requires returns-2)
+parent-row-spec =
+    tie.close
+    (tie.spec
+    (λ c κs. search needs)
+    returns
+    (λ c κs. search needs)
+    (λ c. search needs)
+    (λ c. search needs)
+    (λ c κs. search needs)
+    find-near-requires
+    returns-2)

@@ -6,7 +6,7 @@ use mathlib.Core.List.{List, [], reverse, reverse-reverse}
 use lib.ListN.{drop}
 use Rattle.model.specs.declared.Cap.{Cap}
 use Rattle.model.specs.Table.{lentTable}
-use Rattle.rules.specs.Words.{rowsOf, rowsIn}
+use Rattle.table.specs.Words.{rowsOf, rowsIn}
 use Rattle.text.specs.Class.{newline}
 use Rattle.text.specs.Line.{through}
 use Rattle.listing.specs.Sort.{sorted}
@@ -29,7 +29,7 @@ returns : tie.Need-returns
 returns c =
     let s = c .before .before .before .before .before .before .before .args .text .now in
     let lines = c .before .before .before .before .past .ensures ∙ ap (λ (n : ℕ). drop n s) (c .before .before .before .before .before .count-through .ensures) in
-    (table-is s (c .before .before .before .before .past .result .now) (c .before .before .read-lines .last .1 .0) (c .sort-rows .last .0) (c .before .before .read-lines .result) lines (c .before .before .read-lines .ensures .1) (c .sort-rows .ensures .0) (c .sort-rows .ensures .1), c .sort-rows .ensures .0 .long)
+    (table-is s (c .before .before .before .before .past .result .now) (c .before .before .read-lines .last .1 .0) (c .sort-rows .last .0) (c .before .before .read-lines .result) lines (c .before .before .read-lines .ensures .1) (c .sort-rows .ensures .0) (c .sort-rows .ensures .1), c .sort-rows .ensures .0)
 
 pub guess-table-spec : {M : Type 1} → statement M
 guess-table-spec =

@@ -1,73 +1,81 @@
--- `listing::reading::is_listing` meets its contract: the buffer begins with the table's listing, with which the text is compared.
+-- `listing::reading::is_listing` meets its contract: the rows that were stored are judged, and their listing is compared with the text.
 -- Assumes nothing.
-use mathlib.Core.Path.{_≡_, refl, sym, ap, _∙_}
+use mathlib.Core.Path.{_≡_, sym, ap, _∙_}
+use mathlib.Core.Logic.{inl, inr}
 use mathlib.Core.Bool.{true, false}
-use mathlib.Core.List.{List}
-use Prim.Native.Nat.{ℕ}
+use mathlib.Core.List.{List, reverse}
+use Prim.Native.Nat.{ℕ, _≤_}
 use native.Mathlib.Omega.{arith}
 use lib.ListN.{take, length-replicate}
-use lib.Seq.{length-take-le}
 use borrow.Author.Tests.{not-true, not-false}
 use Rattle.model.specs.declared.Cap.{Cap}
 use Rattle.model.specs.Table.{inOrder}
-use Rattle.rules.specs.Words.{rowsOf, rowsIn}
-use Rattle.rules.specs.Engine.{Front}
-use Rattle.model.proofs.Lists.{clash}
+use Rattle.table.specs.Words.{rowsOf, rowsIn}
+use Rattle.table.specs.Rows.{Front}
 use Rattle.text.specs.Read.{same}
-use Rattle.listing.specs.Listing.{listed, listing}
+use Rattle.listing.specs.Links.{Live}
+use Rattle.listing.specs.Listing.{listed}
 use Rattle.listing.specs.ReadListing.{isListing}
-use Rattle.listing.proofs.Laws.Front.{all-rows, front-live, front-listing}
-use Rattle.text.proofs.Laws.Write.{Wrote, wrote, wrote-none}
-use Rattle.text.proofs.Laws.Read.{same-is}
+use Rattle.listing.specs.Stored.{Stored}
+use Rattle.listing.proofs.Laws.Front.{front-live, front-listing}
+use Rattle.listing.proofs.Laws.Padded.{stored-live, stored-order}
 use borrow.Author.Needs.{needs}
 use Rattle.listing.proofs.reading.is_listing.Statement.{statement}
 use Rattle.listing.proofs.reading.is_listing.Tie as tie
 
-module _ (s ws : List ℕ) (issued : ℕ) where
+module _ (s : List ℕ) {ws : List ℕ} {count : ℕ} (st : Stored ws count) (issued : ℕ) where
   -- a table that is not in order, and one that is
-  disordered : inOrder (take 1024 (rowsIn ws)) issued ≡ false → false ≡ isListing s (rowsIn ws) issued
+  disordered : inOrder (take count (rowsIn ws)) issued ≡ false → false ≡ isListing s (rowsIn ws) issued
   unfolding isListing
-  disordered h = sym (rw (ap (λ (t : List Cap). inOrder t issued) (sym (all-rows ws)) ∙ h))
+  disordered h = sym (rw (stored-order st issued ∙ h))
 
-  module _ (k : ℕ) (f : Front (rowsIn ws) 1024 k) (h : inOrder (take 1024 (rowsIn ws)) issued ≡ true) where
+  module _ (k : ℕ) (f : Front (rowsIn ws) count k) (h : inOrder (take count (rowsIn ws)) issued ≡ true) where
     compared : isListing s (rowsIn ws) issued ≡ same s (listed (rowsOf ws k) issued)
     unfolding isListing
     compared =
-        rw (ap (λ (t : List Cap). inOrder t issued) (sym (all-rows ws)) ∙ h)
-        (ap (λ (t : List Cap). same s (listing t issued)) (sym (all-rows ws)) ∙ ap (same s) (front-listing ws 1024 k (omega arith) f issued h))
+        rw (stored-order st issued ∙ h)
+        (ap (λ (rows : List Cap). same s (listed (reverse rows) issued)) (stored-live st) ∙ ap (same s) (front-listing ws count k (st .few) f issued h))
 
 returns : tie.Need-returns
 returns c =
-    let a = c .before .before .before .before .args in
-    disordered (a .text .now) (a .words .now) (a .issued) (sym (c .before .in-order .ensures) ∙ not-true (c .before .in-order .result) (c .if1 .taken))
+    let start = c .before .before .before .before in
+    let a = start .args in
+    disordered (a .text .now) (start .pre) (a .issued) (sym (c .before .in-order .ensures) ∙ not-true (c .before .in-order .result) (c .if1 .taken))
 
-write-rows-requires : tie.Need-write-rows-requires
-write-rows-requires c κs =
-    let a = c .before .before .before .before .before .args in
-    let f = c .before .before .before .live-count .ensures in
-    (f .fits, front-live (a .words .now) 1024 (c .before .before .before .live-count .result) (omega arith) f (a .issued) (sym (c .before .before .in-order .ensures) ∙ not-false (c .before .before .in-order .result) (c .before .if1 .left)))
+-- past the test the rows are in order
+is-ordered : (c : tie.Else1) → inOrder (take (c .before .before .before .before .args .count) (rowsIn (c .before .before .before .before .args .words .now))) (c .before .before .before .before .args .issued) ≡ true
+is-ordered c = sym (c .before .in-order .ensures) ∙ not-false (c .before .in-order .result) (c .if1 .left)
+
+few : (c : tie.Else1) → c .before .before .live-count .result ≤ 1024
+few c = omega (arith, c .before .before .live-count .ensures .fits, c .before .before .before .before .pre .few)
+
+live : (c : tie.Else1) → Live (rowsOf (c .before .before .before .before .args .words .now) (c .before .before .live-count .result))
+live c =
+    let start = c .before .before .before .before in
+    let count = c .before .before .live-count in
+    front-live (start .args .words .now) (start .args .count) (count .result) (start .pre .few) (count .ensures) (start .args .issued) (is-ordered c)
+
+same-listing : (c : tie.Else1) → isListing (c .before .before .before .before .args .text .now) (rowsIn (c .before .before .before .before .args .words .now)) (c .before .before .before .before .args .issued) ≡ same (c .before .before .before .before .args .text .now) (listed (rowsOf (c .before .before .before .before .args .words .now) (c .before .before .live-count .result)) (c .before .before .before .before .args .issued))
+same-listing c =
+    let start = c .before .before .before .before in
+    let count = c .before .before .live-count in
+    compared (start .args .text .now) (start .pre) (start .args .issued) (count .result) (count .ensures) (is-ordered c)
+
+writes-back-requires : tie.Need-writes-back-requires
+writes-back-requires c κs =
+    let ordered = c .before .before in
+    (few ordered, live ordered, inl (omega (arith, c .before .if2 .taken, length-replicate {A = ℕ} 2048 0)))
 
 returns-2 : tie.Need-returns-2
-returns-2 c =
-    let write = c .before .before .before .write-rows .ensures in
-    clash refl (wrote-none (c .enum-told .given .0 .0) (write .0) (omega (arith, write .1, length-replicate {A = ℕ} 39936 0)) (c .enum-told .given .1))
+returns-2 c = c .before .writes-back .ensures ∙ sym (same-listing (c .before .before .before .before))
 
--- what the answer of `write_rows` tells
-told : (c : tie.After-written) → Wrote true (listed (rowsOf (c .before .before .before .before .before .before .before .before .before .args .words .now) (c .before .before .before .before .before .before .before .live-count .result)) (c .before .before .before .before .before .before .before .before .before .args .issued)) (c .before .before .before .write-rows .last .1 .1 .1 .0) (c .written .given .0 .0)
-told c = wrote (c .written .given .0 .0) (c .before .before .before .write-rows .ensures .0) (c .written .given .1)
-
-array-share-prefix-buffer : tie.Need-array-share-prefix-buffer
-array-share-prefix-buffer c = told (c .before) .inside
-
-slice-aggregate-same : tie.Need-slice-aggregate-same
-slice-aggregate-same c = sym (length-take-le _ _ (told (c .before .before) .inside))
+writes-back-requires-2 : tie.Need-writes-back-requires-2
+writes-back-requires-2 c κs =
+    let ordered = c .before .before in
+    (few ordered, live ordered, inr (omega (arith, length-replicate {A = ℕ} 39936 0)))
 
 returns-3 : tie.Need-returns-3
-returns-3 c =
-    let t = told (c .before .before .before) in
-    let a = c .before .before .before .before .before .before .before .before .before .before .before .before .args in
-    same-is (c .same .result) _ _ (λ e. (c .same .ensures .0) e ∙ t .front) (λ e. (c .same .ensures .1) (e ∙ sym (t .front)))
-    ∙ sym (compared (a .text .now) (a .words .now) (a .issued) (c .before .before .before .before .before .before .before .before .before .before .live-count .result) (c .before .before .before .before .before .before .before .before .before .before .live-count .ensures) (sym (c .before .before .before .before .before .before .before .before .before .in-order .ensures) ∙ not-false (c .before .before .before .before .before .before .before .before .before .in-order .result) (c .before .before .before .before .before .before .before .before .if1 .left)))
+returns-3 c = c .before .writes-back2 .ensures ∙ sym (same-listing (c .before .before .before .before))
 
 pub is-listing-spec : {M : Type 1} → statement M
 is-listing-spec =
@@ -77,11 +85,8 @@ is-listing-spec =
     (λ c κs. search needs)
     returns
     (λ c. search needs)
-    write-rows-requires
-    (λ c. search needs)
-    (λ c. search needs)
+    writes-back-requires
     returns-2
-    array-share-prefix-buffer
-    slice-aggregate-same
-    (λ c κs. search needs)
+    (λ c. search needs)
+    writes-back-requires-2
     returns-3)

@@ -1,11 +1,7 @@
 -- `listing::reading::read_listing` meets its contract: the guess is judged, and then copied.
 -- Assumes nothing.
 use mathlib.Core.Path.{refl, sym, ap, _∙_}
-use Prim.Native.Nat.{ℕ}
-use mathlib.Core.List.{List}
 use borrow.Author.Tests.{not-true, not-false}
-use Rattle.rules.specs.Words.{rowsOf, rowsIn}
-use Rattle.text.specs.Result.{value}
 use Rattle.text.specs.Decimal.{numberOf}
 use Rattle.listing.proofs.Laws.ReadListing.{stored-none, answers-2, answers-10, answers-given}
 use borrow.Author.Needs.{needs}
@@ -29,9 +25,8 @@ returns-2 c = record {
 
 returns-3 : tie.Need-returns-3
 returns-3 c = record {
-  answer = ap (λ (ws : List ℕ). value (record { table = rowsOf ws (c .before .before .before .before .before .before .before .before .before .before .before .before .before .before .args .n); issued = c .before .before .before .before .before .before .before .before .before .number .result })) (c .copy .ensures)
-      ∙ answers-given (c .before .before .before .before .before .before .before .before .before .before .before .before .before .before .args .text .now) (c .before .before .before .before .before .before .before .before .before .before .before .before .before .before .args .n) (c .before .before .before .before .before .before .before .before .before .before .before .before .before .before .pre .0) (c .before .before .before .before .before .before .before .before .before .before .before .guess-table .last .1 .0) (c .before .before .before .before .before .before .before .before .before .number .result) (c .before .before .before .before .before .before .before .before .before .before .before .guess-table .ensures .0) (c .before .before .before .before .before .before .before .before .before .number .ensures ∙ ap numberOf (c .before .before .before .before .before .before .before .before .before .before .after-space .ensures)) (sym (c .before .before .before .before .before .before .before .is-listing .ensures) ∙ not-false (c .before .before .before .before .before .before .before .is-listing .result) (c .before .before .before .before .before .before .if1 .left)) (c .before .before .before .before .live-count .result) (c .before .before .before .before .live-count .ensures) (c .before .before .before .if2 .left);
-  words = ap rowsIn (c .copy .ensures) ∙ c .before .before .before .before .before .before .before .before .before .before .before .guess-table .ensures .0;
+  answer = answers-given (c .before .before .before .before .before .before .before .before .before .before .before .args .text .now) (c .before .before .before .before .before .before .before .before .before .before .before .args .n) (c .before .before .before .before .before .before .before .before .before .before .before .pre .0) (c .before .before .before .before .before .before .before .before .guess-table .last .1 .0) (c .before .before .before .before .before .before .number .result) (c .before .before .before .before .before .before .before .before .guess-table .ensures .0) (c .before .before .before .before .before .before .number .ensures ∙ ap numberOf (c .before .before .before .before .before .before .before .after-space .ensures)) (sym (c .before .before .before .before .is-listing .ensures) ∙ not-false (c .before .before .before .before .is-listing .result) (c .before .before .before .if1 .left)) (c .before .live-count .result) (c .before .live-count .ensures) (c .if2 .left);
+  words = c .before .before .before .before .before .before .before .before .guess-table .ensures .0;
 }
 
 pub read-listing-spec : {M : Type 1} → statement M
@@ -45,5 +40,4 @@ read-listing-spec =
     returns
     (λ c κs. search needs)
     returns-2
-    (λ c κs. search needs)
     returns-3)

@@ -51,7 +51,7 @@ use Rattle.model.proofs.Cap as T
 use Rattle.text.specs.declared.write.Written.{Written}
 use Rattle.text.proofs.write.Written as N
 use Rattle.text.proofs.write.Written.Laws as N′
-use Rattle.rules.specs.Words.{rowsOf}
+use Rattle.table.specs.Words.{rowsOf}
 use Rattle.rules.proofs.Laws.Records.{loaded}
 use Rattle.rules.proofs.Walks.Local.{Ws, arr, lies-in, lies-out}
 use Rattle.rules.proofs.Walks.Records.{table, words, zeros, Held, Load, to-held, to-load, Loaded, goes-held, gives-held, goes-load, gives-load}

@@ -1,7 +1,7 @@
 -- `listing::records::write_words` meets its contract: a table of more than 1,024 rows is not in order.
 -- Assumes nothing.
 use borrow.Author.Needs.{needs}
-use Rattle.rules.specs.Words.{rowsOf}
+use Rattle.table.specs.Words.{rowsOf}
 use Rattle.rules.proofs.Laws.Records.{too-many}
 use Rattle.listing.proofs.Laws.Lent.{not-written}
 use Rattle.listing.proofs.records.write_words.Statement.{statement}

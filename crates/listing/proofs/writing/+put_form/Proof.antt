@@ -9,8 +9,8 @@ use borrow.Author.Needs.{needs}
 use borrow.Fn.Kinds.{In}
 use borrow.Fn.PlainCycle.{Measures, is, falls, and}
 use Rattle.model.specs.declared.Cap.{Cap}
-use Rattle.rules.specs.Words.{rowAt, rowsOf}
-use Rattle.rules.proofs.Laws.Words.{rows-at, in-at}
+use Rattle.table.specs.Words.{rowAt, rowsOf}
+use Rattle.table.proofs.Laws.Words.{rows-at, in-at}
 use Rattle.model.specs.Table.{emptyRow}
 use Rattle.text.specs.Put.{Put, Room}
 use Rattle.listing.specs.Listing.{pieces}
@@ -20,7 +20,7 @@ use Rattle.listing.proofs.Laws.Forms.{Inside, bracket-room, pieces-fit,
 use Rattle.listing.proofs.writing.put_form.Reads as put-form
 use Rattle.listing.proofs.writing.put_form.Kinds as put-form-kinds
 use Rattle.listing.proofs.writing.+put_form.Lts-put_form as put-form-lts
-use Rattle.rules.proofs.words.row_at.Reads as row-at-reads
+use Rattle.table.proofs.words.row_at.Reads as row-at-reads
 use Rattle.listing.proofs.writing.put_pieces.Reads as put-pieces-reads
 use Rattle.listing.proofs.writing.+put_form.{statement}
 use Rattle.listing.proofs.writing.+put_form.Tie.{close}

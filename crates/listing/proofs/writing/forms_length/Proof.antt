@@ -7,8 +7,8 @@ use native.Mathlib.Omega.{arith}
 use borrow.Author.Needs.{needs}
 use native.Mathlib.Numerals.{add-one}
 use Rattle.model.specs.declared.Cap.{Cap}
-use Rattle.rules.specs.Words.{rowAt, rowsOf}
-use Rattle.rules.proofs.Laws.Words.{in-at}
+use Rattle.table.specs.Words.{rowAt, rowsOf}
+use Rattle.table.proofs.Laws.Words.{in-at}
 use Rattle.listing.specs.Listing.{formLength, total, formsLength}
 use Rattle.listing.proofs.Laws.Listing.{forms-more}
 use Rattle.listing.proofs.writing.forms_length.Statement.{statement}

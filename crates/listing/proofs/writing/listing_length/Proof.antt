@@ -1,7 +1,7 @@
 -- `listing::writing::listing_length` meets its contract: a listing is as long as its line and its rows.
 -- Assumes nothing.
 use native.Mathlib.Omega.{arith}
-use Rattle.rules.specs.Words.{rowsOf}
+use Rattle.table.specs.Words.{rowsOf}
 use Rattle.listing.proofs.Laws.Live.{live-order}
 use Rattle.listing.proofs.Laws.Listing.{listed-length}
 use borrow.Author.Needs.{needs}

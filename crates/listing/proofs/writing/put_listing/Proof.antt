@@ -4,7 +4,7 @@ use mathlib.Core.Path.{refl, sym}
 use Prim.Native.Nat.{ℕ}
 use mathlib.Core.List.{List, [], append-nil}
 use Rattle.model.specs.declared.Cap.{Cap}
-use Rattle.rules.specs.Words.{rowsOf}
+use Rattle.table.specs.Words.{rowsOf}
 use Rattle.text.specs.Put.{Put}
 use Rattle.listing.specs.Listing.{rootsFrom, issuedLine, listed}
 use Rattle.listing.proofs.Laws.Writing.{Writing, begin, piece, fits, finish}

@@ -5,8 +5,8 @@ use Prim.Native.Nat.{ℕ, _-_}
 use native.Mathlib.Omega.{arith}
 use lib.ListN.{getD}
 use borrow.Author.Needs.{needs}
-use Rattle.rules.specs.Words.{rowsOf}
-use Rattle.rules.proofs.Laws.Words.{length-rows}
+use Rattle.table.specs.Words.{rowsOf}
+use Rattle.table.proofs.Laws.Words.{length-rows}
 use Rattle.text.proofs.Laws.Put.{put-length}
 use Rattle.listing.proofs.Laws.Listing.{within, beyond}
 use Rattle.listing.proofs.Laws.Forms.{Lines, first-line, line-fits, newline-fits, next-line, all-lines}

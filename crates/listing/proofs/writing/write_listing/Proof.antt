@@ -9,9 +9,9 @@ use lib.ListN.{take}
 use borrow.Author.Tests.{not-true, not-false}
 use Rattle.model.specs.declared.Cap.{Cap}
 use Rattle.model.specs.Table.{inOrder}
-use Rattle.rules.specs.Words.{rowsOf, rowsIn}
-use Rattle.rules.specs.Engine.{Front}
-use Rattle.rules.proofs.Laws.Words.{in-first}
+use Rattle.table.specs.Words.{rowsOf, rowsIn}
+use Rattle.table.specs.Rows.{Front}
+use Rattle.table.proofs.Laws.Words.{in-first}
 use Rattle.listing.specs.Listing.{listed, listing}
 use Rattle.text.specs.Write.{Writes, written, stored}
 use Rattle.listing.specs.WriteListing.{listingWritten, listingStored, WritesListing}

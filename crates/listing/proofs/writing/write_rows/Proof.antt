@@ -1,7 +1,7 @@
 -- `listing::writing::write_rows` meets its contract: it measures, and then writes.
 -- Assumes nothing.
 use native.Mathlib.Omega.{arith}
-use Rattle.rules.specs.Words.{rowsOf}
+use Rattle.table.specs.Words.{rowsOf}
 use Rattle.listing.specs.Listing.{listed}
 use Rattle.text.proofs.Laws.Write.{writes-none, writes-put}
 use borrow.Author.Needs.{needs}

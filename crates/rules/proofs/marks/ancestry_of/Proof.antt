@@ -3,7 +3,7 @@
 use Prim.Native.Nat.{ℕ}
 use native.Mathlib.Omega.{arith}
 use lib.ListN.{getD}
-use Rattle.rules.specs.Words.{rowsIn}
+use Rattle.table.specs.Words.{rowsIn}
 use Rattle.rules.proofs.Laws.Marks.{Walk, walk-first, walk-step, walk-over}
 use Rattle.rules.proofs.marks.ancestry_of.Statement.{statement}
 use Rattle.rules.proofs.marks.ancestry_of.Tie as tie

@@ -1,6 +1,6 @@
 -- `marks_of_access` meets its contract.
 -- Assumes nothing.
-use Rattle.rules.specs.Words.{rowsIn}
+use Rattle.table.specs.Words.{rowsIn}
 use Rattle.rules.specs.Engine.{ownOfAccess}
 use Rattle.rules.proofs.Laws.Marks.{stand-rise, spread-downward, marked-use}
 use Rattle.rules.proofs.marks.marks_of_access.Statement.{statement}

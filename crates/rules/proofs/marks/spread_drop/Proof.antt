@@ -6,7 +6,7 @@ use Prim.Native.Nat.{ℕ, _-_, _≤_, max}
 use native.Mathlib.Omega.{arith}
 use lib.Dec.{ltb}
 use lib.ListN.{getD, length-replicate}
-use Rattle.rules.specs.Words.{rowsIn}
+use Rattle.table.specs.Words.{rowsIn}
 use Rattle.rules.specs.Engine.{ownOfDrop}
 use Rattle.rules.proofs.Laws.Marks.{Spreading, spread-none, spread-more}
 use Rattle.rules.proofs.marks.spread_drop.Statement.{statement}

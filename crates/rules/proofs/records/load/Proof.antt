@@ -50,15 +50,15 @@ use denote.Triple.Walked.{says, needs, Stays, stay-none-slice, stay-none, stay-r
 use denote.Exit.{yes}
 use Rattle.model.specs.declared.Cap.{Cap}
 use Rattle.model.specs.Table.{emptyRow}
-use Rattle.rules.specs.Words.{rowsIn, setRow}
+use Rattle.table.specs.Words.{rowsIn, setRow}
 use Rattle.model.proofs.Cap as T
 use Rattle.model.proofs.Cap.Laws as T′
 use Rattle.rules.proofs.Walks.Count.{counts, holds, fails}
 use Rattle.rules.proofs.Laws.Records.{loaded, loaded-none, length-loaded, loaded-rows, loaded-suc}
-use Rattle.rules.proofs.words.set_row as set-row
-use Rattle.rules.proofs.words.set_row.Symbol as set-row-def
-use Rattle.rules.proofs.words.set_row.Symbol.{name as #rules·set-row}
-use Rattle.rules.proofs.words.set_row.Met as set-row-thm
+use Rattle.table.proofs.words.set_row as set-row
+use Rattle.table.proofs.words.set_row.Symbol as set-row-def
+use Rattle.table.proofs.words.set_row.Symbol.{name as #table·set-row}
+use Rattle.table.proofs.words.set_row.Met as set-row-thm
 use Rattle.rules.proofs.records.load.Key.{name as #rules·load}
 use Rattle.rules.proofs.records.load as load′
 use Rattle.rules.proofs.records.load.Statement as stated
@@ -133,7 +133,7 @@ module _ {M : Type 1} (𝓤 : URA M) (H : Heap 𝓤) (A : Atoms 𝓤) (W : Given
       split ! $ move ! (1 ∷ []) $ heard ! ((rowsIn (zs .0) ≡ set (rowsIn l) i c) × (length (zs .0) ≡ 6144) × (zs .0 ≡ setRow l i c)) (λ e. fsplit ! $ rewrite ! 0 (λ (z : List ℕ). ‵ (fres δ (Ws .coded .code z))) (e .2) refl $
       move ! (2 ∷ []) $ split ! $ move ! (1 ∷ []) $ feqL ! (λ u. at-once ! $ check ! (ap only u) $ split ! $ keep ! (0 ∷ 2 ∷ []) $ done !))))
 
-  module _ (𝓣 : Tables 𝓤 H) (known : Triple 𝓤 (𝓣 .C #rules·set-row) (SetRow 𝓤 H A mem run)) where
+  module _ (𝓣 : Tables 𝓤 H) (known : Triple 𝓤 (𝓣 .C #table·set-row) (SetRow 𝓤 H A mem run)) where
     abbrev C : Calls 𝓤 H
     C = 𝓣 .C
 
@@ -241,7 +241,7 @@ module _ {M : Type 1} (𝓤 : URA M) (H : Heap 𝓤) (A : Atoms 𝓤) (W : Given
         keep ! (0 ∷ 1 ∷ 2 ∷ 3 ∷ 6 ∷ 7 ∷ 8 ∷ 9 ∷ 10 ∷ 11 ∷ 12 ∷ 13 ∷ 14 ∷ 15 ∷ 16 ∷ 17 ∷ 18 ∷ 19 ∷ 20 ∷ 21 ∷ 22 ∷ 23 ∷ 24 ∷ 25 ∷ 26 ∷ 27 ∷ []) $
         by ! (loops (g .1 .0 .1) l₀ l₁ l₂ l₃ l₄ l₅ l₆ l₇ l₈ l₉ l₁₀))))))))))))))
 
-module _ {M : Type 1} (𝓤 : URA M) (H : Heap 𝓤) (A : Atoms 𝓤) (W : Given 𝓤 H A) (mem : Memory → SProp 𝓤) (run : Routine → Fun 𝓤) (𝓣 : Tables 𝓤 H) (known : Triple 𝓤 (𝓣 .C #rules·set-row) (SetRow 𝓤 H A mem run)) where
+module _ {M : Type 1} (𝓤 : URA M) (H : Heap 𝓤) (A : Atoms 𝓤) (W : Given 𝓤 H A) (mem : Memory → SProp 𝓤) (run : Routine → Fun 𝓤) (𝓣 : Tables 𝓤 H) (known : Triple 𝓤 (𝓣 .C #table·set-row) (SetRow 𝓤 H A mem run)) where
   load-walks : Walks 𝓤 H A load′.ended stayed (WpFn 𝓤 H (𝓣 .C) (𝓣 .Λ) code.function) (load′.clauses 𝓤 H A mem run)
   load-walks = walked 𝓤 H A load′.ended stayed (load′.clauses 𝓤 H A mem run) (WpFn 𝓤 H (𝓣 .C) (𝓣 .Λ) code.function) (λ κs. (slice-vals, (uint-vals w64, (ptr-vals, tt)))) (λ κs. (shr-slice-tells (named 0) (κs .0) T.the-row, (uint-tells w64, (mut-tells (named 1) (κs .1 .0) Ws, tt))))
       (λ κs qs bounds a g are. needs 𝓤 ((a .1 .0 ≤ length (a .0 .now)) × (a .1 .0 ≤ 1024)) _ (λ few.
@@ -257,4 +257,4 @@ load-spec 𝓤 H 𝓜 𝓖 𝓡 =
     entered 𝓤 H (tripleOf 𝓤 H (𝓖 .A) load′.signature (load′.spec 𝓤 H (𝓖 .A) (𝓜 .mem) (𝓡 .run)))
     (tables 𝓤 H 𝓜 𝓡 code.env .C) (tables 𝓤 H 𝓜 𝓡 code.env .Λ) #rules·load code.function (code.unfolded 𝓤 H 𝓜 𝓡)
     (load-meets 𝓤 H (𝓖 .A) (givenOf 𝓤 H 𝓜 𝓖) (𝓜 .mem) (𝓡 .run) (tablesOf 𝓤 H 𝓜 (tables 𝓤 H 𝓜 𝓡 code.env))
-    (cited 𝓤 H (SetRow 𝓤 H (𝓖 .A) (𝓜 .mem) (𝓡 .run)) 𝓜 𝓡 code.env #rules·set-row set-row-def.routine code.calls-rules·words·set-row (set-row-thm.met 𝓤 H 𝓜 𝓖 𝓡)))
+    (cited 𝓤 H (SetRow 𝓤 H (𝓖 .A) (𝓜 .mem) (𝓡 .run)) 𝓜 𝓡 code.env #table·set-row set-row-def.routine code.calls-table·words·set-row (set-row-thm.met 𝓤 H 𝓜 𝓖 𝓡)))

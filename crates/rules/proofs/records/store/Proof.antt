@@ -50,16 +50,16 @@ use denote.Triple.Walked.{says, needs, Stays, stay-slice, stay-none, stay-none-r
 use denote.Exit.{yes}
 use Rattle.model.specs.declared.Cap.{Cap}
 use Rattle.model.specs.Table.{emptyRow}
-use Rattle.rules.specs.Words.{rowAt, rowsIn}
+use Rattle.table.specs.Words.{rowAt, rowsIn}
 use Rattle.model.proofs.Cap as T
 use Rattle.model.proofs.Cap.Laws as T′
 use Rattle.rules.proofs.Walks.Count.{counts, holds, fails}
-use Rattle.rules.proofs.Laws.Words.{in-at}
+use Rattle.table.proofs.Laws.Words.{in-at}
 use Rattle.rules.proofs.Laws.Records.{stored, stored-none, stored-suc, length-stored}
-use Rattle.rules.proofs.words.row_at as row-at
-use Rattle.rules.proofs.words.row_at.Symbol as row-at-def
-use Rattle.rules.proofs.words.row_at.Symbol.{name as #rules·row-at}
-use Rattle.rules.proofs.words.row_at.Met as row-at-thm
+use Rattle.table.proofs.words.row_at as row-at
+use Rattle.table.proofs.words.row_at.Symbol as row-at-def
+use Rattle.table.proofs.words.row_at.Symbol.{name as #table·row-at}
+use Rattle.table.proofs.words.row_at.Met as row-at-thm
 use Rattle.rules.proofs.records.store.Key.{name as #rules·store}
 use Rattle.rules.proofs.records.store as store′
 use Rattle.rules.proofs.records.store.Statement as stated
@@ -146,7 +146,7 @@ module _ {M : Type 1} (𝓤 : URA M) (H : Heap 𝓤) (A : Atoms 𝓤) (W : Given
         subst (λ (c : Cap). Is T.the-row c (T′.lowered c ∷ [])) e (subst (Is T.the-row r) (LL.tells T.the-type T′.the-laws r (v ∷ []) is) is),
       ) $ drop ! $ split ! $ keep ! (0 ∷ []) $ done !)))
 
-  module _ (𝓣 : Tables 𝓤 H) (known : Triple 𝓤 (𝓣 .C #rules·row-at) (RowAt 𝓤 H A mem run)) where
+  module _ (𝓣 : Tables 𝓤 H) (known : Triple 𝓤 (𝓣 .C #table·row-at) (RowAt 𝓤 H A mem run)) where
     abbrev C : Calls 𝓤 H
     C = 𝓣 .C
 
@@ -241,7 +241,7 @@ module _ {M : Type 1} (𝓤 : URA M) (H : Heap 𝓤) (A : Atoms 𝓤) (W : Given
         keep ! (3 ∷ 4 ∷ 2 ∷ 0 ∷ 5 ∷ 7 ∷ 8 ∷ 9 ∷ 10 ∷ 11 ∷ 12 ∷ 13 ∷ 14 ∷ 15 ∷ 16 ∷ 17 ∷ 18 ∷ 19 ∷ 20 ∷ 21 ∷ 22 ∷ 23 ∷ 24 ∷ []) $
         by ! (loops l₀ l₁ l₂ l₃ l₄ l₅ l₆ l₇ l₈))))))))))
 
-module _ {M : Type 1} (𝓤 : URA M) (H : Heap 𝓤) (A : Atoms 𝓤) (W : Given 𝓤 H A) (mem : Memory → SProp 𝓤) (run : Routine → Fun 𝓤) (𝓣 : Tables 𝓤 H) (known : Triple 𝓤 (𝓣 .C #rules·row-at) (RowAt 𝓤 H A mem run)) where
+module _ {M : Type 1} (𝓤 : URA M) (H : Heap 𝓤) (A : Atoms 𝓤) (W : Given 𝓤 H A) (mem : Memory → SProp 𝓤) (run : Routine → Fun 𝓤) (𝓣 : Tables 𝓤 H) (known : Triple 𝓤 (𝓣 .C #table·row-at) (RowAt 𝓤 H A mem run)) where
   store-walks : Walks 𝓤 H A store′.ended stayed (WpFn 𝓤 H (𝓣 .C) (𝓣 .Λ) code.function) (store′.clauses 𝓤 H A mem run)
   store-walks = walked 𝓤 H A store′.ended stayed (store′.clauses 𝓤 H A mem run) (WpFn 𝓤 H (𝓣 .C) (𝓣 .Λ) code.function) (λ κs. (slice-vals, (uint-vals w64, (ptr-vals, tt)))) (λ κs. (mut-slice-tells (named 0) (κs .0) T.the-row, (uint-tells w64, (shr-tells (named 1) (κs .1 .0) Ws, tt))))
       (λ κs qs bounds a g are. needs 𝓤 ((a .1 .0 ≤ length (a .0 .now)) × (a .1 .0 ≤ 1024)) _ (λ few.
@@ -257,4 +257,4 @@ store-spec 𝓤 H 𝓜 𝓖 𝓡 =
     entered 𝓤 H (tripleOf 𝓤 H (𝓖 .A) store′.signature (store′.spec 𝓤 H (𝓖 .A) (𝓜 .mem) (𝓡 .run)))
     (tables 𝓤 H 𝓜 𝓡 code.env .C) (tables 𝓤 H 𝓜 𝓡 code.env .Λ) #rules·store code.function (code.unfolded 𝓤 H 𝓜 𝓡)
     (store-meets 𝓤 H (𝓖 .A) (givenOf 𝓤 H 𝓜 𝓖) (𝓜 .mem) (𝓡 .run) (tablesOf 𝓤 H 𝓜 (tables 𝓤 H 𝓜 𝓡 code.env))
-    (cited 𝓤 H (RowAt 𝓤 H (𝓖 .A) (𝓜 .mem) (𝓡 .run)) 𝓜 𝓡 code.env #rules·row-at row-at-def.routine code.calls-rules·words·row-at (row-at-thm.met 𝓤 H 𝓜 𝓖 𝓡)))
+    (cited 𝓤 H (RowAt 𝓤 H (𝓖 .A) (𝓜 .mem) (𝓡 .run)) 𝓜 𝓡 code.env #table·row-at row-at-def.routine code.calls-table·words·row-at (row-at-thm.met 𝓤 H 𝓜 𝓖 𝓡)))

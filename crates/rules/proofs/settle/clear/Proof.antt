@@ -4,9 +4,9 @@ use mathlib.Core.Path.{_≡_, ap, _∙_}
 use Prim.Native.Nat.{_-_, _≤_}
 use native.Mathlib.Omega.{arith}
 use lib.ListN.{length, set}
-use Rattle.rules.specs.Words.{rowsIn}
+use Rattle.table.specs.Words.{rowsIn}
 use Rattle.rules.specs.Engine.{Clears}
-use Rattle.rules.proofs.Laws.Words.{length-in}
+use Rattle.table.proofs.Laws.Words.{length-in}
 use Rattle.rules.proofs.Laws.Settle.{clears-none, clears-more}
 use Rattle.rules.proofs.settle.clear.Statement.{statement}
 use Rattle.rules.proofs.settle.clear.Tie as tie

@@ -4,9 +4,9 @@ use mathlib.Core.Path.{_≡_}
 use Prim.Native.Nat.{_-_, _≤_}
 use native.Mathlib.Omega.{arith}
 use lib.ListN.{length}
-use Rattle.rules.specs.Words.{rowsIn}
+use Rattle.table.specs.Words.{rowsIn}
 use Rattle.rules.specs.Engine.{Lowers}
-use Rattle.rules.proofs.Laws.Words.{length-in}
+use Rattle.table.proofs.Laws.Words.{length-in}
 use Rattle.rules.proofs.Laws.Settle.{lowers-none, lowers-more}
 use Rattle.rules.proofs.settle.lower.Statement.{statement}
 use Rattle.rules.proofs.settle.lower.Tie as tie

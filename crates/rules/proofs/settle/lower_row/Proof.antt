@@ -8,7 +8,7 @@ use borrow.Author.Needs.{needs}
 use borrow.Author.Tests.{ne-eqb}
 use Rattle.model.specs.Table.{emptyRow}
 use Rattle.model.specs.Effects.{lowered}
-use Rattle.rules.specs.Words.{rowsIn}
+use Rattle.table.specs.Words.{rowsIn}
 use Rattle.rules.proofs.settle.lower_row.Statement.{statement}
 use Rattle.rules.proofs.settle.lower_row.Tie as tie
 

@@ -8,7 +8,7 @@ use borrow.Author.Needs.{needs}
 use borrow.Author.Tests.{lt-ltb, le-ltb}
 use Rattle.model.specs.Table.{emptyRow}
 use Rattle.model.specs.Effects.{lowered}
-use Rattle.rules.specs.Words.{rowsIn}
+use Rattle.table.specs.Words.{rowsIn}
 use Rattle.rules.proofs.settle.move_row.Statement.{statement}
 use Rattle.rules.proofs.settle.move_row.Tie as tie
 

@@ -2,8 +2,8 @@
 -- Assumes nothing.
 use native.Mathlib.Omega.{arith}
 use borrow.Author.Needs.{needs}
-use Rattle.rules.specs.Words.{rowsIn}
-use Rattle.rules.proofs.Laws.Words.{length-in}
+use Rattle.table.specs.Words.{rowsIn}
+use Rattle.table.proofs.Laws.Words.{length-in}
 use Rattle.rules.proofs.Laws.Steps.{appended-settled}
 use Rattle.rules.proofs.steps.append.Statement.{statement}
 use Rattle.rules.proofs.steps.append.Tie as tie

@@ -14,10 +14,10 @@ use Rattle.model.specs.Derivation.{ancestry, inSubtree}
 use Rattle.model.specs.Table.{derivations}
 use Rattle.model.specs.Refusals.{judge}
 use Rattle.model.specs.Effects.{revoke, afterAccess, rowsAfter}
-use Rattle.rules.specs.Words.{rowsIn}
-use Rattle.rules.specs.Engine.{before, Found}
-use Rattle.rules.proofs.Laws.Words.{length-in}
-use Rattle.rules.proofs.Laws.Judge.{orderly-issued, orderly-few, orderly-rise}
+use Rattle.table.specs.Words.{rowsIn}
+use Rattle.table.specs.Rows.{before, Found}
+use Rattle.table.proofs.Laws.Words.{length-in}
+use Rattle.table.proofs.Laws.Judge.{orderly-issued, orderly-few, orderly-rise}
 use Rattle.rules.proofs.Laws.Steps.{ready, access-rows, access-few, access-ready, access-root, room-create, room-borrow, there-borrow, depth-borrow, next-create, next-borrow, next-read, next-write, next-drop}
 use Rattle.rules.proofs.steps.change.Statement.{statement}
 use Rattle.rules.proofs.steps.change.Tie as tie

@@ -3,9 +3,9 @@
 use mathlib.Core.Path.{sym, ap, _∙_}
 use native.Mathlib.Omega.{arith}
 use Rattle.model.specs.declared.Cap.{Cap}
-use Rattle.rules.specs.Words.{rowsIn}
-use Rattle.rules.proofs.Laws.Find.{found-there}
-use Rattle.rules.proofs.Laws.Ordered.{lookup-place}
+use Rattle.table.specs.Words.{rowsIn}
+use Rattle.table.proofs.Laws.Find.{found-there}
+use Rattle.table.proofs.Laws.Ordered.{lookup-place}
 use Rattle.rules.proofs.steps.depth_at.Statement.{statement}
 use Rattle.rules.proofs.steps.depth_at.Tie as tie
 

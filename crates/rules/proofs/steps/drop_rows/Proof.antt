@@ -6,8 +6,9 @@ use borrow.Author.Needs.{needs}
 use Rattle.model.specs.Derivation.{ancestry, inSubtree}
 use Rattle.model.specs.Table.{derivations}
 use Rattle.model.specs.Effects.{revoke}
-use Rattle.rules.specs.Words.{rowsIn}
-use Rattle.rules.specs.Engine.{before, kept}
+use Rattle.table.specs.Words.{rowsIn}
+use Rattle.table.specs.Rows.{before}
+use Rattle.rules.specs.Engine.{kept}
 use Rattle.rules.proofs.Laws.Settle.{kept-revoke}
 use Rattle.rules.proofs.steps.drop_rows.Statement.{statement}
 use Rattle.rules.proofs.steps.drop_rows.Tie as tie

@@ -5,9 +5,10 @@ use native.Mathlib.Omega.{arith}
 use borrow.Author.Needs.{needs}
 use Rattle.model.specs.declared.Access.the-variants.{Reading}
 use Rattle.model.specs.Effects.{afterAccess}
-use Rattle.rules.specs.Words.{rowsIn}
-use Rattle.rules.specs.Engine.{before, kept}
-use Rattle.rules.proofs.Laws.Words.{length-in}
+use Rattle.table.specs.Words.{rowsIn}
+use Rattle.table.specs.Rows.{before}
+use Rattle.rules.specs.Engine.{kept}
+use Rattle.table.proofs.Laws.Words.{length-in}
 use Rattle.rules.proofs.Laws.Settle.{lowered-settled}
 use Rattle.rules.proofs.Laws.Steps.{read-marks, kept-used}
 use Rattle.rules.proofs.steps.read_rows.Statement.{statement}

@@ -10,9 +10,9 @@ use Rattle.model.specs.Refusals.{judge}
 use Rattle.model.specs.Effects.{newName}
 use Rattle.model.specs.Step.{verdict}
 use Rattle.model.specs.Answers.{verdictOf}
-use Rattle.rules.specs.Words.{rowsIn}
-use Rattle.rules.proofs.Laws.Words.{length-in}
-use Rattle.rules.proofs.Laws.Judge.{orderly-issued}
+use Rattle.table.specs.Words.{rowsIn}
+use Rattle.table.proofs.Laws.Words.{length-in}
+use Rattle.table.proofs.Laws.Judge.{orderly-issued}
 use Rattle.rules.proofs.Laws.Steps.{allowed-zero, stepped-allowed, stepped-refused, orderly-after}
 use Rattle.rules.proofs.steps.step_known.Statement.{statement}
 use Rattle.rules.proofs.steps.step_known.Tie as tie

@@ -4,8 +4,9 @@ use mathlib.Core.Path.{_≡_}
 use borrow.Author.Needs.{needs}
 use Rattle.model.specs.declared.Access.the-variants.{Writing}
 use Rattle.model.specs.Effects.{afterAccess}
-use Rattle.rules.specs.Words.{rowsIn}
-use Rattle.rules.specs.Engine.{before, kept}
+use Rattle.table.specs.Words.{rowsIn}
+use Rattle.table.specs.Rows.{before}
+use Rattle.rules.specs.Engine.{kept}
 use Rattle.rules.proofs.Laws.Steps.{kept-used}
 use Rattle.rules.proofs.steps.write_rows.Statement.{statement}
 use Rattle.rules.proofs.steps.write_rows.Tie as tie

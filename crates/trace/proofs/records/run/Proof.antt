@@ -53,7 +53,7 @@ use Rattle.model.specs.declared.Tally.{Tally}
 use Rattle.model.proofs.Cap as T
 use Rattle.model.proofs.Tally as L
 use Rattle.model.proofs.Tally.Laws as L′
-use Rattle.rules.specs.Words.{rowsOf}
+use Rattle.table.specs.Words.{rowsOf}
 use Rattle.rules.proofs.Laws.Records.{loaded, stored, length-stored}
 use Rattle.rules.proofs.Walks.Shared.{Kept, shares-out, shares-back}
 use Rattle.rules.proofs.Walks.Local.{Ws, arr, lies-in, lies-out}

@@ -4,7 +4,7 @@ use borrow.Author.Needs.{needs}
 use native.Mathlib.Omega.{arith}
 use mathlib.Core.List.{_++_}
 use lib.ListN.{length-append}
-use Rattle.rules.specs.Words.{rowsOf}
+use Rattle.table.specs.Words.{rowsOf}
 use Rattle.listing.specs.Listing.{listing}
 use Rattle.text.proofs.Laws.Write.{writes-none}
 use Rattle.trace.specs.Check.{answerLine}

@@ -9,8 +9,8 @@ use borrow.Author.Needs.{needs}
 use Rattle.model.specs.declared.Tally.{Tally}
 use Rattle.model.specs.declared.Refusal.the-variants.{Disordered}
 use Rattle.model.specs.Table.{inOrder}
-use Rattle.rules.specs.Words.{rowsOf}
-use Rattle.rules.proofs.Laws.Words.{in-first}
+use Rattle.table.specs.Words.{rowsOf}
+use Rattle.table.proofs.Laws.Words.{in-first}
 use Rattle.rules.proofs.Laws.Records.{too-many}
 use Rattle.trace.specs.declared.run.RunAnswer.the-variants.{Refused}
 use Rattle.trace.specs.Run.{runFrom, Runs}
@@ -18,8 +18,8 @@ use Rattle.trace.proofs.run.run_words.Statement.{statement}
 use Rattle.trace.proofs.run.run_words.Tie as tie
 use Rattle.trace.proofs.run.run_words.Reads as reads
 use Rattle.trace.proofs.run.run_words.Lts as lts
-use Rattle.rules.proofs.find.live_count.Reads as live-count-reads
-use Rattle.rules.proofs.ordered.check_order.Reads as check-order-reads
+use Rattle.table.proofs.find.live_count.Reads as live-count-reads
+use Rattle.table.proofs.ordered.check_order.Reads as check-order-reads
 use Rattle.trace.proofs.run.run_text.Reads as run-text-reads
 
 -- a table out of order

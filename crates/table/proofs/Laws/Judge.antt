@@ -1,0 +1,187 @@
+-- The checks of an event in their order: groups of them, one after the other.
+-- Assumes nothing.
+use mathlib.Core.Path.{_≡_, refl, sym, ap, ap₂, _∙_}
+use mathlib.Core.Logic.{_⊎_, inl, inr}
+use mathlib.Core.Bool.{Bool, true, false, cond}
+use mathlib.Core.List.{List, [], _∷_, _++_}
+use Prim.Native.Nat.{ℕ, zero, suc, _+_, _-_, _<_, _≤_}
+use native.Mathlib.Nat.{not-suc-le-zero, le-of-suc-le-suc}
+use native.Mathlib.Omega.{arith}
+use lib.Dec.{eqb, ltb, leb}
+use lib.ListN.{length, getD, take, drop, length-drop}
+use lib.Seq.{length-take-le, getD-take, getD-drop}
+use borrow.Author.Tests.{eqb-true, not-false, ltb-true, ne-eqb, le-ltb, lt-ltb, leb-true, le-leb, lt-leb}
+use Rattle.model.specs.declared.Name.{Name}
+use Rattle.model.specs.declared.NewName.{NewName}
+use Rattle.model.specs.declared.Span.{Span}
+use Rattle.model.specs.declared.Cap.{Cap}
+use Rattle.model.specs.declared.Event.{Event}
+use Rattle.model.specs.declared.Event.the-variants.{Create, Borrow, Read}
+use Rattle.model.specs.declared.Refusal.{Refusal}
+use Rattle.model.specs.declared.Refusal.the-variants.{Disordered, Misspelt, IllegalSpan, Unissued, Ended, OutsideSpan, ReadOnly, TooDeep, NamesSpent, TableFull, BufferTooShort, Misnamed}
+use Rattle.table.specs.declared.judge.Place.{Place}
+use Rattle.table.specs.declared.judge.Place.the-variants.{At, Not}
+use Rattle.model.specs.Lists.{first, any, all}
+use Rattle.model.specs.Values.{legal, inside}
+use Rattle.model.specs.Table.{emptyRow, span, named, liveRows, lookup, isRight, isEmptyRow, rowsInOrder}
+use Rattle.model.specs.Refusals.{notARight, illegalSpan, outsideSpan, readOnly, tooDeep, standing, within, usable, room, checks, refusals, judge}
+use Rattle.model.specs.Step.{verdict}
+use Rattle.model.specs.Answers.{number}
+use Rattle.table.specs.Rows.{before, Rise, LiveRows, Orderly}
+use Rattle.table.specs.Stands.{Passes, saidOf, roomFor}
+use Rattle.model.proofs.Lists.{test, and-both, first-none}
+use Rattle.model.proofs.Rows.{emptyRow-empty}
+use Rattle.model.proofs.Order.{Ordered, ordered, place, right-positive}
+use Rattle.table.proofs.Laws.Prefix.{length-before, place-of}
+use Rattle.table.proofs.Laws.Ordered.{rowsInOrder-rise, rowsInOrder-at, lookup-place, liveRowsFirst-front, live-front}
+
+-- the first of two groups, or of the second where none of the first holds
+pub first-append : (cs ds : List (ℕ × Bool)) → all (λ c. ltb 0 (c .0)) cs ≡ true → first (cs ++ ds) ≡ cond (eqb (first cs) 0) (first ds) (first cs)
+first-append [] ds h = refl
+first-append (c ∷ cs) ds h = let p = and-both (ltb 0 (c .0)) (all (λ c. ltb 0 (c .0)) cs) h in go (test (c .1)) (ltb-true 0 (c .0) (p .0)) (first-append cs ds (p .1))
+  where
+    go : (c .1 ≡ true) ⊎ (c .1 ≡ false) → 0 < c .0 → first (cs ++ ds) ≡ cond (eqb (first cs) 0) (first ds) (first cs)
+        → first (c ∷ cs ++ ds) ≡ cond (eqb (first (c ∷ cs)) 0) (first ds) (first (c ∷ cs))
+    go (inl t) l ih = rw (t, ne-eqb (c .0) 0 (λ (e : c .0 ≡ 0). omega arith))
+    go (inr f) l ih = rw f ih
+
+pub numbered : (x : Refusal) → eqb (number x) 0 ≡ false
+numbered Disordered = refl
+numbered Misspelt = refl
+numbered IllegalSpan = refl
+numbered Unissued = refl
+numbered Ended = refl
+numbered OutsideSpan = refl
+numbered ReadOnly = refl
+numbered TooDeep = refl
+numbered NamesSpent = refl
+numbered TableFull = refl
+numbered BufferTooShort = refl
+numbered Misnamed = refl
+
+-- a name to be used
+module _ (rows : List Cap) (issued : ℕ) (u : Name) (s : Span) (r : ℕ) where
+  pub serve-illegal : legal s ≡ false → first (usable rows issued u s r) ≡ 3
+  serve-illegal h = rw h
+
+  pub serve-not : (x : Refusal) → legal s ≡ true → first (standing rows issued u) ≡ number x → first (usable rows issued u s r) ≡ number x
+  serve-not x h e = rw h (first-append (standing rows issued u) ((6, outsideSpan rows issued u s) ∷ (7, readOnly rows issued u r) ∷ []) refl ∙ rw (e, numbered x))
+
+  module _ (c : Cap) (h : legal s ≡ true) (e : first (standing rows issued u) ≡ 0) (f : lookup (u .0) rows ≡ c) where
+    serve-rest : first (usable rows issued u s r) ≡ first ((6, outsideSpan rows issued u s) ∷ (7, readOnly rows issued u r) ∷ [])
+    serve-rest = rw h (first-append (standing rows issued u) ((6, outsideSpan rows issued u s) ∷ (7, readOnly rows issued u r) ∷ []) refl ∙ rw e)
+
+    pub serve-outside : inside s (span c) ≡ false → first (usable rows issued u s r) ≡ 6
+    serve-outside i = serve-rest ∙ rw (f, i)
+
+    pub serve-above : inside s (span c) ≡ true → c .right < r → first (usable rows issued u s r) ≡ 7
+    serve-above i l = serve-rest ∙ rw (f, i, lt-ltb (c .right) r l)
+
+    pub serve : inside s (span c) ≡ true → r ≤ c .right → first (usable rows issued u s r) ≡ 0
+    serve i l = serve-rest ∙ rw (f, i, le-ltb (c .right) r l)
+
+-- the answer of what a place passes
+pub passed : (T : List Cap) (k x : ℕ) (cs : List (ℕ × Bool)) (p : Place) → Passes T k x cs p → saidOf p ≡ verdict (first cs) 0
+passed T k x cs (At q) h = rw (h .0)
+passed T k x cs (Not r) h = rw (h, numbered r)
+
+-- ---- a table in order
+
+module _ (T : List Cap) (n k issued : ℕ) (l : n ≤ length T) (o : Orderly T n k issued) where
+  abbrev t : List Cap
+  t = take n T
+
+  is : Ordered t issued
+  is = ordered t issued (o .ordered)
+
+  zeros : all isEmptyRow (drop k t) ≡ true
+  zeros = sym (liveRowsFirst-front T n k (o .front) l) ∙ is .rest-is-empty
+
+  pub orderly-live : liveRows t ≡ before T k
+  orderly-live = live-front T n k (o .front) l zeros
+
+  pub orderly-issued : issued ≤ 1000000
+  orderly-issued = leb-true issued 1000000 (is .names-left)
+
+  pub orderly-few : k ≤ 1024
+  orderly-few = omega (arith, o .few, o .front .fits)
+
+  orderly-rowsInOrder : rowsInOrder (suc issued) (before T k) ≡ true
+  orderly-rowsInOrder = rw orderly-live at (is .rise)
+
+  pub orderly-standing : LiveRows T k
+  orderly-standing = record { bound = suc issued; few = orderly-few; filled = o .front .filled; rise = orderly-rowsInOrder }
+
+  pub orderly-rise : Rise T k
+  orderly-rise = rowsInOrder-rise T (suc issued) k (o .front .filled) orderly-rowsInOrder
+
+  pub orderly-long : length t ≡ n
+  orderly-long = length-take-le n T l
+
+  pub orderly-judge : (e : Event) → judge t issued e ≡ first (checks (before T k) issued n e)
+  unfolding judge refusals
+  orderly-judge e = rw (o .ordered) (ap₂ (λ (rows : List Cap) (m : ℕ). first (checks rows issued m e)) orderly-live orderly-long)
+
+  -- the rows after the live ones are zeros
+  pub orderly-zeros : (j : ℕ) → k ≤ j → j < n → getD T j emptyRow ≡ emptyRow
+  orderly-zeros j b m =
+      let e : k + (j - k) ≡ j = omega arith in
+      let a : isEmptyRow (getD (drop k t) (j - k) emptyRow) ≡ true = all-at (drop k t) (j - k) zeros (omega (arith, length-drop k t, orderly-long)) in
+      let d : getD (drop k t) (j - k) emptyRow ≡ getD T j emptyRow = getD-drop k t (j - k) emptyRow ∙ ap (λ (i : ℕ). getD t i emptyRow) e ∙ getD-take n T j emptyRow m in
+      emptyRow-empty (getD T j emptyRow) (ap isEmptyRow (sym d) ∙ a)
+    where
+      all-at : (l : List Cap) (i : ℕ) → all isEmptyRow l ≡ true → i < length l → isEmptyRow (getD l i emptyRow) ≡ true
+      all-at [] i h m = absurd (not-suc-le-zero m)
+      all-at (c ∷ l) zero h m = and-both (isEmptyRow c) (all isEmptyRow l) h .0
+      all-at (c ∷ l) (suc i) h m = all-at l i (and-both (isEmptyRow c) (all isEmptyRow l) h .1) (le-of-suc-le-suc m)
+
+  -- the right of a row is 1 or 2
+  pub orderly-right : (q : ℕ) → q < k → 1 ≤ getD T q emptyRow .right
+  orderly-right q m = right-positive (getD T q emptyRow .right) (place (getD T q emptyRow) (before T q) (rowsInOrder-at T (suc issued) k orderly-rowsInOrder q m .1) .has-right)
+
+  -- a read needs no more than `ro`
+  pub orderly-read : (u : Name) (s : Span) → first (usable (before T k) issued u s 1) ≡ first (within (before T k) issued u s)
+  orderly-read u s = first-append (within (before T k) issued u s) ((7, readOnly (before T k) issued u 1) ∷ []) refl ∙ go (test (eqb (first (within (before T k) issued u s)) 0))
+    where
+      low : (c : Cap) → 1 ≤ c .right → first ((7, ltb (c .right) 1) ∷ []) ≡ 0
+      low c b = rw (le-ltb (c .right) 1 b)
+
+      go : (eqb (first (within (before T k) issued u s)) 0 ≡ true) ⊎ (eqb (first (within (before T k) issued u s)) 0 ≡ false)
+          → cond (eqb (first (within (before T k) issued u s)) 0) (first ((7, readOnly (before T k) issued u 1) ∷ [])) (first (within (before T k) issued u s)) ≡ first (within (before T k) issued u s)
+      go (inl y) =
+          let z : first (within (before T k) issued u s) ≡ 0 = eqb-true (first (within (before T k) issued u s)) 0 y in
+          let p = place-of T k (u .0) (not-false (any (named (u .0)) (before T k)) (first-none (within (before T k) issued u s) refl z 5)) in
+          rw y (ap (λ (c : Cap). first ((7, ltb (c .right) 1) ∷ [])) (lookup-place T k (p .0) (u .0) orderly-rise (p .1 .0) (p .1 .1) .1) ∙ low (getD T (p .0) emptyRow) (orderly-right (p .0) (p .1 .0)) ∙ sym z)
+      go (inr f) = rw f
+
+  -- the answers of the events
+  pub answer-create : (w : NewName) (s : Span) (r y : ℕ) → verdict (first ((2, notARight r) ∷ (3, illegalSpan s) ∷ roomFor n k issued w)) y ≡ verdict (judge t issued (Create w s r)) y
+  answer-create w s r y = ap (λ (j : ℕ). verdict j y) (sym (orderly-judge (Create w s r) ∙ rw (length-before T k)))
+
+  pub answer-other : (e : Event) (y : ℕ) → verdict (first (checks (before T k) issued n e)) y ≡ verdict (judge t issued e) y
+  answer-other e y = ap (λ (j : ℕ). verdict j y) (sym (orderly-judge e))
+
+  pub answer-read : (u : Name) (s : Span) (y : ℕ) → verdict (first (usable (before T k) issued u s 1)) y ≡ verdict (judge t issued (Read u s)) y
+  answer-read u s y = ap (λ (j : ℕ). verdict j y) (orderly-read u s ∙ sym (orderly-judge (Read u s)))
+
+-- ---- a borrow
+
+module _ (T : List Cap) (n k issued : ℕ) (w : NewName) (u : Name) (s : Span) (r : ℕ) (h : isRight r ≡ true) where
+  abbrev rest : List (ℕ × Bool)
+  rest = (8, tooDeep (before T k) issued u) ∷ room (before T k) issued n w
+
+  abbrev first-of : ℕ
+  first-of = first (checks (before T k) issued n (Borrow w u s r))
+
+  pub borrow-not : (x : Refusal) → first (usable (before T k) issued u s r) ≡ number x → first-of ≡ number x
+  borrow-not x e = rw h (first-append (usable (before T k) issued u s r) rest refl ∙ rw (e, numbered x))
+
+  module _ (c : Cap) (e : first (usable (before T k) issued u s r) ≡ 0) (f : lookup (u .0) (before T k) ≡ c) where
+    borrow-rest : first-of ≡ first rest
+    borrow-rest = rw h (first-append (usable (before T k) issued u s r) rest refl ∙ rw e)
+
+    pub borrow-deep : 64 ≤ c .depth → first-of ≡ 8
+    borrow-deep l = borrow-rest ∙ rw (f, le-leb 64 (c .depth) l)
+
+    pub borrow-room : c .depth < 64 → first-of ≡ first (roomFor n k issued w)
+    borrow-room l = borrow-rest ∙ rw (f, lt-leb 64 (c .depth) l, length-before T k)

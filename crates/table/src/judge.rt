@@ -1,0 +1,169 @@
+// Whether an event is allowed, on a table in order: its checks in their order, and the first that holds.
+use crate::find::find;
+use crate::ordered::is_right;
+use crate::spans::is_inside;
+use crate::spans::is_legal;
+use crate::spans::span_of;
+use crate::words::row_at;
+use model::Answer;
+use model::Event;
+use model::Name;
+use model::NewName;
+use model::Refusal;
+use model::Span;
+ghost use mathlib.Core.Path.{_≡_};
+ghost use mathlib.Core.List.{_∷_};
+ghost use Prim.Native.Nat.{suc, _≤_};
+ghost use lib.ListN.{take};
+ghost use Rattle.model.specs.Lists.{first};
+ghost use Rattle.model.specs.Refusals.{notARight, illegalSpan, misnamed, checks};
+ghost use Rattle.model.specs.Effects.{newName};
+ghost use Rattle.model.specs.Step.{verdict};
+ghost use Rattle.model.specs.Refusals;
+ghost use Rattle.model.specs.declared.Event;
+ghost use Rattle.model.specs.Answers.{verdictOf};
+ghost use Rattle.table.specs.Words.{rowsIn};
+ghost use Rattle.table.specs.Rows.{before, Rise, Orderly};
+ghost use Rattle.table.specs.Stands.{Stands, Serves, saidOf, roomFor};
+
+// The place of a name, or why it has none.
+pub enum Place {
+    At(usize),
+    Not(Refusal),
+}
+
+// Refusals 4 and 5.
+fn place_of(words: &[u32; 6144], k: usize, issued: u32, u: Name) -> Place
+    requires { ⌜ (k ≤ 1024) × Rise (rowsIn (now words)) k ⌝ }
+    ensures { λ r. ⌜ Stands (rowsIn (now (words .entry))) k issued u r ⌝ }
+{
+    if u.0 == 0 {
+        return Place::Not(Refusal::Unissued);
+    }
+    if issued < u.0 {
+        return Place::Not(Refusal::Unissued);
+    }
+    let q = find(words, k, u.0);
+    if q < k {
+        Place::At(q)
+    } else {
+        Place::Not(Refusal::Ended)
+    }
+}
+
+// Refusals 3 to 7: a name to be used on a span, with a right.
+fn usable_place(words: &[u32; 6144], k: usize, issued: u32, u: Name, s: Span, right: u32) -> Place
+    requires { ⌜ (k ≤ 1024) × Rise (rowsIn (now words)) k ⌝ }
+    ensures { λ r. ⌜ Serves (rowsIn (now (words .entry))) k issued u s right r ⌝ }
+{
+    if !is_legal(s) {
+        return Place::Not(Refusal::IllegalSpan);
+    }
+    match place_of(words, k, issued, u) {
+        Place::Not(x) => Place::Not(x),
+        Place::At(q) => {
+            let c = row_at(words, q);
+            if !is_inside(s, span_of(c)) {
+                return Place::Not(Refusal::OutsideSpan);
+            }
+            if c.right < right {
+                Place::Not(Refusal::ReadOnly)
+            } else {
+                Place::At(q)
+            }
+        }
+    }
+}
+
+// Allowed with name 0 where there is a place.
+fn place_answer(p: Place) -> Answer
+    ensures { λ r. ⌜ verdictOf r ≡ saidOf p ⌝ }
+{
+    match p {
+        Place::At(_) => Answer::Allowed(Name(0)),
+        Place::Not(x) => Answer::Refused(x),
+    }
+}
+
+// Refusal 12: the written name is not the issued number plus one.
+fn is_misnamed(issued: u32, w: NewName) -> bool
+    requires { ⌜ issued ≤ 1000000 ⌝ }
+    ensures { λ r. ⌜ r ≡ misnamed issued w ⌝ }
+{
+    match w {
+        NewName::Unwritten => false,
+        NewName::Written(x) => x.0 != issued + 1,
+    }
+}
+
+// Refusals 9, 12 and 10, of n rows with k live ones.
+fn room_answer(n: usize, k: usize, issued: u32, w: NewName) -> Answer
+    requires { ⌜ issued ≤ 1000000 ⌝ }
+    ensures { λ r. ⌜ verdictOf r ≡ verdict (first (roomFor n k issued w)) (suc issued) ⌝ }
+{
+    if 1000000 <= issued {
+        return Answer::Refused(Refusal::NamesSpent);
+    }
+    if is_misnamed(issued, w) {
+        return Answer::Refused(Refusal::Misnamed);
+    }
+    if n <= k {
+        return Answer::Refused(Refusal::TableFull);
+    }
+    Answer::Allowed(Name(issued + 1))
+}
+
+fn judge_create(n: usize, k: usize, issued: u32, w: NewName, s: Span, r: u8) -> Answer
+    requires { ⌜ issued ≤ 1000000 ⌝ }
+    ensures { λ a. ⌜ verdictOf a ≡ verdict (first ((2, notARight r) ∷ (3, illegalSpan s) ∷ roomFor n k issued w)) (suc issued) ⌝ }
+{
+    if !is_right(r as u32) {
+        return Answer::Refused(Refusal::Misspelt);
+    }
+    if !is_legal(s) {
+        return Answer::Refused(Refusal::IllegalSpan);
+    }
+    room_answer(n, k, issued, w)
+}
+
+fn judge_borrow(
+    words: &[u32; 6144],
+    n: usize,
+    k: usize,
+    issued: u32,
+    w: NewName,
+    u: Name,
+    s: Span,
+    r: u8,
+) -> Answer
+    requires { ⌜ (k ≤ 1024) × Rise (rowsIn (now words)) k × (issued ≤ 1000000) ⌝ }
+    ensures { λ a. ⌜ verdictOf a ≡ verdict (first (checks (before (rowsIn (now (words .entry))) k) issued n (Event.Borrow w u s r))) (suc issued) ⌝ }
+{
+    if !is_right(r as u32) {
+        return Answer::Refused(Refusal::Misspelt);
+    }
+    match usable_place(words, k, issued, u, s, r as u32) {
+        Place::Not(x) => Answer::Refused(x),
+        Place::At(q) => {
+            let c = row_at(words, q);
+            if 64 <= c.depth {
+                return Answer::Refused(Refusal::TooDeep);
+            }
+            room_answer(n, k, issued, w)
+        }
+    }
+}
+
+// The answer to an event. Internal: the caller shows that the table is in order.
+pub fn judge(words: &[u32; 6144], n: usize, k: usize, issued: u32, e: Event) -> Answer
+    requires { ⌜ Orderly (rowsIn (now words)) n k issued ⌝ }
+    ensures { λ a. ⌜ verdictOf a ≡ verdict (Refusals.judge (take n (rowsIn (now (words .entry)))) issued e) (newName issued e) ⌝ }
+{
+    match e {
+        Event::Create(w, s, r) => judge_create(n, k, issued, w, s, r),
+        Event::Borrow(w, u, s, r) => judge_borrow(words, n, k, issued, w, u, s, r),
+        Event::Read(u, s) => place_answer(usable_place(words, k, issued, u, s, 1)),
+        Event::Write(u, s) => place_answer(usable_place(words, k, issued, u, s, 2)),
+        Event::Drop(u) => place_answer(place_of(words, k, issued, u)),
+    }
+}

@@ -1,0 +1,167 @@
+// Whether a table is in order.
+use crate::find::find_near;
+use crate::spans::is_inside;
+use crate::spans::is_legal;
+use crate::spans::span_of;
+use crate::words::row_at;
+use model::Cap;
+ghost use mathlib.Core.Path.{_≡_};
+ghost use mathlib.Core.Bool.{true};
+ghost use Prim.Native.Nat.{suc, _<_, _≤_};
+ghost use lib.ListN.{length, take, drop};
+ghost use Rattle.model.specs.Lists.{all};
+ghost use Rattle.model.specs.Table.{isEmptyRow, isRight, rowFitsParent, rowInOrder, rowsInOrder, inOrder};
+ghost use Rattle.table.specs.Words.{rowsIn};
+ghost use Rattle.table.specs.Rows.{before, Filled, Rise, Front, Found, PlacesIf};
+
+fn is_empty_row(c: Cap) -> bool
+    ensures { λ r. ⌜ r ≡ isEmptyRow c ⌝ }
+{
+    if c.name.0 != 0 {
+        return false;
+    }
+    if c.parent.0 != 0 {
+        return false;
+    }
+    if c.start.0 != 0 {
+        return false;
+    }
+    if c.length != 0 {
+        return false;
+    }
+    if c.right != 0 {
+        return false;
+    }
+    c.depth == 0
+}
+
+// The rows from k to n are all zeros.
+fn rest_is_empty(words: &[u32; 6144], k: usize, n: usize) -> bool
+    requires { ⌜ (k ≤ n) × (n ≤ 1024) ⌝ }
+    ensures { λ r. ⌜ r ≡ all isEmptyRow (drop k (take n (rowsIn (now (words .entry))))) ⌝ }
+{
+    let mut i = k;
+    while i < n {
+        let c = row_at(words, i);
+        if !is_empty_row(c) {
+            return false;
+        }
+        i += 1;
+    }
+    true
+}
+
+pub fn is_right(r: u32) -> bool
+    ensures { λ b. ⌜ b ≡ isRight r ⌝ }
+{
+    if r == 1 { true } else { r == 2 }
+}
+
+// A row against its parent's.
+fn row_fits_parent(c: Cap, p: Cap) -> bool
+    ensures { λ r. ⌜ r ≡ rowFitsParent c p ⌝ }
+{
+    if !is_inside(span_of(c), span_of(p)) {
+        return false;
+    }
+    if p.right < c.right {
+        return false;
+    }
+    if c.depth as u64 != p.depth as u64 + 1 {
+        return false;
+    }
+    c.depth <= 64
+}
+
+// A row against the i rows before it, where q is its parent's place.
+fn row_in_order(words: &[u32; 6144], i: usize, c: Cap, q: usize) -> bool
+    requires { ⌜ (i ≤ 1024) × Rise (rowsIn (now words)) i × Found (rowsIn (now words)) i (c .parent .0) q ⌝ }
+    ensures { λ r. ⌜ r ≡ rowInOrder c (before (rowsIn (now (words .entry))) i) ⌝ }
+{
+    if !is_legal(span_of(c)) {
+        return false;
+    }
+    if !is_right(c.right) {
+        return false;
+    }
+    if c.parent.0 == 0 {
+        return c.depth == 1;
+    }
+    if q < i {
+        let p = row_at(words, q);
+        row_fits_parent(c, p)
+    } else {
+        false
+    }
+}
+
+// Internal. The slot of a name: of 2,048 names in a row, each has its own.
+pub fn slot(name: u32) -> usize
+    ensures { λ r. ⌜ r < 2048 ⌝ }
+{
+    (name % 2048) as usize
+}
+
+// Internal. A note as a place.
+pub fn wide(x: u16) -> usize
+    ensures { λ r. ⌜ r ≡ x ⌝ }
+{
+    x as usize
+}
+
+// Each of the first k rows against the rows before it. The place of each row's parent is noted.
+fn rows_in_order(words: &[u32; 6144], k: usize, issued: u32, places: &mut [usize; 1024]) -> bool
+    requires { ⌜ (k ≤ 1024) × Filled (rowsIn (now words)) k × (length (now places) ≡ 1024) ⌝ }
+    ensures { λ r. ⌜ (r ≡ rowsInOrder (suc issued) (before (rowsIn (now (words .entry))) k)) × PlacesIf r (rowsIn (now (words .entry))) k (now (places .exit)) ⌝ }
+{
+    // Where names were seen last, for a first guess at a parent's place.
+    let mut seen = [0u16; 2048];
+    let mut last: u32 = 0;
+    let mut i: usize = 0;
+    while i < k {
+        let c = row_at(words, i);
+        if c.name.0 <= last {
+            return false;
+        }
+        let guess = wide(seen[slot(c.parent.0)]);
+        let q = find_near(words, i, c.parent.0, guess);
+        if !row_in_order(words, i, c, q) {
+            return false;
+        }
+        places[i] = q;
+        seen[slot(c.name.0)] = i as u16;
+        last = c.name.0;
+        i += 1;
+    }
+    last <= issued
+}
+
+// The first n rows are in order, where k of them stand before the first with name 0. If they are, the place of each row's parent is noted.
+// Internal: the caller counts the live rows.
+pub fn check_order(
+    words: &[u32; 6144],
+    n: usize,
+    k: usize,
+    issued: u32,
+    places: &mut [usize; 1024],
+) -> bool
+    requires { ⌜ (n ≤ 1024) × Front (rowsIn (now words)) n k × (length (now places) ≡ 1024) ⌝ }
+    ensures { λ r. ⌜ (r ≡ inOrder (take n (rowsIn (now (words .entry)))) issued) × PlacesIf r (rowsIn (now (words .entry))) k (now (places .exit)) ⌝ }
+{
+    if 1000000 < issued {
+        return false;
+    }
+    if !rest_is_empty(words, k, n) {
+        return false;
+    }
+    rows_in_order(words, k, issued, places)
+}
+
+// The same, for a caller that has no use for the places. Internal, in the same way.
+pub fn in_order(words: &[u32; 6144], n: usize, k: usize, issued: u32) -> bool
+    requires { ⌜ (n ≤ 1024) × Front (rowsIn (now words)) n k ⌝ }
+    ensures { λ r. ⌜ r ≡ inOrder (take n (rowsIn (now (words .entry)))) issued ⌝ }
+{
+    let mut places = [0usize; 1024];
+    check_order(words, n, k, issued, &mut places)
+}
