@@ -116,11 +116,11 @@ pub fn is_unknown(event: Event) -> bool {
             .is_some_and(|right| right != READ_ONLY && right != READ_WRITE)
 }
 
-fn is_issued(name: u32, issued: u32) -> bool {
+pub fn is_issued(name: u32, issued: u32) -> bool {
     1 <= name && name <= issued
 }
 
-fn has_ended(rows: &[Row], name: u32, issued: u32) -> bool {
+pub fn has_ended(rows: &[Row], name: u32, issued: u32) -> bool {
     is_issued(name, issued) && find(rows, name).is_none()
 }
 

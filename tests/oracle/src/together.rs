@@ -1,7 +1,7 @@
 //! Card 5: capabilities that are dropped together.
 
-use crate::table::{Row, Tally, in_order, live_rows, refusal, subtrees, without};
-use crate::values::{Event, MAX_GROUP, Refused};
+use crate::table::{Row, Tally, has_ended, in_order, is_issued, live_rows, subtrees, without};
+use crate::values::{MAX_GROUP, Refused};
 
 /// Whether there are 1 to 64 names, strictly rising.
 pub fn is_group(names: &[u32]) -> bool {
@@ -17,8 +17,15 @@ pub fn group_refusal(rows: &[Row], issued: u32, names: &[u32]) -> Option<Refused
     if !is_group(names) {
         return Some(13);
     }
-    let drops = names.iter().map(|name| Event::Drop { name: *name });
-    drops.filter_map(|drop| refusal(rows, issued, drop)).next()
+    names.iter().find_map(|name| {
+        let unissued = !is_issued(*name, issued);
+        let ended = has_ended(rows, *name, issued);
+        match (unissued, ended) {
+            (true, _) => Some(4),
+            (_, true) => Some(5),
+            _ => None,
+        }
+    })
 }
 
 /// Names dropped together on a lent table and tally: 0, or the refusal. It is counted once.
