@@ -61,7 +61,7 @@ enum {
 /* The refusals in the order in which they are judged: where several apply, the first is given. */
 enum kz_refusal {
     KZ_DISORDERED = 1,       /* the table is not in order, or has more than KZ_MAX_ROWS rows */
-    KZ_MISGROUPED = 13,      /* a lent list of names: none, above KZ_MAX_GROUP, or not strictly rising */
+    KZ_MISGROUPED = 13,      /* lent names: none, more than KZ_MAX_GROUP, or not strictly rising */
     KZ_MISSPELT = 2,         /* a line or listing not in the one spelling; an unknown kind or right */
     KZ_ILLEGAL_SPAN = 3,     /* an end above 4,294,967,296 */
     KZ_UNISSUED = 4,         /* name 0, or a name above the issued number */
@@ -134,15 +134,15 @@ uint64_t kz_apply_named(kz_cap *table, size_t rows, kz_tally *tally, uint8_t kin
                         uint8_t right);
 
 /*
- * Capabilities dropped together, as when a function returns: `names` has 1 to KZ_MAX_GROUP names, each
- * above the one before it. All are judged on the table before the call, in their order, and either all
- * are dropped, with their subtrees, or none. So a name may be below another of the list. The table is
- * then as after kz_drop of each in falling order. One name is kz_drop.
+ * Capabilities dropped together, as when a function returns: `names` has 1 to KZ_MAX_GROUP names,
+ * each above the one before it. All are judged on the table before the call, in their order, and
+ * either all are dropped, with their subtrees, or none. So a name may be below another of the list.
+ * The table is then as after kz_drop of each in falling order. One name is kz_drop.
  *
  * Allowed: the value is 0. The tally counts one drop, however many names there are.
- * Refused, with value 0: KZ_DISORDERED changes nothing. KZ_MISGROUPED for any other list, else the first
- * name that is refused gives KZ_UNISSUED or KZ_ENDED; these add one to the refused count and change
- * nothing else.
+ * Refused, with value 0: KZ_DISORDERED changes nothing. KZ_MISGROUPED for any other list, else the
+ * first name that is refused gives KZ_UNISSUED or KZ_ENDED; these add one to the refused count and
+ * change nothing else.
  */
 uint64_t kz_drop_all(kz_cap *table, size_t rows, kz_tally *tally, const uint32_t *names,
                      size_t count);
@@ -198,10 +198,10 @@ uint64_t kz_write_named(uint8_t kind, uint32_t written, uint32_t name, uint32_t 
 uint64_t kz_read_named(const uint8_t *line, size_t line_len, uint32_t fields[6]);
 
 /*
- * Writes the line of names that are dropped together, `(drop NAME .. NAME)`, its newline included, to
- * the start of `out`; the bytes after it stay. It is the same in every text. Of one name it is the line
- * that kz_write_event writes. Any numbers may be written; whether they can be dropped is judged on a
- * table.
+ * Writes the line of names that are dropped together, `(drop NAME .. NAME)`, its newline included,
+ * to the start of `out`; the bytes after it stay. It is the same in every text. Of one name it is
+ * the line that kz_write_event writes. Any numbers may be written; whether they can be dropped is
+ * judged on a table.
  *
  * Allowed: the value is the length written.
  * Refused: KZ_MISGROUPED for a list of no name, of more than KZ_MAX_GROUP, or that does not rise
@@ -210,9 +210,9 @@ uint64_t kz_read_named(const uint8_t *line, size_t line_len, uint32_t fields[6])
 uint64_t kz_write_drop(const uint32_t *names, size_t count, uint8_t *out, size_t out_len);
 
 /*
- * Reads exactly one line of kz_write_drop, its newline included, of one name or more. `names` has room
- * for KZ_MAX_GROUP; those after the names that are read stay. kz_read_event and kz_read_named read such
- * a line only where it has one name.
+ * Reads exactly one line of kz_write_drop, its newline included, of one name or more. `names` has
+ * room for KZ_MAX_GROUP; those after the names that are read stay. kz_read_event and kz_read_named
+ * read such a line only where it has one name.
  *
  * Allowed: the value is the number of names.
  * Refused: KZ_MISSPELT, as of names that do not rise strictly or are too many. `names` is untouched.

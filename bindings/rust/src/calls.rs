@@ -1,8 +1,8 @@
 //! The calls of the C interface, made safe.
 //!
 //! Safety, of each call below: a slice is a pointer to as many elements as its length says, an
-//! exclusive one overlaps nothing else, `Cap` and `Tally` are laid out as the C records are and a `Name`
-//! as its number is, and the library follows no pointer whose length is 0.
+//! exclusive one overlaps nothing else, `Cap` and `Tally` are laid out as the C records are and a
+//! `Name` as its number is, and the library follows no pointer whose length is 0.
 
 use crate::answers::split;
 use crate::{

@@ -1,4 +1,5 @@
-//! The values of document 01 and of cards 1, 2 and 5: spans, rights, events and the numbers of refusals.
+//! The values of document 01 and of cards 1, 2 and 5: spans, rights, events and the numbers of
+//! refusals.
 
 pub const MAX_ROWS: usize = 1_024;
 pub const MAX_NAME: u32 = 1_000_000;
