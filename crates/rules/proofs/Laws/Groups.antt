@@ -1,13 +1,14 @@
 -- Names dropped together: what the engine's parts do, put together.
 -- Assumes nothing.
 use mathlib.Core.Path.{_≡_, refl, sym, ap, ap₂, _∙_}
-use mathlib.Core.Bool.{Bool, true, false}
+use mathlib.Core.Logic.{_⊎_, inl, inr}
+use mathlib.Core.Bool.{true, false}
 use mathlib.Core.List.{List, [], _∷_}
-use Prim.Native.Nat.{ℕ, zero, suc, _≤_}
+use Prim.Native.Nat.{ℕ, zero, suc, _≤_, _<_, min}
 use native.Mathlib.Omega.{arith}
-use lib.Dec.{ltb}
+use lib.Dec.{ltb, leb}
 use lib.ListN.{length, take}
-use borrow.Author.Tests.{eqb-false}
+use borrow.Author.Tests.{eqb-false, leb-true, leb-false}
 use Rattle.model.specs.declared.Name.{Name}
 use Rattle.model.specs.declared.Cap.{Cap}
 use Rattle.model.specs.declared.Tally.{Tally}
@@ -26,7 +27,9 @@ use Rattle.table.specs.Rows.{before, Front, Orderly}
 use Rattle.table.proofs.Laws.Words.{length-in, length-rows, in-first}
 use Rattle.table.proofs.Laws.Judge.{numbered, orderly-live}
 use Rattle.rules.specs.declared.Outcome.{Outcome}
-use Rattle.rules.specs.Steps.{heldIn, Grouped}
+use Rattle.rules.specs.Steps.{heldIn, Grouped, lends}
+use Rattle.model.proofs.Lists.{test}
+use Rattle.rules.proofs.Laws.Records.{stored, loaded-all, stored-all, stored-same, many-disordered, too-many}
 use Rattle.rules.proofs.Laws.Steps.{first-above}
 
 -- in a table in order, no refusal of a group is 1
@@ -106,3 +109,36 @@ orderly-grouped ws n t names k ws′ r live o s f = record {
       ap₂ (λ (rows : List Cap) (y : Tally). inOrder rows (y .issued)) (in-first ws′ n (o .few) ∙ s .table) (s .tally)
       ∙ order-request (heldIn ws n t) (Group names) (ap (λ (rows : List Cap). inOrder rows (t .issued)) (sym (in-first ws n (o .few))) ∙ o .ordered);
 }
+
+-- ---- the lent records
+
+-- what is left of the records, by way of words
+module _ (ys : List Cap) (t : Tally) (names w ws : List ℕ) (r : Outcome) (same : rowsOf w (min (length ys) 1024) ≡ take (min (length ys) 1024) ys) (s : Grouped w (length ys) t names ws r) where
+  abbrev Left : Type 0
+  Left =
+      (stored ys ws (min (length ys) 1024) ≡ afterRequest (lends ys t) (Group names) .table) × (r .tally ≡ afterRequest (lends ys t) (Group names) .tally)
+      × (verdictOf (r .answer) ≡ answerRequest (lends ys t) (Group names))
+
+  left-few : length ys ≤ 1024 → Left
+  left-few l =
+      let h : heldIn w (length ys) t ≡ lends ys t = ap (λ (rows : List Cap). lends rows t) (loaded-all ys l w same) in
+      (stored-all ys l ws ∙ s .table ∙ ap (λ (x : State). afterRequest x (Group names) .table) h, s .tally ∙ ap (λ (x : State). afterRequest x (Group names) .tally) h, s .answer ∙ ap (λ (x : State). answerRequest x (Group names)) h)
+
+  module _ (l : 1024 < length ys) where
+    unchanged : (rows : List Cap) → inOrder rows (t .issued) ≡ false → (afterRequest (lends rows t) (Group names) ≡ lends rows t) × (answerRequest (lends rows t) (Group names) ≡ record { refusal = 1; name = 0 })
+    unfolding judgeGroup groupRefusals afterRequest answerRequest
+    unchanged rows h = (rw h, rw h)
+
+    left-many : Left
+    left-many =
+        let a = unchanged (rowsOf w (length ys)) (too-many w (length ys) (t .issued) l) in
+        let b = unchanged ys (many-disordered ys (t .issued) l) in
+        let q : rowsOf ws (length ys) ≡ rowsOf w (length ys) = s .table ∙ ap (λ (x : State). x .table) (a .0) in
+        (stored-same ys w ws same l q ∙ sym (ap (λ (x : State). x .table) (b .0)), s .tally ∙ ap (λ (x : State). x .tally) (a .0) ∙ sym (ap (λ (x : State). x .tally) (b .0)), s .answer ∙ a .1 ∙ sym (b .1))
+
+  pub left : Left
+  left = go (test (leb (length ys) 1024))
+    where
+      go : (leb (length ys) 1024 ≡ true) ⊎ (leb (length ys) 1024 ≡ false) → Left
+      go (inl y) = left-few (leb-true (length ys) 1024 y)
+      go (inr f) = left-many (leb-false (length ys) 1024 f)
