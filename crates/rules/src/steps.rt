@@ -244,40 +244,41 @@ pub fn drop_known(
 {
     let a = judge_group(words, n, k, t.issued, names);
     match a {
-        Answer::Refused(x) => {
+        Answer::Refused(why) => {
             let outcome = Outcome {
                 tally: count_refused(t),
-                answer: Answer::Refused(x),
+                answer: Answer::Refused(why),
             };
             Progress { outcome, live: k }
         }
         Answer::Allowed(x) => {
-            let live = drop_names(words, n, k, places, names);
+            let left = drop_names(words, n, k, places, names);
             let outcome = Outcome {
                 tally: count_dropped(t),
                 answer: Answer::Allowed(x),
             };
-            Progress { outcome, live }
+            Progress {
+                outcome,
+                live: left,
+            }
         }
     }
 }
 
 // Names dropped together, on any table; above 1,024 rows it is refusal 1.
-pub fn drop_all(words: &mut [u32; 6144], n: usize, t: Tally, names: &[u32]) -> Outcome
+pub fn drop_all(words: &mut [u32; 6144], rows: usize, t: Tally, names: &[u32]) -> Outcome
     requires { ⌜ length (now words) ≡ 6144 ⌝ }
-    ensures { λ r. ⌜ Grouped (now (words .entry)) n t (now (names .entry)) (now (words .exit)) r ⌝ }
+    ensures { λ r. ⌜ Grouped (now (words .entry)) rows t (now (names .entry)) (now (words .exit)) r ⌝ }
 {
-    if n <= 1024 {
-        let k = live_count(words, n);
+    if rows <= 1024 {
+        let k = live_count(words, rows);
         let mut places = [0usize; 1024];
-        if check_order(words, n, k, t.issued, &mut places) {
-            let p = drop_known(words, n, k, &mut places, t, names);
+        if check_order(words, rows, k, t.issued, &mut places) {
+            let p = drop_known(words, rows, k, &mut places, t, names);
             let outcome = p.outcome;
             return outcome;
         }
     }
-    Outcome {
-        tally: t,
-        answer: Answer::Refused(Refusal::Disordered),
-    }
+    let answer = Answer::Refused(Refusal::Disordered);
+    Outcome { tally: t, answer }
 }
