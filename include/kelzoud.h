@@ -7,14 +7,14 @@
  *
  * What a caller owes:
  *   - A pointer is followed by a length, and points to as many elements as the length says. A
- *     pointer whose length is 0 is not followed and may be NULL. `tally` and `fields` have no length
- *     and are never NULL.
+ *     pointer whose length is 0 is not followed and may be NULL. `tally`, `fields` and the `names`
+ *     of kz_read_drop have no length and are never NULL.
  *   - Whatever a call may write overlaps nothing else that the call is given.
  * Nothing else is asked. Every event, table, tally, line, text and listing gets an answer.
  *
  * Every call answers with a number and a value in one 64-bit word: see kz_number and kz_value. The
  * number is 0 when the call was allowed, else that of a refusal. A call that is refused changes
- * nothing that was lent, except as kz_apply, kz_apply_named and kz_run say.
+ * nothing that was lent, except as kz_apply, kz_apply_named, kz_drop_all and kz_run say.
  */
 #ifndef KELZOUD_H
 #define KELZOUD_H
@@ -31,9 +31,11 @@ enum {
     KZ_MAX_ROWS = 1024,     /* rows of a table */
     KZ_MAX_NAME = 1000000,  /* names that are ever given out */
     KZ_MAX_DEPTH = 64,      /* depth of a capability */
+    KZ_MAX_GROUP = 64,      /* names that are dropped together */
     KZ_MAX_INPUT = 65536,   /* bytes of input that kz_check runs */
     KZ_MAX_LINE = 45,       /* bytes of an event line, its newline included */
     KZ_MAX_NAMED_LINE = 56, /* the same where new names are written out */
+    KZ_MAX_DROP_LINE = 711, /* the same of a line of KZ_MAX_GROUP names */
     KZ_MAX_LISTING = 34834, /* bytes of a listing */
     KZ_MAX_CHECK = 34853    /* bytes that kz_check writes */
 };
@@ -59,6 +61,7 @@ enum {
 /* The refusals in the order in which they are judged: where several apply, the first is given. */
 enum kz_refusal {
     KZ_DISORDERED = 1,       /* the table is not in order, or has more than KZ_MAX_ROWS rows */
+    KZ_MISGROUPED = 13,      /* lent names: none, more than KZ_MAX_GROUP, or not strictly rising */
     KZ_MISSPELT = 2,         /* a line or listing not in the one spelling; an unknown kind or right */
     KZ_ILLEGAL_SPAN = 3,     /* an end above 4,294,967,296 */
     KZ_UNISSUED = 4,         /* name 0, or a name above the issued number */
@@ -131,11 +134,26 @@ uint64_t kz_apply_named(kz_cap *table, size_t rows, kz_tally *tally, uint8_t kin
                         uint8_t right);
 
 /*
+ * Capabilities dropped together, as when a function returns: `names` has 1 to KZ_MAX_GROUP names,
+ * each above the one before it. All are judged on the table before the call, in their order, and
+ * either all are dropped, with their subtrees, or none. So a name may be below another of the list.
+ * The table is then as after kz_drop of each in falling order. One name is kz_drop.
+ *
+ * Allowed: the value is 0. The tally counts one drop, however many names there are.
+ * Refused, with value 0: KZ_DISORDERED changes nothing. KZ_MISGROUPED for any other list, else the
+ * first name that is refused gives KZ_UNISSUED or KZ_ENDED; these add one to the refused count and
+ * change nothing else.
+ */
+uint64_t kz_drop_all(kz_cap *table, size_t rows, kz_tally *tally, const uint32_t *names,
+                     size_t count);
+
+/*
  * A run of event lines, until one is refused. The table is then as after the last allowed line.
  *
  * In a text whose first line is KZ_NAMED_HEADER the other lines are those of kz_write_named, else all
  * lines are those of kz_write_event. That first line is counted as a line; it is no event and raises
- * no count. Anywhere else it is refused KZ_MISSPELT.
+ * no count. Anywhere else it is refused KZ_MISSPELT. In both, a line of kz_write_drop drops its names
+ * together, as kz_drop_all does.
  *
  * Allowed: the value is the number of lines. An empty text is a run of no lines.
  * Refused: the value is the number of the refused line, from 1, which adds one to the refused count;
@@ -178,6 +196,28 @@ uint64_t kz_write_named(uint8_t kind, uint32_t written, uint32_t name, uint32_t 
  * right, with 0 for what the kind lacks.
  */
 uint64_t kz_read_named(const uint8_t *line, size_t line_len, uint32_t fields[6]);
+
+/*
+ * Writes the line of names that are dropped together, `(drop NAME .. NAME)`, its newline included,
+ * to the start of `out`; the bytes after it stay. It is the same in every text. Of one name it is
+ * the line that kz_write_event writes. Any numbers may be written; whether they can be dropped is
+ * judged on a table.
+ *
+ * Allowed: the value is the length written.
+ * Refused: KZ_MISGROUPED for a list of no name, of more than KZ_MAX_GROUP, or that does not rise
+ * strictly, else KZ_BUFFER_TOO_SHORT. `out` is untouched.
+ */
+uint64_t kz_write_drop(const uint32_t *names, size_t count, uint8_t *out, size_t out_len);
+
+/*
+ * Reads exactly one line of kz_write_drop, its newline included, of one name or more. `names` has
+ * room for KZ_MAX_GROUP; those after the names that are read stay. kz_read_event and kz_read_named
+ * read such a line only where it has one name.
+ *
+ * Allowed: the value is the number of names.
+ * Refused: KZ_MISSPELT, as of names that do not rise strictly or are too many. `names` is untouched.
+ */
+uint64_t kz_read_drop(const uint8_t *line, size_t line_len, uint32_t names[64]);
 
 /*
  * Writes the listing of a table and its issued number to the start of `out`; the bytes after it

@@ -93,6 +93,38 @@ static void check_named_events(void) {
     CHECK(tally.creates == 1 && tally.borrows == 1 && tally.writes == 1 && tally.refused == 8);
 }
 
+static void check_grouped_events(void) {
+    static const uint32_t both[] = {2, 4};
+    static const uint32_t ended[] = {1, 2, 5};
+    static const uint32_t unissued[] = {1, 9};
+    static const uint32_t falling[] = {3, 1};
+    static const uint32_t last[] = {1, 3};
+    uint32_t many[KZ_MAX_GROUP + 1];
+    kz_cap table[5];
+    kz_tally tally;
+    uint32_t i;
+    memset(table, 0, sizeof table);
+    memset(&tally, 0, sizeof tally);
+    for (i = 0; i <= KZ_MAX_GROUP; i++) many[i] = i + 1;
+    for (i = 1; i <= 3; i++) CHECK(kz_create(table, 5, &tally, 8 * i, 8, KZ_RW) == i);
+    CHECK(kz_borrow(table, 5, &tally, 2, 16, 4, KZ_RW) == 4);
+    CHECK(kz_drop_all(table, 5, &tally, both, 2) == 0);
+    CHECK(table[0].name == 1 && table[1].name == 3 && table[2].name == 0);
+    CHECK(kz_drop_all(table, 5, &tally, ended, 3) == refused(KZ_ENDED, 0));
+    CHECK(kz_drop_all(table, 5, &tally, unissued, 2) == refused(KZ_UNISSUED, 0));
+    CHECK(kz_drop_all(table, 5, &tally, falling, 2) == refused(KZ_MISGROUPED, 0));
+    CHECK(kz_drop_all(table, 5, &tally, many, KZ_MAX_GROUP + 1) == refused(KZ_MISGROUPED, 0));
+    CHECK(kz_drop_all(table, 5, &tally, many, KZ_MAX_GROUP) == refused(KZ_ENDED, 0));
+    CHECK(table[0].name == 1 && table[1].name == 3);
+    CHECK(tally.drops == 1 && tally.refused == 5);
+    table[4].name = 1;
+    CHECK(kz_drop_all(table, 5, &tally, falling, 2) == refused(KZ_DISORDERED, 0));
+    table[4].name = 0;
+    CHECK(kz_drop_all(table, 5, &tally, last, 2) == 0);
+    CHECK(table[0].name == 0);
+    CHECK(tally.issued == 4 && tally.drops == 2 && tally.refused == 5);
+}
+
 static void check_text(void) {
     static const uint8_t trace[] = "(create 0 8 rw)\n(read 1 0 9)\n";
     static const char listing[] = "(issued 1)\n(1 0 8 rw)\n";
@@ -144,10 +176,47 @@ static void check_named_text(void) {
     CHECK(memcmp(out, "(refused 12 3)\n(issued 1)\n(1 0 8 rw)\n", 15 + 22) == 0);
 }
 
+static void check_grouped_text(void) {
+    static const uint8_t trace[] = "(create 0 8 rw)\n(create 8 8 rw)\n(drop 1 2)\n(drop 1 9)\n";
+    static const uint8_t named[] = KZ_NAMED_HEADER "(create 3 0 8 rw)\n(create 4 8 8 rw)\n(drop 3 4)\n";
+    static const uint8_t line[] = "(drop 2 5 9)\n";
+    static const uint32_t falling[] = {9, 5};
+    const size_t length = sizeof line - 1;
+    uint32_t names[KZ_MAX_GROUP];
+    uint32_t fields[6];
+    uint8_t out[64];
+    kz_cap table[2];
+    kz_tally tally;
+    memset(table, 0, sizeof table);
+    memset(&tally, 0, sizeof tally);
+    memset(names, 255, sizeof names);
+    CHECK(kz_read_drop(line, length, names) == 3);
+    CHECK(names[0] == 2 && names[1] == 5 && names[2] == 9 && names[3] == 4294967295u);
+    CHECK(kz_read_event(line, length, fields) == refused(KZ_MISSPELT, 0));
+    CHECK(kz_read_named(line, length, fields) == refused(KZ_MISSPELT, 0));
+    CHECK(kz_write_drop(names, 3, out, sizeof out) == length);
+    CHECK(memcmp(out, line, length) == 0);
+    CHECK(kz_write_drop(names, 3, out, length - 1) == refused(KZ_BUFFER_TOO_SHORT, 0));
+    CHECK(kz_write_drop(falling, 2, out, sizeof out) == refused(KZ_MISGROUPED, 0));
+    CHECK(kz_write_drop(falling, 1, out, sizeof out) == 9);
+    CHECK(kz_read_drop(out, 9, names) == 1);
+    CHECK(names[0] == 9 && names[1] == 5);
+    CHECK(kz_read_event(out, 9, fields) == 0);
+    CHECK(kz_read_drop((const uint8_t *)"(drop 2 2)\n", 11, names) == refused(KZ_MISSPELT, 0));
+    CHECK(names[0] == 9);
+    CHECK(kz_run(table, 2, &tally, trace, sizeof trace - 1) == refused(KZ_ENDED, 4));
+    CHECK(tally.issued == 2 && tally.drops == 1 && tally.refused == 1 && table[0].name == 0);
+    CHECK(kz_run(table, 2, &tally, named, sizeof named - 1) == 4);
+    CHECK(tally.issued == 4 && tally.drops == 2 && table[0].name == 0);
+    CHECK(kz_check(trace, sizeof trace - 1, out, sizeof out) == 14 + 11);
+    CHECK(memcmp(out, "(refused 5 4)\n(issued 2)\n", 14 + 11) == 0);
+}
+
 static void check_null(void) {
     static const char listing[] = "(issued 0)\n";
     const uint8_t *text = (const uint8_t *)listing;
     uint32_t fields[6];
+    uint32_t names[KZ_MAX_GROUP];
     uint8_t out[64];
     kz_tally tally;
     memset(&tally, 0, sizeof tally);
@@ -159,6 +228,12 @@ static void check_null(void) {
     CHECK(kz_write_named(KZ_CREATE, 1, 0, 0, 8, 3, NULL, 0) == refused(KZ_MISSPELT, 0));
     CHECK(kz_write_named(KZ_CREATE, 1, 0, 0, 8, KZ_RW, NULL, 0) == refused(KZ_BUFFER_TOO_SHORT, 0));
     CHECK(kz_read_named(NULL, 0, fields) == refused(KZ_MISSPELT, 0));
+    names[0] = 1;
+    CHECK(kz_drop_all(NULL, 0, &tally, names, 1) == refused(KZ_UNISSUED, 0));
+    CHECK(kz_drop_all(NULL, 0, &tally, NULL, 0) == refused(KZ_MISGROUPED, 0));
+    CHECK(kz_write_drop(NULL, 0, NULL, 0) == refused(KZ_MISGROUPED, 0));
+    CHECK(kz_write_drop(names, 1, NULL, 0) == refused(KZ_BUFFER_TOO_SHORT, 0));
+    CHECK(kz_read_drop(NULL, 0, names) == refused(KZ_MISSPELT, 0));
     CHECK(kz_write_listing(NULL, 0, 0, out, sizeof out) == sizeof listing - 1);
     CHECK(kz_write_listing(NULL, 0, 0, NULL, 0) == refused(KZ_BUFFER_TOO_SHORT, 0));
     CHECK(kz_read_listing(NULL, 0, NULL, 0, &tally) == refused(KZ_MISSPELT, 0));
@@ -171,6 +246,7 @@ static void check_null(void) {
 static void check_longest(void) {
     static kz_cap table[KZ_MAX_ROWS];
     static uint8_t out[KZ_MAX_LISTING];
+    uint32_t names[KZ_MAX_GROUP];
     uint32_t i;
     for (i = 0; i < KZ_MAX_ROWS; i++) {
         table[i].name = KZ_MAX_NAME - KZ_MAX_ROWS + 1 + i;
@@ -184,6 +260,9 @@ static void check_longest(void) {
                          KZ_MAX_LINE) == KZ_MAX_LINE);
     CHECK(kz_write_named(KZ_BORROW, 4294967295u, 4294967295u, 4294967295u, 4294967295u, KZ_RW, out,
                          KZ_MAX_NAMED_LINE) == KZ_MAX_NAMED_LINE);
+    for (i = 0; i < KZ_MAX_GROUP; i++) names[i] = 4294967295u - KZ_MAX_GROUP + 1 + i;
+    CHECK(kz_write_drop(names, KZ_MAX_GROUP, out, KZ_MAX_DROP_LINE) == KZ_MAX_DROP_LINE);
+    CHECK(kz_read_drop(out, KZ_MAX_DROP_LINE, names) == KZ_MAX_GROUP);
 }
 
 int main(void) {
@@ -191,8 +270,10 @@ int main(void) {
     check_events();
     check_reused_memory();
     check_named_events();
+    check_grouped_events();
     check_text();
     check_named_text();
+    check_grouped_text();
     check_null();
     check_longest();
     return failures != 0;

@@ -5,6 +5,7 @@
 //! order once.
 
 mod event;
+mod group;
 mod lines;
 mod listing;
 mod order;
@@ -13,6 +14,7 @@ mod step;
 mod text;
 
 pub use event::{Event, Kind, Refusal};
+pub use group::{MAX_GROUP, drop_all, read_drop, write_drop};
 pub use lines::{Spelling, read_event, write_event};
 pub use listing::{read_listing, write_listing};
 pub use order::{Cap, MAX_DEPTH, MAX_NAME, MAX_ROWS};

@@ -1,6 +1,7 @@
 //! Runs of lines, and what `capcheck` prints.
 
 use crate::event::Refusal;
+use crate::group::{MAX_GROUP, next_group};
 use crate::lines::{Spelling, next_event};
 use crate::listing::write_after;
 use crate::order::{Cap, EMPTY, Index, MAX_ROWS};
@@ -37,14 +38,27 @@ fn run_lines(mut ordered: Ordered, text: &[u8]) -> Answer {
         None => (Spelling::Plain, 0),
     };
     while !reader.is_at_end() {
+        let line = reader;
         let outcome = match next_event(&mut reader, spelling) {
-            Some(event) => ordered.step(event),
-            None => Err(ordered.refuse(Refusal::Misspelt)),
+            Some(event) => ordered.step(event).map(|_| ()),
+            None => {
+                reader = line;
+                drop_next(&mut ordered, &mut reader)
+            }
         };
         outcome.map_err(|refusal| (refusal, allowed + 1))?;
         allowed += 1;
     }
     Ok(allowed)
+}
+
+/// Takes a line that is no event's: one of names that are dropped together, or none at all.
+fn drop_next(ordered: &mut Ordered, reader: &mut Reader) -> Result<(), Refusal> {
+    let mut names = [0; MAX_GROUP];
+    match next_group(reader, &mut names) {
+        Some(count) => ordered.drop_group(&names[..count]),
+        None => Err(ordered.refuse(Refusal::Misspelt)),
+    }
 }
 
 /// Writes what `capcheck` prints for an input: its length, or the refusal.

@@ -55,6 +55,20 @@ impl Ordered<'_> {
         }
     }
 
+    /// Drops the names of a group, with their subtrees, or none.
+    pub(crate) fn drop_group(&mut self, names: &[u32]) -> Result<(), Refusal> {
+        let mut named = [false; MAX_ROWS];
+        for name in names {
+            match self.row_of(*name) {
+                Ok(at) => named[at] = true,
+                Err(refusal) => return Err(self.refuse(refusal)),
+            }
+        }
+        self.tally.count_allowed(Kind::Drop);
+        self.remove(&self.subtrees(&named));
+        Ok(())
+    }
+
     /// Counts a refusal.
     pub(crate) fn refuse(&mut self, refusal: Refusal) -> Refusal {
         self.tally.refused = self.tally.refused.saturating_add(1);
@@ -77,11 +91,16 @@ impl Ordered<'_> {
         Ok((kind, user))
     }
 
-    fn judge_user(&self, event: Event, kind: Kind) -> Result<usize, Refusal> {
-        if event.name == 0 || event.name > self.tally.issued {
+    /// The row of a name.
+    fn row_of(&self, name: u32) -> Result<usize, Refusal> {
+        if name == 0 || name > self.tally.issued {
             return Err(Refusal::Unissued);
         }
-        let at = find(&self.table[..self.index.live], event.name).ok_or(Refusal::Ended)?;
+        find(&self.table[..self.index.live], name).ok_or(Refusal::Ended)
+    }
+
+    fn judge_user(&self, event: Event, kind: Kind) -> Result<usize, Refusal> {
+        let at = self.row_of(event.name)?;
         let user = &self.table[at];
         if kind.has_span() && !event.span().is_inside(user.span()) {
             return Err(Refusal::OutsideSpan);
@@ -175,6 +194,14 @@ impl Ordered<'_> {
         for at in 0..self.index.live {
             let inherited = self.index.parent(at).is_some_and(|parent| marks[parent]);
             marks[at] = inherited || root == Some(at);
+        }
+        marks
+    }
+
+    fn subtrees(&self, roots: &Marks) -> Marks {
+        let mut marks = *roots;
+        for at in 0..self.index.live {
+            marks[at] |= self.index.parent(at).is_some_and(|parent| marks[parent]);
         }
         marks
     }

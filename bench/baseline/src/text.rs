@@ -3,6 +3,7 @@
 /// The most digits of a number.
 const MAX_DIGITS: usize = 10;
 
+#[derive(Clone, Copy)]
 pub(crate) struct Reader<'a> {
     text: &'a [u8],
 }

@@ -11,6 +11,9 @@ use crate::Name;
 pub enum Refusal {
     /// The table is not in order, or has more than [`MAX_ROWS`](crate::MAX_ROWS) rows.
     Disordered = 1,
+    /// A list of names to drop together is empty, longer than [`MAX_GROUP`](crate::MAX_GROUP) or not
+    /// strictly rising.
+    Misgrouped = 13,
     /// A line or listing is not in the one spelling.
     Misspelt = 2,
     /// An end is above 4,294,967,296.
@@ -38,7 +41,7 @@ pub enum Refusal {
 }
 
 impl Refusal {
-    /// The refusal's number, 1 to 12.
+    /// The refusal's number, 1 to 13.
     pub const fn number(self) -> u8 {
         self as u8
     }
@@ -58,6 +61,7 @@ impl Refusal {
             10 => Refusal::TableFull,
             11 => Refusal::BufferTooShort,
             12 => Refusal::Misnamed,
+            13 => Refusal::Misgrouped,
             _ => return None,
         })
     }
@@ -65,6 +69,7 @@ impl Refusal {
     const fn reason(self) -> &'static str {
         match self {
             Refusal::Disordered => "the table is not in order",
+            Refusal::Misgrouped => "the names are not 1 to 64, strictly rising",
             Refusal::Misspelt => "not in the one spelling",
             Refusal::IllegalSpan => "the span is not legal",
             Refusal::Unissued => "the name was never issued",
@@ -130,7 +135,7 @@ pub(crate) fn split(answer: u64) -> Result<u32, (Refusal, u32)> {
     match number {
         0 => Ok(value),
         _ => Err((
-            Refusal::from_number(number).expect("refusals are numbered 1 to 12"),
+            Refusal::from_number(number).expect("refusals are numbered 1 to 13"),
             value,
         )),
     }

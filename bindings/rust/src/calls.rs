@@ -1,11 +1,13 @@
 //! The calls of the C interface, made safe.
 //!
 //! Safety, of each call below: a slice is a pointer to as many elements as its length says, an
-//! exclusive one overlaps nothing else, `Cap` and `Tally` are laid out as the C records are, and the
-//! library follows no pointer whose length is 0.
+//! exclusive one overlaps nothing else, `Cap` and `Tally` are laid out as the C records are and a
+//! `Name` as its number is, and the library follows no pointer whose length is 0.
 
 use crate::answers::split;
-use crate::{ffi, Addr, Answer, Cap, Event, Name, Refusal, Right, RunAnswer, Span, Tally};
+use crate::{
+    ffi, Addr, Answer, Cap, Event, Name, Refusal, Right, RunAnswer, Span, Tally, MAX_GROUP,
+};
 
 /// An event as the C interface passes it, with 0 for what its kind lacks.
 struct Fields {
@@ -98,6 +100,11 @@ pub fn apply(table: &mut [Cap], tally: &mut Tally, event: Event) -> Answer {
             )
         },
     };
+    answer_of(answer)
+}
+
+/// The answer to an event.
+fn answer_of(answer: u64) -> Answer {
     match value(answer) {
         Ok(0) => Answer::Allowed(None),
         Ok(name) => Answer::Allowed(Some(Name(name))),
@@ -105,11 +112,27 @@ pub fn apply(table: &mut [Cap], tally: &mut Tally, event: Event) -> Answer {
     }
 }
 
+/// Capabilities dropped together, as when a function returns: 1 to [`MAX_GROUP`] names, each above the
+/// one before it.
+///
+/// All are judged on the table before the call, in their order, and either all are dropped, with their
+/// subtrees, or none; the first name that is refused gives the refusal. The table is then as after
+/// single drops in falling order. The tally counts one drop.
+///
+/// [`Refusal::Disordered`] changes nothing; any other refusal, [`Refusal::Misgrouped`] among them, adds
+/// one to the refused count and changes nothing else.
+pub fn drop_all(table: &mut [Cap], tally: &mut Tally, names: &[Name]) -> Answer {
+    let rows = table.len();
+    let table = table.as_mut_ptr();
+    answer_of(unsafe { ffi::kz_drop_all(table, rows, tally, names.as_ptr().cast(), names.len()) })
+}
+
 /// A run of event lines on a lent table and tally, until one is refused.
 ///
 /// In a text whose first line is [`NAMED_HEADER`](crate::NAMED_HEADER) the other lines are those of
 /// [`write_named`], else all lines are those of [`write_event`]. That first line is counted as a
-/// line; it is no event and raises no count. Anywhere else it is refused.
+/// line; it is no event and raises no count. Anywhere else it is refused. In both, a line of
+/// [`write_drop`] drops its names together.
 ///
 /// The table is then as after the last allowed line. The refused line adds one to the refused
 /// count; [`Refusal::Disordered`] changes nothing.
@@ -186,6 +209,33 @@ pub fn read_named(line: &[u8]) -> Result<Event, Refusal> {
     let [kind, written, name, start, length, right] = fields;
     let event = event_of(Some(Name(written)), [kind, name, start, length, right]);
     Ok(event.expect("a line that is read has a known kind and right"))
+}
+
+/// Writes the line of names that are dropped together, its newline included, to the start of the
+/// buffer, and answers its length. The bytes after it stay. It is the same in every text, and at most
+/// [`MAX_DROP_LINE`](crate::MAX_DROP_LINE) bytes long.
+///
+/// # Errors
+///
+/// [`Refusal::Misgrouped`] for a list of no name, of more than [`MAX_GROUP`], or that does not rise
+/// strictly, else [`Refusal::BufferTooShort`], with the buffer untouched.
+pub fn write_drop(names: &[Name], out: &mut [u8]) -> Result<usize, Refusal> {
+    let size = out.len();
+    let out = out.as_mut_ptr();
+    let answer = unsafe { ffi::kz_write_drop(names.as_ptr().cast(), names.len(), out, size) };
+    value(answer).map(|length| length as usize)
+}
+
+/// Reads exactly one line of [`write_drop`], its newline included, of one name or more, and answers
+/// how many it has. The entries after them stay.
+///
+/// # Errors
+///
+/// [`Refusal::Misspelt`], with the names untouched.
+pub fn read_drop(line: &[u8], names: &mut [Name; MAX_GROUP]) -> Result<usize, Refusal> {
+    let names = names.as_mut_ptr().cast();
+    let answer = unsafe { ffi::kz_read_drop(line.as_ptr(), line.len(), names) };
+    value(answer).map(|count| count as usize)
 }
 
 /// Writes the listing of a table and its issued number to the start of the buffer, and answers its

@@ -26,6 +26,14 @@ unsafe extern "C" {
         right: u8,
     ) -> u64;
 
+    pub fn kz_drop_all(
+        table: *mut Cap,
+        rows: usize,
+        tally: *mut Tally,
+        names: *const u32,
+        count: usize,
+    ) -> u64;
+
     pub fn kz_run(
         table: *mut Cap,
         rows: usize,
@@ -58,6 +66,10 @@ unsafe extern "C" {
     ) -> u64;
 
     pub fn kz_read_named(line: *const u8, line_len: usize, fields: *mut u32) -> u64;
+
+    pub fn kz_write_drop(names: *const u32, count: usize, out: *mut u8, out_len: usize) -> u64;
+
+    pub fn kz_read_drop(line: *const u8, line_len: usize, names: *mut u32) -> u64;
 
     pub fn kz_write_listing(
         table: *const Cap,

@@ -51,6 +51,20 @@
 //! assert_eq!(answer, RunAnswer::Refused { refusal: Refusal::Misnamed, line: 3 });
 //! ```
 //!
+//! A function's return drops all its objects at once, which a log writes as one line:
+//!
+//! ```
+//! use kelzoud::{drop_all, run, Answer, Cap, Name, Refusal, RunAnswer, Tally};
+//!
+//! let mut table = [Cap::EMPTY; 16];
+//! let mut tally = Tally::default();
+//! let text = b"(create 0 8 rw)\n(create 8 8 rw)\n(create 16 8 rw)\n(drop 1 3)\n";
+//! assert_eq!(run(&mut table, &mut tally, text), RunAnswer::Allowed { lines: 4 });
+//! let answer = drop_all(&mut table, &mut tally, &[Name(1), Name(2)]);
+//! assert_eq!(answer, Answer::Refused(Refusal::Ended));
+//! assert_eq!((table[0].name, tally.drops), (2, 1));
+//! ```
+//!
 //! The calls are those of the C library `libkelzoud.a`, which the build script links from the
 //! directory in `KELZOUD_LIB`. They keep nothing between calls and allocate nothing.
 
@@ -64,8 +78,8 @@ mod values;
 
 pub use answers::{Answer, Refusal, RunAnswer};
 pub use calls::{
-    apply, check, read_event, read_listing, read_named, run, write_event, write_listing,
-    write_named,
+    apply, check, drop_all, read_drop, read_event, read_listing, read_named, run, write_drop,
+    write_event, write_listing, write_named,
 };
 pub use values::{Addr, Cap, Event, Name, Right, Span, Tally};
 
@@ -78,6 +92,9 @@ pub const MAX_NAME: u32 = 1_000_000;
 /// The greatest depth of a capability.
 pub const MAX_DEPTH: u32 = 64;
 
+/// The most names that are dropped together.
+pub const MAX_GROUP: usize = 64;
+
 /// The most bytes of input that [`check`] runs.
 pub const MAX_INPUT: usize = 65_536;
 
@@ -86,6 +103,9 @@ pub const MAX_LINE: usize = 45;
 
 /// The most bytes of a line of [`write_named`], its newline included.
 pub const MAX_NAMED_LINE: usize = 56;
+
+/// The most bytes of a line of [`write_drop`], its newline included.
+pub const MAX_DROP_LINE: usize = 711;
 
 /// The first line of a text in which new names are written out.
 pub const NAMED_HEADER: &[u8] = b"(trace 2)\n";

@@ -2,6 +2,7 @@
 
 /// The name of a capability: 1 to [`MAX_NAME`](crate::MAX_NAME), given out in order, never twice.
 #[derive(Clone, Copy, Debug, PartialEq, Eq, PartialOrd, Ord, Hash)]
+#[repr(transparent)]
 pub struct Name(pub u32);
 
 /// An address.
@@ -152,7 +153,7 @@ pub struct Tally {
     pub reads: u32,
     /// Allowed writes.
     pub writes: u32,
-    /// Allowed drops.
+    /// Allowed drops, names dropped together as one.
     pub drops: u32,
     /// Refused events.
     pub refused: u32,

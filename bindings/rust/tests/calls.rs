@@ -1,9 +1,10 @@
 //! Each call of the safe interface, with its answers turned into enums.
 
 use kelzoud::{
-    apply, check, read_event, read_listing, read_named, run, write_event, write_listing,
-    write_named, Addr, Answer, Cap, Event, Name, Refusal, Right, RunAnswer, Span, Tally, MAX_CHECK,
-    MAX_LINE, MAX_NAMED_LINE, MAX_ROWS, NAMED_HEADER,
+    apply, check, drop_all, read_drop, read_event, read_listing, read_named, run, write_drop,
+    write_event, write_listing, write_named, Addr, Answer, Cap, Event, Name, Refusal, Right,
+    RunAnswer, Span, Tally, MAX_CHECK, MAX_DROP_LINE, MAX_GROUP, MAX_LINE, MAX_NAMED_LINE,
+    MAX_ROWS, NAMED_HEADER,
 };
 
 fn span(start: u32, length: u32) -> Span {
@@ -205,6 +206,62 @@ fn a_create_ends_what_it_touches() {
 }
 
 #[test]
+fn names_are_dropped_together() {
+    let mut table = [Cap::EMPTY; 4];
+    let mut tally = Tally::default();
+    let text = b"(create 0 8 rw)\n(borrow 1 0 4 rw)\n(create 8 8 rw)\n(create 16 8 rw)\n";
+    let lines = 4;
+    assert_eq!(
+        run(&mut table, &mut tally, text),
+        RunAnswer::Allowed { lines }
+    );
+    let mut take = |names: &[u32]| {
+        let names: Vec<Name> = names.iter().copied().map(Name).collect();
+        drop_all(&mut table, &mut tally, &names)
+    };
+    assert_eq!(take(&[1, 3, 5]), Answer::Refused(Refusal::Unissued));
+    assert_eq!(take(&[1, 2, 3]), Answer::Allowed(None));
+    assert_eq!(take(&[3, 4, 5]), Answer::Refused(Refusal::Ended));
+    for list in [&[][..], &[4, 4], &[5, 4], &[7; 65]] {
+        assert_eq!(take(list), Answer::Refused(Refusal::Misgrouped));
+    }
+    assert_eq!((table[0].name, table[1]), (4, Cap::EMPTY));
+    assert_eq!((tally.drops, tally.refused), (1, 6));
+    let answer = run(&mut table, &mut tally, b"(drop 4 5)\n");
+    let refusal = Refusal::Unissued;
+    assert_eq!(answer, RunAnswer::Refused { refusal, line: 1 });
+    table[3].name = 1;
+    let answer = drop_all(&mut table, &mut tally, &[]);
+    assert_eq!(answer, Answer::Refused(Refusal::Disordered));
+    assert_eq!(tally.refused, 7);
+}
+
+#[test]
+fn names_dropped_together_are_written_and_read() {
+    let line = b"(drop 2 5 9)\n";
+    let mut out = [b'?'; MAX_DROP_LINE];
+    let group = [Name(2), Name(5), Name(9)];
+    assert_eq!(write_drop(&group, &mut out), Ok(line.len()));
+    assert!(out.starts_with(b"(drop 2 5 9)\n?"));
+    let short = &mut out[..line.len() - 1];
+    assert_eq!(write_drop(&group, short), Err(Refusal::BufferTooShort));
+    assert_eq!(write_drop(&[], &mut []), Err(Refusal::Misgrouped));
+    let mut names = [Name(7); MAX_GROUP];
+    assert_eq!(read_drop(line, &mut names), Ok(3));
+    assert_eq!((&names[..3], names[3]), (&group[..], Name(7)));
+    assert_eq!(
+        read_drop(b"(drop 5 2)\n", &mut names),
+        Err(Refusal::Misspelt)
+    );
+    assert_eq!(read_event(line), Err(Refusal::Misspelt));
+    assert_eq!(read_drop(b"(drop 8)\n", &mut names), Ok(1));
+    assert_eq!(&names[..2], [Name(8), Name(5)]);
+    let longest: Vec<Name> = (u32::MAX - 63..=u32::MAX).map(Name).collect();
+    assert_eq!(write_drop(&longest, &mut out), Ok(MAX_DROP_LINE));
+    assert_eq!(read_drop(&out, &mut names), Ok(MAX_GROUP));
+}
+
+#[test]
 fn runs_stop_at_a_refusal() {
     let mut table = vec![Cap::EMPTY; 4];
     let mut tally = Tally::default();
@@ -263,12 +320,12 @@ fn capcheck_prints_the_verdict_and_the_listing() {
 
 #[test]
 fn refusals_have_their_numbers() {
-    for number in 1..=12 {
+    for number in 1..=13 {
         let refusal = Refusal::from_number(number).unwrap();
         assert_eq!(u32::from(refusal.number()), number);
     }
     assert_eq!(Refusal::from_number(0), None);
-    assert_eq!(Refusal::from_number(13), None);
+    assert_eq!(Refusal::from_number(14), None);
     assert_eq!(
         Refusal::Ended.to_string(),
         "refusal 5, the capability has ended"

@@ -2,6 +2,7 @@
 use listing::reading::ListingRead;
 use model::Answer;
 use model::Refusal;
+use text::group::GroupRead;
 use text::write::Written;
 use trace::number_of;
 use trace::run::RunAnswer;
@@ -10,6 +11,7 @@ ghost use Prim.Native.Nat.{_≤_, min};
 ghost use Rattle.kelzoud.specs.Interface.{packed, packedVerdict, packedResult, packedRead, packedRun};
 ghost use Rattle.model.specs.Answers.{number, verdictOf};
 ghost use Rattle.listing.specs.ReadInto.{listingAnswer};
+ghost use Rattle.text.specs.Group.{groupAnswer};
 ghost use Rattle.text.specs.Write.{writtenAnswer};
 
 fn least(a: u64, b: u64) -> u64
@@ -19,7 +21,7 @@ fn least(a: u64, b: u64) -> u64
 }
 
 pub fn pack(number: u64, value: u64) -> u64
-    requires { ⌜ number ≤ 12 ⌝ }
+    requires { ⌜ number ≤ 13 ⌝ }
     ensures { λ r. ⌜ r ≡ packed number value ⌝ }
 {
     number * 4294967296 + least(value, 4294967295)
@@ -46,6 +48,15 @@ pub fn packed_written(answer: Written) -> u64
     match answer {
         Written::Length(length) => pack(0, length as u64),
         Written::Refused(refusal) => pack_refusal(refusal, 0),
+    }
+}
+
+pub fn packed_group(answer: GroupRead) -> u64
+    ensures { λ r. ⌜ r ≡ packedResult (groupAnswer answer) ⌝ }
+{
+    match answer {
+        GroupRead::Count(count) => pack(0, count as u64),
+        GroupRead::Refused(refusal) => pack_refusal(refusal, 0),
     }
 }
 

@@ -2,6 +2,7 @@
 use crate::answers::pack;
 use crate::answers::pack_refusal;
 use crate::answers::packed_answer;
+use crate::answers::packed_group;
 use crate::answers::packed_listing;
 use crate::answers::packed_run;
 use crate::answers::packed_written;
@@ -14,6 +15,9 @@ use listing::records::write_listing;
 use model::Cap;
 use model::Tally;
 use rules::records::apply;
+use rules::records::drop_all;
+use text::group::read_group;
+use text::group::write_group;
 use text::read::EventRead;
 use text::read::read_event;
 use text::spelling::Spelling;
@@ -26,8 +30,10 @@ ghost use Rattle.kelzoud.specs.Interface.{packedVerdict, packedResult, p
 ghost use Rattle.listing.specs.ReadInto.{answerInto, stateInto};
 ghost use Rattle.listing.specs.WriteListing.{listingWritten, listingStored};
 ghost use Rattle.model.specs.Step;
+ghost use Rattle.model.specs.Together.{Group, answerRequest, afterRequest};
 ghost use Rattle.rules.specs.Steps.{lends};
 ghost use Rattle.text.specs.Event.{spell, hasSpelling};
+ghost use Rattle.text.specs.Group.{readGroup, countOf, namesAfter, writeGroup};
 ghost use Rattle.text.specs.Read.{readEvent};
 ghost use Rattle.text.specs.Write;
 ghost use Rattle.text.specs.Write.{stored};
@@ -146,6 +152,37 @@ pub extern "C" fn kz_read_named(line: &[u8], fields: &mut [u32; 6]) -> u64
         }
         EventRead::Refused(refusal) => pack_refusal(refusal, 0),
     }
+}
+
+// Names dropped together.
+#[no_mangle]
+pub extern "C" fn kz_drop_all(table: &mut [Cap], tally: &mut Tally, names: &[u32]) -> u64
+    ensures { λ r. ⌜ (now (table .exit) ≡ afterRequest (lends (now (table .entry)) (now (tally .entry))) (Group (now (names .entry))) .table)
+        × (now (tally .exit) ≡ afterRequest (lends (now (table .entry)) (now (tally .entry))) (Group (now (names .entry))) .tally)
+        × (r ≡ packedVerdict (answerRequest (lends (now (table .entry)) (now (tally .entry))) (Group (now (names .entry))))) ⌝ }
+{
+    let answer = drop_all(table, tally, names);
+    packed_answer(answer)
+}
+
+// Writes the line of names that are dropped together.
+#[no_mangle]
+pub extern "C" fn kz_write_drop(names: &[u32], out: &mut [u8]) -> u64
+    ensures { λ r. ⌜ (r ≡ packedResult (writeGroup (now (names .entry)) (now (out .entry)) .answer))
+        × (now (out .exit) ≡ writeGroup (now (names .entry)) (now (out .entry)) .buffer) ⌝ }
+{
+    let answer = write_group(names, out);
+    packed_written(answer)
+}
+
+// Reads a line of names that are dropped together, and answers how many they are.
+#[no_mangle]
+pub extern "C" fn kz_read_drop(line: &[u8], names: &mut [u32; 64]) -> u64
+    ensures { λ r. ⌜ (r ≡ packedResult (countOf (readGroup (now (line .entry)))))
+        × (now (names .exit) ≡ namesAfter (readGroup (now (line .entry))) (now (names .entry))) ⌝ }
+{
+    let answer = read_group(line, names);
+    packed_group(answer)
 }
 
 // Writes the listing of the table that is lent.

@@ -106,3 +106,15 @@ pub ancestry-zero : (n : ℕ) (B : List Derivation) → Falling n B → ancestry
 unfolding ancestry
 ancestry-zero n [] f = refl
 ancestry-zero n (b ∷ B) f = ancestry-past b B 0 (ne-eqb 0 (b .name) (λ (e : 0 ≡ b .name). omega arith)) ∙ ancestry-zero (b .name) B (f .2)
+
+-- the names on an ancestry are at most the name whose it is
+pub ancestry-upto : (n x : ℕ) (B : List Derivation) → Falling n B → All (λ b. b .name ≤ x) (ancestry B x)
+unfolding ancestry
+ancestry-upto n x [] f = tt
+ancestry-upto n x (b ∷ B) f = go (ancestry-upto (b .name) x B (f .2)) (test (eqb x (b .name)))
+  where
+    go : All (λ c. c .name ≤ x) (ancestry B x) → (eqb x (b .name) ≡ true) ⊎ (eqb x (b .name) ≡ false) → All (λ c. c .name ≤ x) (ancestry (b ∷ B) x)
+    go ih (inl e) =
+        let q : x ≡ b .name = eqb-true x (b .name) e in
+        rw (ancestry-here b B x e) (omega arith, All-map _ _ (λ c l. omega arith) (ancestry B (b .parent)) (ancestry-below (b .name) (b .parent) B (f .2)))
+    go ih (inr e) = rw (ancestry-past b B x e) ih

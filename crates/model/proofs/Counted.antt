@@ -1,6 +1,6 @@
--- Each count of the tally is a count of the events answered so, up to 4,294,967,295.
+-- Each count of the tally is a count of the events or requests answered so, up to 4,294,967,295.
 -- Assumes nothing.
-use mathlib.Core.Path.{_≡_, refl, sym, ap, _∙_}
+use mathlib.Core.Path.{_≡_, _∙_}
 use mathlib.Core.Bool.{false, cond}
 use mathlib.Core.List.{List, [], _∷_}
 use Prim.Native.Nat.{ℕ, zero, suc, _+_, _≤_, min}
@@ -13,7 +13,8 @@ use Rattle.model.specs.Lists.{final}
 use Rattle.model.specs.Refusals.{judge}
 use Rattle.model.specs.Step.{State, verdict, answer, outcome, after}
 use Rattle.model.specs.Effects.{newName}
-use Rattle.model.specs.Counted.{Counter, Creates, Borrows, Reads, Writes, Drops, Refusals, countIn, countsFor, howMany}
+use Rattle.model.specs.Together.{Request, Single, Group, judgeGroup, groupOutcome, answerRequest, afterRequest}
+use Rattle.model.specs.Counted.{Counter, Creates, Borrows, Reads, Writes, Drops, Refusals, countIn, countsFor, howMany, countsForRequest, howManyRequests}
 
 stays : (n : ℕ) → n ≤ 4294967295 → n ≡ min (n + 0) 4294967295
 stays n l = omega arith
@@ -76,6 +77,19 @@ module _ (h : State) where
   unfolding after answer
   counted-after c l e = counted c l (judge (h .table) (h .tally .issued) e) e
 
+  -- a group counts as one drop does
+  counted-group : (c : Counter) → countIn c (h .tally) ≤ 4294967295 → (j : ℕ) (names : List ℕ)
+      → countIn c (groupOutcome j h names .tally) ≡ min (countIn c (h .tally) + cond (countsForRequest c (Group names) (verdict j 0)) 1 0) 4294967295
+  counted-group c l zero names = counted c l zero (Drop (record { 0 = 0 }))
+  counted-group c l (suc zero) names = counted c l (suc zero) (Drop (record { 0 = 0 }))
+  counted-group c l (suc (suc j)) names = counted c l (suc (suc j)) (Drop (record { 0 = 0 }))
+
+  counted-request : (c : Counter) → countIn c (h .tally) ≤ 4294967295 → (q : Request)
+      → countIn c (afterRequest h q .tally) ≡ min (countIn c (h .tally) + cond (countsForRequest c q (answerRequest h q)) 1 0) 4294967295
+  unfolding afterRequest answerRequest
+  counted-request c l (Single e) = counted-after c l e
+  counted-request c l (Group names) = counted-group c l (judgeGroup (h .table) (h .tally .issued) names) names
+
 joined : (a x b y : ℕ) → a ≡ min (x + b) 4294967295 → min (a + y) 4294967295 ≡ min (x + (b + y)) 4294967295
 joined a x b y q = omega arith
 
@@ -91,3 +105,13 @@ tallied c (e ∷ es) h l =
     let q = counted-after h c l e in
     tallied c es (after h e) (bounded (countIn c (after h e .tally)) (countIn c (h .tally) + cond (countsFor c e (answer h e)) 1 0) q)
     ∙ joined (countIn c (after h e .tally)) (countIn c (h .tally)) (cond (countsFor c e (answer h e)) 1 0) (howMany c (after h e) es) q
+
+-- The same after a list of requests: a group counts once, whether it is allowed or refused.
+pub tallied-requests : (c : Counter) (qs : List Request) (h : State) → countIn c (h .tally) ≤ 4294967295
+    → countIn c (final afterRequest h qs .tally) ≡ min (countIn c (h .tally) + howManyRequests c h qs) 4294967295
+unfolding howManyRequests
+tallied-requests c [] h l = stays (countIn c (h .tally)) l
+tallied-requests c (q ∷ qs) h l =
+    let e = counted-request h c l q in
+    tallied-requests c qs (afterRequest h q) (bounded (countIn c (afterRequest h q .tally)) (countIn c (h .tally) + cond (countsForRequest c q (answerRequest h q)) 1 0) e)
+    ∙ joined (countIn c (afterRequest h q .tally)) (countIn c (h .tally)) (cond (countsForRequest c q (answerRequest h q)) 1 0) (howManyRequests c (afterRequest h q) qs) e

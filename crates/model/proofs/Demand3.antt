@@ -24,7 +24,7 @@ noted i (Write u s) = refl
 noted i (Drop u) = refl
 
 -- an allowed event's answer has the name that its note makes
-named : (h : State) (i : ℕ) → h .tally .issued ≡ i → (e : Event) → isAllowed (answer h e) ≡ true → answer h e .name ≡ notedName (noteOf i e)
+pub named : (h : State) (i : ℕ) → h .tally .issued ≡ i → (e : Event) → isAllowed (answer h e) ≡ true → answer h e .name ≡ notedName (noteOf i e)
 unfolding answer
 named h i q e a = rw a (ap (λ (k : ℕ). newName k e) q ∙ noted i e)
 

@@ -1,6 +1,6 @@
 -- What a refused event leaves: the table as it was, and of the tally all but the refused count; refusal 1 leaves even that.
 -- Assumes nothing.
-use mathlib.Core.Path.{_≡_, refl, ap, _∙_}
+use mathlib.Core.Path.{_≡_, ap}
 use Prim.Native.Nat.{ℕ, zero, suc}
 use Rattle.model.specs.declared.Event.{Event}
 use Rattle.model.specs.Refusals.{judge}

@@ -18,3 +18,5 @@ pub mod Demand3
 pub mod Traces
 pub mod Rows
 pub mod Fresh
+pub mod Together
+pub mod Requests

@@ -2,14 +2,14 @@
 -- Assumes nothing.
 use mathlib.Core.Path.{_≡_, refl, sym, ap, _∙_}
 use mathlib.Core.Logic.{_⊎_, inl, inr}
-use mathlib.Core.Bool.{Bool, true, false, not, cond, _&&_, _||_, false≢true}
+use mathlib.Core.Bool.{Bool, true, false, not, cond, _&&_, _||_, false≢true, or-true, and-assoc}
 use mathlib.Core.List.{List, [], _∷_, _++_, map, reverse, reverse-cons, append-nil}
 use Prim.Native.Nat.{ℕ, zero, suc, _≤_, _<_}
 use native.Mathlib.Omega.{arith}
 use lib.Dec.{eqb, ltb}
 use lib.ListN.{length, replicate}
 use borrow.Author.Tests.{ltb-true, eqb-true, ne-eqb}
-use Rattle.model.specs.Lists.{consIf, filter, any, all, first, final}
+use Rattle.model.specs.Lists.{consIf, filter, any, all, first, final, answers}
 
 -- ---- tests
 
@@ -129,6 +129,19 @@ module _ {A : Type 0} where
   any-false p [] h = refl
   any-false p (x ∷ l) h = rw (h .0) (any-false p l (h .1))
 
+  pub any-or : (p q : A → Bool) (l : List A) → any (λ x. p x || q x) l ≡ any p l || any q l
+  any-or p q [] = refl
+  any-or p q (x ∷ l) = rw (any-or p q l) (regroup (p x) (q x) (any p l) (any q l))
+    where
+      regroup : (a b c d : Bool) → (a || b) || (c || d) ≡ (a || c) || (b || d)
+      regroup true b c d = refl
+      regroup false true c d = sym (or-true c)
+      regroup false false c d = refl
+
+  pub all-append : (p : A → Bool) (l m : List A) → all p (l ++ m) ≡ all p l && all p m
+  all-append p [] m = refl
+  all-append p (x ∷ l) m = rw (all-append p l m) (sym (and-assoc (p x) (all p l) (all p m)))
+
   pub passes : (p : A → Bool) (l : List A) → All (λ x. p x ≡ true) (filter p l)
   passes p l = All-filter p (λ x. p x ≡ true) l (All-of (λ x. p x ≡ true → p x ≡ true) (λ x e. e) l)
 
@@ -216,3 +229,7 @@ first-zero (c ∷ cs) h = go (test (c .1)) (first-zero cs (p .1))
 pub final-append : {S E : Type 0} (after : S → E → S) (s : S) (es fs : List E) → final after s (es ++ fs) ≡ final after (final after s es) fs
 final-append after s [] fs = refl
 final-append after s (e ∷ es) fs = final-append after (after s e) es fs
+
+pub answers-append : {S E A : Type 0} (after : S → E → S) (answer : S → E → A) (s : S) (es fs : List E) → answers after answer s (es ++ fs) ≡ answers after answer s es ++ answers after answer (final after s es) fs
+answers-append after answer s [] fs = refl
+answers-append after answer s (e ∷ es) fs = cc (answers-append after answer (after s e) es fs)

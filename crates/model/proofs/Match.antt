@@ -165,7 +165,7 @@ module _ (n : ℕ) (h : State) (H : History.History) (m : Match n h H) (e : Even
   pub same-judge : judge (h .table) (h .tally .issued) e ≡ judge (table n (H .notes)) (H .count) e
   same-judge = ap₂ (λ t i. judge t i e) (m .same-table) (m .same-issued)
 
-  same-answer : Step.answer h e ≡ History.answer n H e
+  pub same-answer : Step.answer h e ≡ History.answer n H e
   unfolding Step.answer History.answer
   same-answer = ap₂ Step.verdict same-judge (ap (λ i. Effects.newName i e) (m .same-issued))
 
@@ -181,7 +181,7 @@ module _ (n : ℕ) (h : State) (H : History.History) (m : Match n h H) (e : Even
   match-outcome (suc zero) q = m
   match-outcome (suc (suc j)) q = record { same-table = m .same-table; same-issued = m .same-issued; kept = m .kept }
 
-  match-after : Match n (Step.after h e) (History.after n H e)
+  pub match-after : Match n (Step.after h e) (History.after n H e)
   unfolding Step.after History.after
   match-after = rw same-judge (match-outcome (judge (table n (H .notes)) (H .count) e) refl)
 

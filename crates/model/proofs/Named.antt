@@ -10,7 +10,8 @@ use Rattle.model.specs.declared.Event.the-variants.{Create, Borrow, Read
 use Rattle.model.specs.Refusals.{refusals, judge}
 use Rattle.model.specs.Effects.{rowsAfter, issuedAfter}
 use Rattle.model.specs.Step.{State, outcome, answer, after}
-use Rattle.model.specs.Named.{unnamed, rightlyNamed}
+use Rattle.model.specs.Together.{Request, Single, Group, answerRequest, afterRequest}
+use Rattle.model.specs.Named.{unnamed, rightlyNamed, unnamedRequest, rightlyNamedRequest, issuedAfterRequest}
 use Rattle.model.proofs.Match.{counted-issued}
 
 same-judge : (t : List Cap) (i : ℕ) (e : Event) → judge t i (rightlyNamed i e) ≡ judge t i (unnamed e)
@@ -55,3 +56,20 @@ same-issued i (Drop u) = refl
 pub issued-allowed : (h : State) (e : Event) → answer h (unnamed e) .refusal ≡ 0 → after h (unnamed e) .tally .issued ≡ issuedAfter (h .tally .issued) e
 unfolding answer after
 issued-allowed h e z = rw z (counted-issued (unnamed e) (h .tally) ∙ same-issued (h .tally .issued) e)
+
+-- ---- requests
+
+pub same-request-answer : (h : State) (q : Request) → answerRequest h (rightlyNamedRequest (h .tally .issued) q) ≡ answerRequest h (unnamedRequest q)
+unfolding answerRequest rightlyNamedRequest unnamedRequest
+same-request-answer h (Single e) = same-answer h e
+same-request-answer h (Group names) = refl
+
+pub same-request-after : (h : State) (q : Request) → afterRequest h (rightlyNamedRequest (h .tally .issued) q) ≡ afterRequest h (unnamedRequest q)
+unfolding afterRequest rightlyNamedRequest unnamedRequest
+same-request-after h (Single e) = same-after h e
+same-request-after h (Group names) = refl
+
+pub issued-request-allowed : (h : State) (q : Request) → answerRequest h (unnamedRequest q) .refusal ≡ 0 → afterRequest h (unnamedRequest q) .tally .issued ≡ issuedAfterRequest (h .tally .issued) q
+unfolding answerRequest afterRequest unnamedRequest
+issued-request-allowed h (Single e) z = issued-allowed h e z
+issued-request-allowed h (Group names) z = rw z

@@ -1,4 +1,4 @@
--- Every starred trace goes as document 01 says, by one computed test over their table.
+-- Every starred trace goes as document 01 says, and those of the cards as they say, by one computed test over their table.
 -- Assumes nothing.
 use mathlib.Core.Path.{_≡_, refl}
 use mathlib.Core.Bool.{true}
@@ -9,8 +9,9 @@ use Rattle.model.specs.Table.{liveRows, lentTable, lookup, isEmptyRow, l
 use Rattle.model.specs.Refusals.{refusals, judge}
 use Rattle.model.specs.Effects.{revoke, afterAccess, rowsAfter}
 use Rattle.model.specs.Step.{answer, after}
-use Rattle.model.specs.Traces.{traces, starred, refused, written, empty, reused, printed, holds}
+use Rattle.model.specs.Together.{risesAbove, risesStrictly, isGroup, standings, groupRefusals, judgeGroup, rowsWithout, answerRequest, afterRequest}
+use Rattle.model.specs.Traces.{traces, starred, refused, written, empty, reused, together, printed, holds}
 
 pub traces-hold : all holds traces ≡ true
-unfolding traces starred refused written empty reused printed holds ancestry strike onAncestry reached struck liveRows lentTable lookup isEmptyRow liveRowsFirst rowFitsParent parentInOrder rowInOrder rowsInOrder inOrder refusals judge revoke afterAccess rowsAfter answer after
+unfolding traces starred refused written empty reused together printed holds ancestry strike onAncestry reached struck liveRows lentTable lookup isEmptyRow liveRowsFirst rowFitsParent parentInOrder rowInOrder rowsInOrder inOrder refusals judge revoke afterAccess rowsAfter answer after risesAbove risesStrictly isGroup standings groupRefusals judgeGroup rowsWithout answerRequest afterRequest
 traces-hold = refl

@@ -1,4 +1,4 @@
--- Document 01, "Values": what the counts of the tally are counts of, over a whole list of events.
+-- Document 01, "Values": what the counts of the tally are counts of, over a whole list of events; and card 5, over a list of requests.
 -- Assumes nothing.
 use Prim.Native.Nat.{ℕ, _+_}
 use mathlib.Core.Bool.{Bool, cond, _&&_}
@@ -8,6 +8,7 @@ use Rattle.model.specs.declared.Tally.{Tally}
 use Rattle.model.specs.declared.Event.{Event}
 use Rattle.model.specs.declared.Event.the-variants.{Create, Borrow, Read, Write, Drop}
 use Rattle.model.specs.Step.{Verdict, State, isAllowed, answer, after}
+use Rattle.model.specs.Together.{Request, Single, Group, answerRequest, afterRequest}
 
 -- "the allowed events of each of the five kinds, and refused events"
 pub data Counter : Type 0 where
@@ -44,20 +45,36 @@ place Writes = 4
 place Drops = 5
 place Refusals = 6
 
--- an allowed event of that kind
-abbrev allowedAs : Counter → Event → Verdict → Bool
-allowedAs c e v = isAllowed v && eqb (place c) (place (kindOf e))
+-- allowed, and of that kind
+abbrev allowedAs : Counter → Counter → Verdict → Bool
+allowedAs c kind v = isAllowed v && eqb (place c) (place kind)
 
--- an event with this answer counts: an allowed one for its kind, one refused by 2 or above for the refused events
+-- what is of this kind and has this answer counts: allowed for its kind, refused by 2 or above for the refused events
+abbrev countsAs : Counter → Counter → Verdict → Bool
+countsAs Creates kind v = allowedAs Creates kind v
+countsAs Borrows kind v = allowedAs Borrows kind v
+countsAs Reads kind v = allowedAs Reads kind v
+countsAs Writes kind v = allowedAs Writes kind v
+countsAs Drops kind v = allowedAs Drops kind v
+countsAs Refusals kind v = leb 2 (v .refusal)
+
 abbrev pub countsFor : Counter → Event → Verdict → Bool
-countsFor Creates e v = allowedAs Creates e v
-countsFor Borrows e v = allowedAs Borrows e v
-countsFor Reads e v = allowedAs Reads e v
-countsFor Writes e v = allowedAs Writes e v
-countsFor Drops e v = allowedAs Drops e v
-countsFor Refusals e v = leb 2 (v .refusal)
+countsFor c e v = countsAs c (kindOf e) v
 
 -- how many events of the list count
 unfoldable pub howMany : Counter → State → List Event → ℕ
 howMany c h [] = 0
 howMany c h (e ∷ es) = cond (countsFor c e (answer h e)) 1 0 + howMany c (after h e) es
+
+-- Card 5: "It counts once in the tally." A group is of the kind of a drop.
+abbrev pub kindOfRequest : Request → Counter
+kindOfRequest (Single e) = kindOf e
+kindOfRequest (Group names) = Drops
+
+abbrev pub countsForRequest : Counter → Request → Verdict → Bool
+countsForRequest c q v = countsAs c (kindOfRequest q) v
+
+-- how many requests of the list count
+unfoldable pub howManyRequests : Counter → State → List Request → ℕ
+howManyRequests c h [] = 0
+howManyRequests c h (q ∷ qs) = cond (countsForRequest c q (answerRequest h q)) 1 0 + howManyRequests c (afterRequest h q) qs

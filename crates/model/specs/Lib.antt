@@ -11,5 +11,6 @@ pub mod Step
 pub mod Counted
 pub mod Answers
 pub mod History
+pub mod Together
 pub mod Demand3
 pub mod Traces

@@ -1,4 +1,4 @@
--- Card 1, "names written out": events with their right names, and without names.
+-- Card 1, "names written out": events and requests with their right names, and without names.
 -- Assumes nothing.
 use Prim.Native.Nat.{ℕ, suc}
 use mathlib.Core.List.{List, [], _∷_}
@@ -6,6 +6,7 @@ use Rattle.model.specs.declared.NewName.the-variants.{Unwritten, Written
 use Rattle.model.specs.declared.Event.{Event}
 use Rattle.model.specs.declared.Event.the-variants.{Create, Borrow, Read, Write, Drop}
 use Rattle.model.specs.Effects.{issuedAfter}
+use Rattle.model.specs.Together.{Request, Single, Group}
 
 -- an event that writes no name
 unfoldable pub unnamed : Event → Event
@@ -27,3 +28,20 @@ rightlyNamed issued (Drop u) = Drop u
 unfoldable pub allRightlyNamed : ℕ → List Event → List Event
 allRightlyNamed issued [] = []
 allRightlyNamed issued (e ∷ es) = rightlyNamed issued e ∷ allRightlyNamed (issuedAfter issued e) es
+
+-- Card 5: the same of requests. Names dropped together make none.
+unfoldable pub unnamedRequest : Request → Request
+unnamedRequest (Single e) = Single (unnamed e)
+unnamedRequest (Group names) = Group names
+
+unfoldable pub rightlyNamedRequest : ℕ → Request → Request
+rightlyNamedRequest issued (Single e) = Single (rightlyNamed issued e)
+rightlyNamedRequest issued (Group names) = Group names
+
+abbrev pub issuedAfterRequest : ℕ → Request → ℕ
+issuedAfterRequest issued (Single e) = issuedAfter issued e
+issuedAfterRequest issued (Group names) = issued
+
+unfoldable pub allRightlyNamedRequests : ℕ → List Request → List Request
+allRightlyNamedRequests issued [] = []
+allRightlyNamedRequests issued (q ∷ qs) = rightlyNamedRequest issued q ∷ allRightlyNamedRequests (issuedAfterRequest issued q) qs

@@ -1,6 +1,6 @@
 -- Document 01, "Eleven ways to be turned down", of an event, and card 1: the conditions 1 to 10 and 12, and which of them each event
 -- meets.
--- Assumes nothing. (2 is here in its half about events; its other half, and 11, are of the text.)
+-- Assumes nothing. (2 is here in its half about events; its other half, and 11, are of the text; 13 is in Together.)
 use Prim.Native.Nat.{ℕ, suc}
 use mathlib.Core.Bool.{Bool, false, not, cond, _||_}
 use mathlib.Core.List.{List, [], _∷_, _++_}
@@ -86,9 +86,9 @@ module _ (rows : List Cap) (issued : ℕ) where
   checks size (Write u s) = usable u s 2
   checks size (Drop u) = standing u
 
--- The numbers of refusals in order of precedence.
+-- The numbers of refusals in order of precedence; card 5: 13 is "after 1".
 abbrev pub precedence : List ℕ
-precedence = 1 ∷ 2 ∷ 3 ∷ 4 ∷ 5 ∷ 6 ∷ 7 ∷ 8 ∷ 9 ∷ 12 ∷ 10 ∷ 11 ∷ []
+precedence = 1 ∷ 13 ∷ 2 ∷ 3 ∷ 4 ∷ 5 ∷ 6 ∷ 7 ∷ 8 ∷ 9 ∷ 12 ∷ 10 ∷ 11 ∷ []
 
 -- the place of a number among others, from 1, or behind them
 abbrev pub placeIn : List ℕ → ℕ → ℕ

@@ -1,5 +1,5 @@
--- Document 01, "Traces to try", those with a star; "Eleven ways to be turned down", the examples that are events; cards 1, 2 and 4; and
--- capcheck's example.
+-- Document 01, "Traces to try", those with a star; "Eleven ways to be turned down", the examples that are events; cards 1, 2, 4 and
+-- 5; and capcheck's example.
 -- One table, and one computed proof over it (proofs/Traces).
 -- Assumes nothing.
 use Prim.Native.Nat.{ℕ, zero, suc}
@@ -10,14 +10,14 @@ use Rattle.model.specs.declared.Span.{Span}
 use Rattle.model.specs.declared.Cap.{Cap}
 use Rattle.model.specs.declared.Tally.{Tally}
 use Rattle.model.specs.declared.NewName.the-variants.{Unwritten, Written}
-use Rattle.model.specs.declared.Event.{Event}
 use Rattle.model.specs.declared.Event.the-variants.{Create, Borrow, Read, Write, Drop}
 use Rattle.model.specs.Lists.{answers, final}
 use Rattle.model.specs.Table.{row, emptyRow, liveRows}
 use Rattle.model.specs.Counts.{tally}
-use Rattle.model.specs.Step.{Verdict, State, initial, answer, after}
+use Rattle.model.specs.Step.{Verdict, State, initial}
+use Rattle.model.specs.Together.{Request, Single, Group, answerRequest, afterRequest}
 
--- ---- events as the text spells them
+-- ---- requests, as the text spells them
 
 abbrev ro : ℕ
 ro = 1
@@ -28,27 +28,27 @@ RW = 2
 abbrev span : ℕ → ℕ → Span
 span start length = record { start = record { 0 = start }; length = length }
 
-abbrev create : ℕ → ℕ → ℕ → Event
-create start length right = Create Unwritten (span start length) right
+abbrev create : ℕ → ℕ → ℕ → Request
+create start length right = Single (Create Unwritten (span start length) right)
 
-abbrev borrow : ℕ → ℕ → ℕ → ℕ → Event
-borrow name start length right = Borrow Unwritten (record { 0 = name }) (span start length) right
+abbrev borrow : ℕ → ℕ → ℕ → ℕ → Request
+borrow name start length right = Single (Borrow Unwritten (record { 0 = name }) (span start length) right)
 
-abbrev read : ℕ → ℕ → ℕ → Event
-read name start length = Read (record { 0 = name }) (span start length)
+abbrev read : ℕ → ℕ → ℕ → Request
+read name start length = Single (Read (record { 0 = name }) (span start length))
 
-abbrev write : ℕ → ℕ → ℕ → Event
-write name start length = Write (record { 0 = name }) (span start length)
+abbrev write : ℕ → ℕ → ℕ → Request
+write name start length = Single (Write (record { 0 = name }) (span start length))
 
-abbrev drop : ℕ → Event
-drop name = Drop (record { 0 = name })
+abbrev drop : ℕ → Request
+drop name = Single (Drop (record { 0 = name }))
 
 -- with the name written out
-abbrev createNamed : ℕ → ℕ → ℕ → ℕ → Event
-createNamed new start length right = Create (Written (record { 0 = new })) (span start length) right
+abbrev createNamed : ℕ → ℕ → ℕ → ℕ → Request
+createNamed new start length right = Single (Create (Written (record { 0 = new })) (span start length) right)
 
-abbrev borrowNamed : ℕ → ℕ → ℕ → ℕ → ℕ → Event
-borrowNamed new name start length right = Borrow (Written (record { 0 = new })) (record { 0 = name }) (span start length) right
+abbrev borrowNamed : ℕ → ℕ → ℕ → ℕ → ℕ → Request
+borrowNamed new name start length right = Single (Borrow (Written (record { 0 = new })) (record { 0 = name }) (span start length) right)
 
 -- ---- traces
 
@@ -56,21 +56,21 @@ borrowNamed new name start length right = Borrow (Written (record { 0 = new })) 
 -- their rights
 pub record Trace : Type 0 where
   pub lent : State
-  pub lines : List (Event × ℕ × ℕ)
+  pub lines : List (Request × ℕ × ℕ)
   pub left : List (ℕ × ℕ)
 
-abbrev from : State → List (Event × ℕ × ℕ) → List (ℕ × ℕ) → Trace
+abbrev from : State → List (Request × ℕ × ℕ) → List (ℕ × ℕ) → Trace
 from lent lines left = record { lent = lent; lines = lines; left = left }
 
 abbrev noCounts : ℕ → Tally
 noCounts issued = tally issued 0 0 0 0 0 0
 
 -- from so many rows, all zeros
-abbrev trace : ℕ → List (Event × ℕ × ℕ) → List (ℕ × ℕ) → Trace
+abbrev trace : ℕ → List (Request × ℕ × ℕ) → List (ℕ × ℕ) → Trace
 trace rows = from (initial rows (noCounts 0))
 
 -- the same after the line `(create 0 64 rw)`
-abbrev created : ℕ → List (Event × ℕ × ℕ) → List (ℕ × ℕ) → Trace
+abbrev created : ℕ → List (Request × ℕ × ℕ) → List (ℕ × ℕ) → Trace
 created rows lines left = trace rows ((create 0 64 RW, 0, 1) ∷ lines) left
 
 unfoldable pub starred : List Trace
@@ -101,7 +101,7 @@ starred =
     ∷ []
 
 -- n borrows of `0 8 rw`, each from the newest name, which is x at first
-abbrev nested : ℕ → ℕ → List (Event × ℕ × ℕ)
+abbrev nested : ℕ → ℕ → List (Request × ℕ × ℕ)
 nested zero x = []
 nested (suc n) x = (borrow x 0 8 RW, 0, suc x) ∷ nested n (suc x)
 
@@ -172,6 +172,25 @@ reused =
     ∷ created 4 ((create 8 0 RW, 0, 2) ∷ (create 8 1 RW, 0, 3) ∷ []) ((2, RW) ∷ (3, RW) ∷ [])
     ∷ []
 
+-- Card 5: siblings, a root with one of its descendants, and the card's three of nine roots are dropped together; another root stays.
+-- Names are judged in the order written: 2 ended before 9 not issued is 5, and 0 before 2 ended is 4. Nothing is dropped where a later
+-- name is refused. No names, names that do not rise strictly, and 65 of them are 13, before 4 and after 1; 64 are not. One name is the
+-- old drop.
+unfoldable pub together : List Trace
+together =
+    created 1024 ((borrow 1 0 8 RW, 0, 2) ∷ (borrow 1 8 8 RW, 0, 3) ∷ (borrow 1 16 8 RW, 0, 4) ∷ (Group (2 ∷ 4 ∷ []), 0, 0) ∷ (read 4 16 8, 5, 0) ∷ []) ((1, RW) ∷ (3, RW) ∷ [])
+    ∷ created 1024 ((create 64 64 RW, 0, 2) ∷ (borrow 1 0 32 RW, 0, 3) ∷ (borrow 3 0 8 RW, 0, 4) ∷ (borrow 4 0 8 RW, 0, 5) ∷ (Group (1 ∷ 4 ∷ []), 0, 0) ∷ []) ((2, RW) ∷ [])
+    ∷ created 1024
+    ((create 64 8 RW, 0, 2) ∷ (create 72 8 RW, 0, 3) ∷ (create 80 8 RW, 0, 4) ∷ (create 88 8 RW, 0, 5) ∷ (create 96 8 RW, 0, 6) ∷ (create 104 8 RW, 0, 7) ∷ (create 112 8 RW, 0, 8) ∷ (create 120 8 RW, 0, 9) ∷ (Group (2 ∷ 5 ∷ 9 ∷ []), 0, 0) ∷ [])
+    ((1, RW) ∷ (3, RW) ∷ (4, RW) ∷ (6, RW) ∷ (7, RW) ∷ (8, RW) ∷ [])
+    ∷ created 1024 ((borrow 1 0 8 RW, 0, 2) ∷ (drop 2, 0, 0) ∷ (Group (2 ∷ 9 ∷ []), 5, 0) ∷ (Group (0 ∷ 2 ∷ []), 4, 0) ∷ []) ((1, RW) ∷ [])
+    ∷ created 1024 ((borrow 1 0 8 RW, 0, 2) ∷ (Group (1 ∷ 2 ∷ 3 ∷ []), 4, 0) ∷ (drop 2, 0, 0) ∷ (Group (1 ∷ 2 ∷ []), 5, 0) ∷ []) ((1, RW) ∷ [])
+    ∷ created 1024 ((Group [], 13, 0) ∷ (Group (9 ∷ 8 ∷ []), 13, 0) ∷ (Group (1 ∷ 1 ∷ []), 13, 0) ∷ []) ((1, RW) ∷ [])
+    ∷ created 1024 ((Group (map (λ p. p .0) (names 65 1)), 13, 0) ∷ (Group (map (λ p. p .0) (names 64 1)), 4, 0) ∷ []) ((1, RW) ∷ [])
+    ∷ from (record { table = namedThree ∷ namedThree ∷ []; tally = noCounts 3 }) ((Group [], 1, 0) ∷ []) ((3, RW) ∷ (3, RW) ∷ [])
+    ∷ created 1024 ((Group (1 ∷ []), 0, 0) ∷ (Group (1 ∷ []), 5, 0) ∷ []) []
+    ∷ []
+
 -- "The bracket text": what capcheck is shown on
 unfoldable pub printed : Trace
 printed =
@@ -180,12 +199,12 @@ printed =
     ((1, RW) ∷ (2, ro) ∷ (3, RW) ∷ [])
 
 unfoldable pub traces : List Trace
-traces = starred ++ (refused ++ (written ++ (empty ++ (reused ++ (printed ∷ [])))))
+traces = starred ++ (refused ++ (written ++ (empty ++ (reused ++ (together ++ (printed ∷ []))))))
 
 -- ---- when a trace goes as it says
 
 -- the answers are those of the lines
-abbrev sameAnswers : List Verdict → List (Event × ℕ × ℕ) → Bool
+abbrev sameAnswers : List Verdict → List (Request × ℕ × ℕ) → Bool
 sameAnswers [] [] = true
 sameAnswers [] (l ∷ lines) = false
 sameAnswers (a ∷ rest) [] = false
@@ -198,8 +217,8 @@ sameRights [] (l ∷ left) = false
 sameRights (c ∷ rows) [] = false
 sameRights (c ∷ rows) (l ∷ left) = eqb (c .name .0) (l .0) && eqb (c .right) (l .1) && sameRights rows left
 
-abbrev eventsOf : Trace → List Event
-eventsOf t = map (λ l. l .0) (t .lines)
+abbrev requestsOf : Trace → List Request
+requestsOf t = map (λ l. l .0) (t .lines)
 
 unfoldable pub holds : Trace → Bool
-holds t = sameAnswers (answers after answer (t .lent) (eventsOf t)) (t .lines) && sameRights (reverse (liveRows (final after (t .lent) (eventsOf t) .table))) (t .left)
+holds t = sameAnswers (answers afterRequest answerRequest (t .lent) (requestsOf t)) (t .lines) && sameRights (reverse (liveRows (final afterRequest (t .lent) (requestsOf t) .table))) (t .left)

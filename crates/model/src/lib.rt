@@ -88,6 +88,8 @@ pub enum Refusal {
     BufferTooShort,
     // 12, between 9 and 10: the written name is not the issued number plus one.
     Misnamed,
+    // 13, after 1: a lent list of names that is empty, longer than 64 or not strictly rising.
+    Misgrouped,
 }
 
 // The answer to an event: allowed, with the new name of a create or borrow and name 0 of the others; or refused.

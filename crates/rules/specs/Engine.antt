@@ -55,6 +55,15 @@ ownOfAccess T onLine a s i = own a s (span (getD T i emptyRow)) (eqb (getD onLin
 abbrev pub ownOfDrop : ℕ → ℕ → ℕ
 ownOfDrop q i = cond (eqb i q) 2 0
 
+-- those of names dropped together: 2 at each of them
+abbrev pub ownOfNames : List Cap → List ℕ → ℕ → ℕ
+ownOfNames T names i = cond (any (λ u. eqb u (nameAt T i)) names) 2 0
+
+-- these are the own marks of the first k rows
+pub record Owned (T : List Cap) (k : ℕ) (names owned : List ℕ) : Type 0 where
+  pub long : length owned ≡ 1025
+  pub each : (i : ℕ) → i < k → getD owned i 0 ≡ ownOfNames T names i
+
 -- each mark is the greater of the row's own and its parent's
 pub record Spread (T : List Cap) (k : ℕ) (owned : ℕ → ℕ) (marks : List ℕ) : Type 0 where
   pub child : (i q : ℕ) → i < k → q < i → nameAt T q ≡ parentAt T i → getD marks i 0 ≡ max (owned i) (getD marks q 0)

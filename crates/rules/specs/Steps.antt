@@ -15,6 +15,7 @@ use Rattle.model.specs.Effects
 use Rattle.model.specs.Counts
 use Rattle.model.specs.Step
 use Rattle.model.specs.Answers.{verdictOf}
+use Rattle.model.specs.Together.{Group, answerRequest, afterRequest}
 use Rattle.table.specs.Words.{rowsOf}
 
 -- what the words and the tally lend
@@ -25,6 +26,13 @@ pub record Stepped (ws : List ℕ) (n : ℕ) (t : Tally) (e : Event) (ws′ : Li
   pub table : rowsOf ws′ n ≡ after (heldIn ws n t) e .table
   pub tally : r .tally ≡ after (heldIn ws n t) e .tally
   pub answer : verdictOf (r .answer) ≡ Step.answer (heldIn ws n t) e
+  pub long : length ws′ ≡ 6144
+
+-- names dropped together
+pub record Grouped (ws : List ℕ) (n : ℕ) (t : Tally) (names ws′ : List ℕ) (r : Outcome) : Type 0 where
+  pub table : rowsOf ws′ n ≡ afterRequest (heldIn ws n t) (Group names) .table
+  pub tally : r .tally ≡ afterRequest (heldIn ws n t) (Group names) .tally
+  pub answer : verdictOf (r .answer) ≡ answerRequest (heldIn ws n t) (Group names)
   pub long : length ws′ ≡ 6144
 
 -- what the records lend

@@ -15,7 +15,8 @@ ghost use Rattle.model.specs.Strike.{isEnd, isLower, struck};
 ghost use Rattle.model.specs.Derivation.{ancestry, inSubtree};
 ghost use Rattle.table.specs.Words.{rowsIn};
 ghost use Rattle.table.specs.Rows.{before, Rise, Places, LiveRows};
-ghost use Rattle.rules.specs.Engine.{OnAncestry, weight, own, ownOfAccess, ownOfDrop, Marked, Spread, Downward};
+ghost use Rattle.model.specs.Together.{inSubtrees};
+ghost use Rattle.rules.specs.Engine.{OnAncestry, weight, own, ownOfAccess, ownOfDrop, Owned, Marked, Spread, Downward};
 
 fn effect_mark(a: Access) -> u8
     ensures { λ r. ⌜ r ≡ weight (Rattle.model.specs.Strike.effectOf a) ⌝ }
@@ -140,4 +141,55 @@ pub fn marks_of_drop(words: &[u32; 6144], k: usize, places: &[usize; 1024], u: u
 {
     let q = find(words, k, u);
     spread_drop(words, k, places, q)
+}
+
+// The rows of names have 2. A name that is not there is noted behind the rows.
+fn own_of_names(words: &[u32; 6144], k: usize, names: &[u32]) -> [u8; 1025]
+    requires { ⌜ LiveRows (rowsIn (now words)) k ⌝ }
+    ensures { λ r. ⌜ Owned (rowsIn (now (words .entry))) k (now (names .entry)) r ⌝ }
+{
+    let mut owned = [0u8; 1025];
+    let mut i = names.len();
+    while 0 < i {
+        i -= 1;
+        let q = find(words, k, names[i]);
+        owned[q] = 2;
+    }
+    owned
+}
+
+// The marks of a drop of all rows that have 2: their subtrees go, in one pass.
+fn spread_names(
+    words: &[u32; 6144],
+    k: usize,
+    places: &[usize; 1024],
+    owned: &[u8; 1025],
+) -> [u8; 1024]
+    requires { ⌜ (k ≤ 1024) × Rise (rowsIn (now words)) k × Places (rowsIn (now words)) k (now places) ⌝ }
+    ensures { λ r. ⌜ Spread (rowsIn (now (words .entry))) k (λ i. getD (now (owned .entry)) i 0) r ⌝ }
+{
+    let mut marks = [0u8; 1024];
+    let mut i: usize = 0;
+    while i < k {
+        let up = mark_below(&marks, places[i], i);
+        marks[i] = larger(owned[i], up);
+        i += 1;
+    }
+    marks
+}
+
+// The marks of names dropped together.
+pub fn marks_of_names(
+    words: &[u32; 6144],
+    k: usize,
+    places: &[usize; 1024],
+    names: &[u32],
+) -> [u8; 1024]
+    requires { ⌜ LiveRows (rowsIn (now words)) k × Places (rowsIn (now words)) k (now places) ⌝ }
+    ensures { λ r. ⌜ Marked (rowsIn (now (words .entry))) k r
+        (λ x. inSubtrees (now (names .entry)) (ancestry (derivations (before (rowsIn (now (words .entry))) k)) x)) (λ x. false)
+        × Downward (rowsIn (now (words .entry))) k r ⌝ }
+{
+    let owned = own_of_names(words, k, names);
+    spread_names(words, k, places, &owned)
 }

@@ -1,4 +1,5 @@
 // The lent table and tally: records to words and back.
+use crate::steps;
 use crate::steps::step;
 use model::Answer;
 use model::Cap;
@@ -11,6 +12,7 @@ ghost use mathlib.Core.List.{_++_};
 ghost use Prim.Native.Nat.{_≤_, _*_, min};
 ghost use lib.ListN.{length, take, drop};
 ghost use Rattle.model.specs.Step;
+ghost use Rattle.model.specs.Together.{Group, answerRequest, afterRequest};
 ghost use Rattle.model.specs.Answers.{verdictOf};
 ghost use Rattle.table.specs.Words.{flat, rowsOf};
 ghost use Rattle.rules.specs.Steps.{lends};
@@ -61,6 +63,22 @@ pub fn apply(table: &mut [Cap], tally: &mut Tally, event: Event) -> Answer
     let n = rows_held(rows);
     load(table, n, &mut words);
     let out = step(&mut words, rows, *tally, event);
+    store(table, n, &words);
+    *tally = out.tally;
+    out.answer
+}
+
+// Names dropped together, on the table and the tally that are lent.
+pub fn drop_all(table: &mut [Cap], tally: &mut Tally, names: &[u32]) -> Answer
+    ensures { λ r. ⌜ (now (table .exit) ≡ afterRequest (lends (now (table .entry)) (now (tally .entry))) (Group (now (names .entry))) .table)
+        × (now (tally .exit) ≡ afterRequest (lends (now (table .entry)) (now (tally .entry))) (Group (now (names .entry))) .tally)
+        × (verdictOf r ≡ answerRequest (lends (now (table .entry)) (now (tally .entry))) (Group (now (names .entry)))) ⌝ }
+{
+    let mut words = [0u32; 6144];
+    let rows = table.len();
+    let n = rows_held(rows);
+    load(table, n, &mut words);
+    let out = steps::drop_all(&mut words, rows, *tally, names);
     store(table, n, &words);
     *tally = out.tally;
     out.answer

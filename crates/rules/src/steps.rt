@@ -2,9 +2,11 @@
 use crate::Outcome;
 use crate::Progress;
 use crate::count::count_allowed;
+use crate::count::count_dropped;
 use crate::count::count_refused;
 use crate::marks::marks_of_access;
 use crate::marks::marks_of_drop;
+use crate::marks::marks_of_names;
 use crate::settle::lower;
 use crate::settle::settle;
 use model::Access;
@@ -17,6 +19,7 @@ use model::Span;
 use model::Tally;
 use table::find::find;
 use table::find::live_count;
+use table::groups::judge_group;
 use table::judge::judge;
 use table::ordered::check_order;
 use table::words::row_at;
@@ -31,10 +34,11 @@ ghost use Rattle.model.specs.Derivation.{ancestry, inSubtree};
 ghost use Rattle.model.specs.Table.{row, derivations, named, lookup};
 ghost use Rattle.model.specs.Effects.{revoke, afterAccess, rowsAfter};
 ghost use Rattle.model.specs.Refusals;
+ghost use Rattle.model.specs.Together.{rowsWithout};
 ghost use Rattle.table.specs.Words.{rowsIn};
 ghost use Rattle.table.specs.Rows.{before, Rise, Found, Places, Orderly};
 ghost use Rattle.rules.specs.Engine.{Ready, Settled};
-ghost use Rattle.rules.specs.Steps.{Stepped};
+ghost use Rattle.rules.specs.Steps.{Stepped, Grouped};
 
 // The row of a new capability.
 fn new_row(name: u32, parent: u32, s: Span, right: u32, depth: u32) -> Cap
@@ -116,6 +120,22 @@ fn drop_rows(
         × (length (now (words .exit)) ≡ 6144) ⌝ }
 {
     let marks = marks_of_drop(words, k, places, u);
+    settle(words, n, k, &marks, places)
+}
+
+// Names dropped together.
+fn drop_names(
+    words: &mut [u32; 6144],
+    n: usize,
+    k: usize,
+    places: &mut [usize; 1024],
+    names: &[u32],
+) -> usize
+    requires { ⌜ Ready (now words) (rowsIn (now words)) n k × Places (rowsIn (now words)) k (now places) ⌝ }
+    ensures { λ r. ⌜ Settled (rowsIn (now (words .exit))) n r (rowsWithout (now (names .entry)) (before (rowsIn (now (words .entry))) k)) (now (places .exit))
+        × (length (now (words .exit)) ≡ 6144) ⌝ }
+{
+    let marks = marks_of_names(words, k, places, names);
     settle(words, n, k, &marks, places)
 }
 
@@ -206,4 +226,59 @@ pub fn step(words: &mut [u32; 6144], n: usize, t: Tally, e: Event) -> Outcome
         tally: t,
         answer: Answer::Refused(Refusal::Disordered),
     }
+}
+
+// Names dropped together, as `step_known` takes an event.
+pub fn drop_known(
+    words: &mut [u32; 6144],
+    n: usize,
+    k: usize,
+    places: &mut [usize; 1024],
+    t: Tally,
+    names: &[u32],
+) -> Progress
+    requires { ⌜ Orderly (rowsIn (now words)) n k (t .issued) × Places (rowsIn (now words)) k (now places) × (length (now words) ≡ 6144) ⌝ }
+    ensures { λ r. ⌜ Grouped (now (words .entry)) n t (now (names .entry)) (now (words .exit)) (r .outcome)
+        × Orderly (rowsIn (now (words .exit))) n (r .live) (r .outcome .tally .issued)
+        × Places (rowsIn (now (words .exit))) (r .live) (now (places .exit)) ⌝ }
+{
+    let a = judge_group(words, n, k, t.issued, names);
+    match a {
+        Answer::Refused(why) => {
+            let outcome = Outcome {
+                tally: count_refused(t),
+                answer: Answer::Refused(why),
+            };
+            Progress { outcome, live: k }
+        }
+        Answer::Allowed(x) => {
+            let left = drop_names(words, n, k, places, names);
+            let outcome = Outcome {
+                tally: count_dropped(t),
+                answer: Answer::Allowed(x),
+            };
+            Progress {
+                outcome,
+                live: left,
+            }
+        }
+    }
+}
+
+// Names dropped together, on any table; above 1,024 rows it is refusal 1.
+pub fn drop_all(words: &mut [u32; 6144], rows: usize, t: Tally, names: &[u32]) -> Outcome
+    requires { ⌜ length (now words) ≡ 6144 ⌝ }
+    ensures { λ r. ⌜ Grouped (now (words .entry)) rows t (now (names .entry)) (now (words .exit)) r ⌝ }
+{
+    if rows <= 1024 {
+        let k = live_count(words, rows);
+        let mut places = [0usize; 1024];
+        if check_order(words, rows, k, t.issued, &mut places) {
+            let p = drop_known(words, rows, k, &mut places, t, names);
+            let outcome = p.outcome;
+            return outcome;
+        }
+    }
+    let answer = Answer::Refused(Refusal::Disordered);
+    Outcome { tally: t, answer }
 }

@@ -32,8 +32,8 @@ pub enum Place {
     Not(Refusal),
 }
 
-// Refusals 4 and 5.
-fn place_of(words: &[u32; 6144], k: usize, issued: u32, u: Name) -> Place
+// Internal. Refusals 4 and 5.
+pub fn place_of(words: &[u32; 6144], k: usize, issued: u32, u: Name) -> Place
     requires { ⌜ (k ≤ 1024) × Rise (rowsIn (now words)) k ⌝ }
     ensures { λ r. ⌜ Stands (rowsIn (now (words .entry))) k issued u r ⌝ }
 {

@@ -53,6 +53,7 @@ fn number_of(refusal: Refusal) -> u32
         Refusal::TableFull => 10,
         Refusal::BufferTooShort => 11,
         Refusal::Misnamed => 12,
+        Refusal::Misgrouped => 13,
     }
 }
 

@@ -1,4 +1,5 @@
 pub mod Turn
+pub mod Names
 pub mod Header
 pub mod Lent
 pub mod Order

@@ -1,4 +1,5 @@
--- Document 01, "What each event does", its last paragraph: a run; and card 1: a trace whose first line is `(trace 2)`.
+-- Document 01, "What each event does", its last paragraph: a run; card 1: a trace whose first line is `(trace 2)`; and card 5: lines that
+-- drop names together.
 -- Assumes nothing.
 use Prim.Native.Nat.{ℕ, _+_}
 use mathlib.Core.Path.{_≡_}
@@ -7,11 +8,11 @@ use mathlib.Core.List.{List, [], _∷_}
 use lib.Dec.{eqb}
 use lib.ListN.{length}
 use Rattle.model.specs.declared.Event.{Event}
+use Rattle.model.specs.Together.{Request, Single, Group, answerRequest, afterRequest}
 use Rattle.model.specs.declared.Tally.{Tally}
 use Rattle.model.specs.Table.{inOrder}
 use Rattle.model.specs.Counts.{countRefused}
 use Rattle.model.specs.Step.{Verdict, State}
-use Rattle.model.specs.Step
 use Rattle.model.specs.Answers.{number, verdictOf}
 use Rattle.rules.specs.declared.Outcome.{Outcome}
 use Rattle.table.specs.Words.{rowsIn}
@@ -21,6 +22,7 @@ use Rattle.text.specs.Result.{Result, value, refused}
 use Rattle.text.specs.Line.{linesOf}
 use Rattle.text.specs.Event.{bytes}
 use Rattle.text.specs.Read.{same, readEvent}
+use Rattle.text.specs.Group.{readGroup}
 use Rattle.text.specs.declared.spelling.Spelling.{Spelling}
 use Rattle.text.specs.declared.spelling.Spelling.the-variants.{Plain, Named}
 use Rattle.trace.specs.declared.run.RunAnswer.{RunAnswer}
@@ -35,9 +37,21 @@ header = bytes "(trace 2)\n"
 -- event and after a line that is refused for its spelling.
 pub record Checker (S : Type 0) : Type 0 where
   pub ordered : S → Bool
-  pub answer : S → Event → Verdict
-  pub after : S → Event → S
+  pub answer : S → Request → Verdict
+  pub after : S → Request → S
   pub misspelt : S → S
+
+-- card 5: a line is an event, or names that are dropped together; one name is an event
+abbrev pub groupOf : Result (List ℕ) → Result Request
+groupOf (value names) = value (Group names)
+groupOf (refused r) = refused r
+
+abbrev pub requestOf : List ℕ → Result Event → Result Request
+requestOf line (value e) = value (Single e)
+requestOf line (refused r) = groupOf (readGroup line)
+
+abbrev pub readRequest : Spelling → List ℕ → Result Request
+readRequest k line = requestOf line (readEvent k line)
 
 -- what a line does: its refusal, 0 where it is allowed, and the state after it
 pub record Taken (S : Type 0) : Type 0 where
@@ -52,13 +66,13 @@ pub record Ran (S : Type 0) : Type 0 where
   pub state : S
 
 module _ {S : Type 0} (c : Checker S) where
-  -- a line that reads as an event goes by the event's step; one that is not in the one spelling is refused
-  abbrev pub takeRead : S → Result Event → Taken S
+  -- a line that reads as an event or a group goes by its step; one that is not in the one spelling is refused
+  abbrev pub takeRead : S → Result Request → Taken S
   takeRead s (value e) = record { refusal = c .answer s e .refusal; state = c .after s e }
   takeRead s (refused r) = record { refusal = r; state = c .misspelt s }
 
   abbrev pub takeLine : Spelling → S → List ℕ → Taken S
-  takeLine k s line = takeRead s (readEvent k line)
+  takeLine k s line = takeRead s (readRequest k line)
 
   -- "takes lines until one is refused": the lines of a run, where so many were taken before them
   unfoldable pub runLines : Spelling → ℕ → S → List (List ℕ) → Ran S
@@ -81,8 +95,8 @@ module _ {S : Type 0} (c : Checker S) where
 abbrev pub lent : Checker State
 lent = record {
   ordered = λ h. inOrder (h .table) (h .tally .issued);
-  answer = Step.answer;
-  after = Step.after;
+  answer = answerRequest;
+  after = afterRequest;
   misspelt = λ h. record { table = h .table; tally = countRefused (h .tally) };
 }
 
@@ -110,6 +124,12 @@ pub record Known (ws : List ℕ) (n live issued : ℕ) (places : List ℕ) : Typ
   pub orderly : Orderly (rowsIn ws) n live issued
   pub placed : Places (rowsIn ws) live places
   pub long : length ws ≡ 6144
+
+-- a line that is no event, on the words ws of a table of n rows, leaves the words ws′
+pub record TakesGroup (ws : List ℕ) (n : ℕ) (t : Tally) (line ws′ : List ℕ) (r : Outcome) : Type 0 where
+  pub refusal : verdictOf (r .answer) .refusal ≡ takeRead lent (heldIn ws n t) (groupOf (readGroup line)) .refusal
+  pub state : heldIn ws′ n (r .tally) ≡ takeRead lent (heldIn ws n t) (groupOf (readGroup line)) .state
+  pub long : length ws′ ≡ 6144
 
 -- a line on the words ws of a table of n rows leaves the words ws′: its refusal, and the state after it
 pub record Takes (k : Spelling) (ws : List ℕ) (n : ℕ) (t : Tally) (line ws′ : List ℕ) (r : Outcome) : Type 0 where

@@ -37,6 +37,7 @@ pub fn number_of(refusal: Refusal) -> u32
         Refusal::TableFull => 10,
         Refusal::BufferTooShort => 11,
         Refusal::Misnamed => 12,
+        Refusal::Misgrouped => 13,
     }
 }
 

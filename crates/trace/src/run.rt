@@ -8,6 +8,8 @@ use rules::count;
 use rules::steps;
 use table::find;
 use table::ordered;
+use text::group;
+use text::group::GroupRead;
 use text::lines;
 use text::read;
 use text::read::EventRead;
@@ -17,7 +19,7 @@ ghost use Prim.Native.Nat.{_≤_};
 ghost use lib.ListN.{length};
 ghost use Rattle.text.specs.Line.{nextLine};
 ghost use Rattle.text.specs.Read.{same};
-ghost use Rattle.trace.specs.Run.{header, Known, Takes, RunsLines, Runs};
+ghost use Rattle.trace.specs.Run.{header, Known, TakesGroup, Takes, RunsLines, Runs};
 
 // What a run answers: the number of lines allowed, or the refusal and its line number from 1 (0 for refusal 1).
 pub enum RunAnswer {
@@ -31,7 +33,37 @@ pub struct RunOutcome {
     pub answer: RunAnswer,
 }
 
-// A line on a table in order: the event that it spells, or refusal 2.
+// A line that is no event, on a table in order: the names that it drops together, or refusal 2.
+fn take_group(
+    words: &mut [u32; 6144],
+    rows: usize,
+    live: usize,
+    places: &mut [usize; 1024],
+    tally: Tally,
+    line: &[u8],
+) -> Progress
+    requires { ⌜ Known (now words) rows live (tally .issued) (now places) ⌝ }
+    ensures { λ r. ⌜ TakesGroup (now (words .entry)) rows tally (now (line .entry)) (now (words .exit)) (r .outcome)
+        × Known (now (words .exit)) rows (r .live) (r .outcome .tally .issued) (now (places .exit)) ⌝ }
+{
+    let mut names = [0u32; 64];
+    let found = group::read_group(line, &mut names);
+    match found {
+        GroupRead::Count(count) => {
+            steps::drop_known(words, rows, live, places, tally, &names[..count])
+        }
+        GroupRead::Refused(_) => {
+            let counted = count::count_refused(tally);
+            let outcome = Outcome {
+                tally: counted,
+                answer: Answer::Refused(Refusal::Misspelt),
+            };
+            Progress { outcome, live }
+        }
+    }
+}
+
+// A line on a table in order: the event that it spells, or names dropped together, or refusal 2.
 fn take_line(
     words: &mut [u32; 6144],
     rows: usize,
@@ -48,14 +80,7 @@ fn take_line(
     let found = read::read_event(spelling, line);
     match found {
         EventRead::Event(event) => steps::step_known(words, rows, live, places, tally, event),
-        EventRead::Refused(_) => {
-            let counted = count::count_refused(tally);
-            let outcome = Outcome {
-                tally: counted,
-                answer: Answer::Refused(Refusal::Misspelt),
-            };
-            Progress { outcome, live }
-        }
+        EventRead::Refused(_) => take_group(words, rows, live, places, tally, line),
     }
 }
 

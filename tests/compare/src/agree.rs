@@ -3,7 +3,7 @@
 use std::fmt::Debug;
 use std::sync::atomic::{AtomicU64, Ordering};
 
-use interface::{Cap, Event, Interface};
+use interface::{Cap, Event, Interface, MAX_GROUP};
 use oracle::{Refused, Row, Span, Spelling, Tally};
 
 /// The implementation under test.
@@ -135,8 +135,8 @@ fn lend(
     Ok((answer, Found { table, tally }))
 }
 
-/// How often events were allowed, and refused by each number.
-static MET: [AtomicU64; 13] = [const { AtomicU64::new(0) }; 13];
+/// How often events, names dropped together among them, were allowed, and refused by each number.
+static MET: [AtomicU64; 14] = [const { AtomicU64::new(0) }; 14];
 
 /// The refusal that only a writer gives.
 const BUFFER_TOO_SHORT: usize = 11;
@@ -147,7 +147,7 @@ pub fn every_answer_met() -> Result<u64, String> {
     let as_due = |number: usize| (met[number] > 0) == (number != BUFFER_TOO_SHORT);
     match (0..met.len()).all(as_due) {
         true => Ok(met.iter().sum()),
-        false => Err(format!("allowed and refusals 1 to 12: {met:?}")),
+        false => Err(format!("allowed and refusals 1 to 13: {met:?}")),
     }
 }
 
@@ -223,6 +223,21 @@ pub fn apply_all(subject: Subject, mut lent: Lent, events: &[Event]) -> Agreed {
     Ok(())
 }
 
+/// Names dropped together by the oracle alone.
+pub fn oracle_drop_all(lent: &mut Lent, names: &[u32]) -> Result<u32, Refused> {
+    oracle::drop_all(&mut lent.rows, &mut lent.tally, names)
+}
+
+/// Names dropped together on what is lent, which is then as the call leaves it.
+pub fn drop_all(subject: Subject, lent: &mut Lent, names: &[u32]) -> Result<u64, String> {
+    let (answer, found) = lend(lent, |table, tally| subject.drop_all(table, tally, names))?;
+    let verdict = oracle_drop_all(lent, names);
+    MET[usize::from(verdict.err().unwrap_or(0))].fetch_add(1, Ordering::Relaxed);
+    same_answer(packed(verdict), answer)?;
+    same_lent(lent, &found)?;
+    Ok(answer)
+}
+
 /// A run on what is lent, which is then as the run leaves it.
 pub fn run(subject: Subject, lent: &mut Lent, text: &[u8]) -> Result<u64, String> {
     let (answer, found) = lend(lent, |table, tally| subject.run(table, tally, text))?;
@@ -261,6 +276,25 @@ pub fn read_line(subject: Subject, line: &[u8], spelling: Spelling) -> Agreed {
         Spelling::Plain => read_event(subject, line),
         Spelling::Named => read_named(subject, line),
     }
+}
+
+/// A line of names that are dropped together: the entries after its names stay, and all do on refusal.
+pub fn read_drop(subject: Subject, line: &[u8]) -> Agreed {
+    let mut names = [UNTOUCHED; MAX_GROUP];
+    let answer = subject.read_drop(line, &mut names);
+    let read = oracle::read_drop_line(line);
+    let count = read.as_ref().map(|names| names.len() as u32);
+    same_answer(packed(count.ok_or(2)), answer)?;
+    let mut expected = read.unwrap_or_default();
+    expected.resize(MAX_GROUP, UNTOUCHED);
+    same("names", &expected[..], &names[..])
+}
+
+pub fn write_drop(subject: Subject, names: &[u32]) -> Agreed {
+    into_buffers(
+        |size| oracle::write_drop(names, size),
+        |out| subject.write_drop(names, out),
+    )
 }
 
 pub fn write_event(subject: Subject, event: Event) -> Agreed {

@@ -11,14 +11,14 @@ use crate::random::Random;
 use crate::report::{Checked, Report, shrink};
 
 /// Tables of one sort: how many of them, how many events on each, and how one is made.
-struct Tables {
-    name: &'static str,
-    count: u64,
-    events: usize,
-    table: fn(&mut Random) -> Lent,
+pub struct Tables {
+    pub name: &'static str,
+    pub count: u64,
+    pub events: usize,
+    pub table: fn(&mut Random) -> Lent,
 }
 
-const TABLES: [Tables; 9] = [
+pub const TABLES: [Tables; 9] = [
     Tables {
         name: "ordered tables",
         count: 8_000,
@@ -152,7 +152,7 @@ fn noise(random: &mut Random) -> Lent {
 }
 
 /// A root and a chain of borrows below it, named from a number on.
-fn chain(first_name: u32, rows: usize) -> Vec<Row> {
+pub fn chain(first_name: u32, rows: usize) -> Vec<Row> {
     let row = |depth: u32| Row {
         name: first_name + depth - 1,
         parent: if depth == 1 {
@@ -169,7 +169,7 @@ fn chain(first_name: u32, rows: usize) -> Vec<Row> {
 }
 
 /// Roots of eight addresses, each so far behind the last: side by side, or all over the same ones.
-fn roots(rows: usize, apart: u32) -> Vec<Row> {
+pub fn roots(rows: usize, apart: u32) -> Vec<Row> {
     let row = |name| Row {
         name,
         start: name * apart,
@@ -312,12 +312,7 @@ fn histories(
     spelling: Spelling,
 ) -> Checked {
     for _ in 0..lists {
-        let mut lent = Lent::empty(match random.below(20) {
-            0 => MAX_ROWS,
-            1 => MAX_ROWS + 1,
-            _ => random.between(0, 14),
-        });
-        lent.tally = generate::tally(random);
+        let lent = empty_table(random);
         let mut events = generate::events(random, lent.clone(), length, spelling);
         for event in &mut events {
             event.written = event.written.filter(|_| !random.one_in(4));
@@ -326,6 +321,17 @@ fn histories(
             .map_err(|_| smallest_list(subject, &lent, &events))?;
     }
     Ok(lists * length as u64)
+}
+
+/// An empty table with no name issued.
+pub fn empty_table(random: &mut Random) -> Lent {
+    let mut lent = Lent::empty(match random.below(20) {
+        0 => MAX_ROWS,
+        1 => MAX_ROWS + 1,
+        _ => random.between(0, 14),
+    });
+    lent.tally = generate::tally(random);
+    lent
 }
 
 fn smallest_list(subject: Subject, lent: &Lent, events: &[Event]) -> String {
@@ -358,13 +364,13 @@ fn follow_history(subject: Subject, mut lent: Lent, events: &[Event]) -> Agreed 
 
 /// Names that have ended, and names that are not `rw`: neither ever changes back.
 #[derive(Default)]
-struct Lost {
+pub struct Lost {
     ended: BTreeSet<u32>,
     read_only: BTreeSet<u32>,
 }
 
 impl Lost {
-    fn check(&mut self, lent: &Lent) -> Agreed {
+    pub fn check(&mut self, lent: &Lent) -> Agreed {
         for name in 1..=lent.tally.issued {
             let row = lent.rows.iter().find(|row| row.name == name);
             let lives = row.is_some();
@@ -385,7 +391,7 @@ impl Lost {
 }
 
 /// Reads and writes through every name are allowed exactly when demand 3 says.
-fn demand_three(
+pub fn demand_three(
     subject: Subject,
     lent: &Lent,
     history: &History,

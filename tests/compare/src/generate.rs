@@ -1,7 +1,7 @@
 //! Random tables, tallies, events and texts.
 
 use interface::Event;
-use oracle::{HEADER, MAX_DEPTH, MAX_NAME, Row, Span, Spelling, Tally};
+use oracle::{HEADER, MAX_DEPTH, MAX_GROUP, MAX_NAME, Row, Span, Spelling, Tally};
 
 use crate::agree::{self, Lent, oracle_event};
 use crate::random::Random;
@@ -281,7 +281,7 @@ fn event(random: &mut Random, lent: &Lent, area: Span, spelling: Spelling) -> Ev
 }
 
 /// A name that may have ended or not been issued.
-fn stray_name(random: &mut Random, issued: u32) -> u32 {
+pub fn stray_name(random: &mut Random, issued: u32) -> u32 {
     match random.below(4) {
         0 => random.pick(&[0, issued, issued.wrapping_add(1), u32::MAX]),
         1 => random.number(),
@@ -336,6 +336,147 @@ fn is_allowed(lent: &Lent, event: Event) -> bool {
     agree::oracle_apply(&mut lent.clone(), event).is_ok()
 }
 
+/// So many of the items, in their order; all of them where they are fewer.
+fn sample<T: Copy>(random: &mut Random, items: &[T], count: usize) -> Vec<T> {
+    let mut wanted = count;
+    let mut picked = Vec::with_capacity(count);
+    for (at, item) in items.iter().enumerate() {
+        if random.index(items.len() - at) < wanted {
+            picked.push(*item);
+            wanted -= 1;
+        }
+    }
+    picked
+}
+
+/// Names to drop together: some of one subtree, some below one parent, or some anywhere, and at times
+/// names that have ended or were not issued. They rise strictly.
+pub fn group(random: &mut Random, lent: &Lent) -> Vec<u32> {
+    let live = oracle::live_rows(&lent.rows);
+    let most = random.pick(&[2, 4, 4, 12, 12, MAX_GROUP]);
+    let count = match random.one_in(3) {
+        true => most,
+        false => random.between(1, most),
+    };
+    let related = related(random, live);
+    let mut names = sample(random, &related, count);
+    if names.is_empty() || random.one_in(4) {
+        let strays = random.between(1, 2);
+        names.truncate(MAX_GROUP - strays);
+        names.extend((0..strays).map(|_| stray_name(random, lent.tally.issued)));
+    }
+    names.sort_unstable();
+    names.dedup();
+    names
+}
+
+/// The live names, or those of one subtree, or those below one parent.
+fn related(random: &mut Random, live: &[Row]) -> Vec<u32> {
+    let Some(first) = live.get(random.index(live.len().max(1))) else {
+        return Vec::new();
+    };
+    let sort = random.below(4);
+    let mut names = Vec::new();
+    for row in live {
+        let below = row.name == first.name || names.contains(&row.parent);
+        let beside = row.parent == first.parent;
+        if (sort == 0 && below) || (sort == 1 && beside) || sort > 1 {
+            names.push(row.name);
+        }
+    }
+    names
+}
+
+/// Names that are hardly ever a group: none, too many, not strictly rising, or any numbers.
+pub fn bad_group(random: &mut Random, lent: &Lent) -> Vec<u32> {
+    let mut names = group(random, lent);
+    let (one, other) = (random.index(names.len()), random.index(names.len()));
+    match random.below(7) {
+        0 => names.clear(),
+        1 => {
+            let count = random.pick(&[65, 66, 100, 128, 320, 1_025]);
+            let first = names[0].min(u32::MAX - 2_000);
+            names = (first..).take(count).collect();
+        }
+        2 => {
+            let live = oracle::live_rows(&lent.rows).iter().take(MAX_GROUP + 1);
+            names = live.map(|row| row.name).collect();
+        }
+        3 => names.insert(one, names[one]),
+        4 => names.swap(one, other),
+        5 => names.reverse(),
+        _ => {
+            names = (0..random.between(1, 70))
+                .map(|_| random.number())
+                .collect()
+        }
+    }
+    names
+}
+
+/// An event, or names that are dropped together.
+#[derive(Clone, Debug)]
+pub enum Request {
+    Single(Event),
+    Group(Vec<u32>),
+}
+
+/// Requests made one after the other on what the last left, most of them allowed.
+pub fn requests(
+    random: &mut Random,
+    mut lent: Lent,
+    count: usize,
+    spelling: Spelling,
+) -> Vec<Request> {
+    let mut requests = Vec::with_capacity(count);
+    for _ in 0..count {
+        let request = match random.one_in(3) {
+            true => Request::Group(likely_group(random, &lent)),
+            false => Request::Single(events(random, lent.clone(), 1, spelling)[0]),
+        };
+        let _ = match &request {
+            Request::Single(event) => agree::oracle_apply(&mut lent, *event),
+            Request::Group(names) => agree::oracle_drop_all(&mut lent, names),
+        };
+        requests.push(request);
+    }
+    requests
+}
+
+fn likely_group(random: &mut Random, lent: &Lent) -> Vec<u32> {
+    if random.one_in(12) {
+        return bad_group(random, lent);
+    }
+    let mut names = group(random, lent);
+    let mut tries = random.below(4);
+    while tries > 0 && agree::oracle_drop_all(&mut lent.clone(), &names).is_err() {
+        names = group(random, lent);
+        tries -= 1;
+    }
+    names
+}
+
+/// The text of the requests, with lines also for names that are no group.
+pub fn requests_text(requests: &[Request], spelling: Spelling) -> Vec<u8> {
+    let line = |request: &Request| match request {
+        Request::Single(event) => line(*event, spelling).unwrap_or_default(),
+        Request::Group(names) => {
+            let words: String = names.iter().map(|name| format!(" {name}")).collect();
+            format!("(drop{words})\n")
+        }
+    };
+    let lines: String = requests.iter().map(line).collect();
+    [header(spelling), lines.as_bytes()].concat()
+}
+
+/// What a trace in this spelling starts with.
+fn header(spelling: Spelling) -> &'static [u8] {
+    match spelling {
+        Spelling::Plain => b"",
+        Spelling::Named => HEADER,
+    }
+}
+
 /// The event's line, if it has one.
 pub fn line(event: Event, spelling: Spelling) -> Option<String> {
     oracle::event_line(oracle_event(event), spelling)
@@ -349,11 +490,7 @@ pub fn lines(events: &[Event], spelling: Spelling) -> Vec<u8> {
 
 /// The trace of the events that have a spelling of this sort.
 pub fn trace(events: &[Event], spelling: Spelling) -> Vec<u8> {
-    let header = match spelling {
-        Spelling::Plain => b"",
-        Spelling::Named => HEADER,
-    };
-    [header, &lines(events, spelling)].concat()
+    [header(spelling), &lines(events, spelling)].concat()
 }
 
 /// Bytes that mean something somewhere in a text, and some that mean nothing.

@@ -43,7 +43,7 @@ const NAMED_SAMPLES: [&str; 14] = [
 ];
 
 /// Words in the place of a number, most of them not one.
-const NUMBERS: [&str; 21] = [
+pub const NUMBERS: [&str; 21] = [
     "",
     "0",
     "00",

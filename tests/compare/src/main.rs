@@ -8,12 +8,14 @@ mod agree;
 mod events;
 mod examples;
 mod generate;
+mod grouped_text;
 mod lines;
 mod listings;
 mod random;
 mod report;
 mod runs;
 mod spellings;
+mod together;
 
 use std::env;
 use std::process::ExitCode;
@@ -69,6 +71,8 @@ fn main() -> ExitCode {
     listings::groups(&mut report, subject);
     runs::groups(&mut report, subject);
     spellings::groups(&mut report, subject);
+    together::groups(&mut report, subject);
+    grouped_text::groups(&mut report, subject);
     report.group("every answer of an event was met", |_| {
         agree::every_answer_met()
     });

@@ -88,7 +88,7 @@ fn both_texts(lent: &Lent, lines: &[Line]) -> [Vec<u8>; 2] {
     [plain.into_bytes(), named.into_bytes()]
 }
 
-fn rightly_named(lent: &Lent, event: Event) -> Event {
+pub fn rightly_named(lent: &Lent, event: Event) -> Event {
     Event {
         written: Some(lent.tally.issued.wrapping_add(1)),
         ..event
@@ -139,7 +139,7 @@ fn check_lines(lines: &[Line], lent: &Lent, check: impl Fn(&[Line]) -> Agreed) -
 
 /// The answer to the named text whose plain text has this one: the lines allowed, or the line
 /// number unless it is 0, are one higher.
-fn with_header(answer: u64) -> u64 {
+pub fn with_header(answer: u64) -> u64 {
     let (number, value) = (answer >> 32, answer as u32);
     match number != 0 && value == 0 {
         true => answer,

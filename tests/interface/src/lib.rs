@@ -1,7 +1,7 @@
 //! The C interface as a trait, over the library or over the baseline, so that whatever tests or
 //! measures the one can test or measure the other.
 
-pub use baseline::{Cap, Event, Tally};
+pub use baseline::{Cap, Event, MAX_GROUP, Tally};
 
 #[cfg(library)]
 #[allow(unsafe_code)]
@@ -26,6 +26,13 @@ pub trait Interface {
     fn read_event(&self, line: &[u8], fields: &mut [u32; 5]) -> u64;
 
     fn read_named(&self, line: &[u8], fields: &mut [u32; 6]) -> u64;
+
+    /// Names dropped together.
+    fn drop_all(&self, table: &mut [Cap], tally: &mut Tally, names: &[u32]) -> u64;
+
+    fn write_drop(&self, names: &[u32], out: &mut [u8]) -> u64;
+
+    fn read_drop(&self, line: &[u8], names: &mut [u32; MAX_GROUP]) -> u64;
 
     fn write_listing(&self, table: &[Cap], issued: u32, out: &mut [u8]) -> u64;
 

@@ -1,7 +1,7 @@
 //! The library behind the C interface.
 #![allow(unsafe_code)]
 
-use crate::{Cap, Event, Interface, Tally, ffi};
+use crate::{Cap, Event, Interface, MAX_GROUP, Tally, ffi};
 
 pub struct Library;
 
@@ -56,6 +56,21 @@ impl Interface for Library {
 
     fn read_named(&self, line: &[u8], fields: &mut [u32; 6]) -> u64 {
         unsafe { ffi::kz_read_named(line.as_ptr(), line.len(), fields.as_mut_ptr()) }
+    }
+
+    fn drop_all(&self, table: &mut [Cap], tally: &mut Tally, names: &[u32]) -> u64 {
+        let rows = table.len();
+        let table = table.as_mut_ptr();
+        unsafe { ffi::kz_drop_all(table, rows, tally, names.as_ptr(), names.len()) }
+    }
+
+    fn write_drop(&self, names: &[u32], out: &mut [u8]) -> u64 {
+        let size = out.len();
+        unsafe { ffi::kz_write_drop(names.as_ptr(), names.len(), out.as_mut_ptr(), size) }
+    }
+
+    fn read_drop(&self, line: &[u8], names: &mut [u32; MAX_GROUP]) -> u64 {
+        unsafe { ffi::kz_read_drop(line.as_ptr(), line.len(), names.as_mut_ptr()) }
     }
 
     fn write_listing(&self, table: &[Cap], issued: u32, out: &mut [u8]) -> u64 {

@@ -1,6 +1,6 @@
 //! The baseline behind the C interface.
 
-use baseline::{Cap, Event, Refusal, Spelling, Tally};
+use baseline::{Cap, Event, MAX_GROUP, Refusal, Spelling, Tally};
 
 use crate::Interface;
 
@@ -51,6 +51,18 @@ impl Interface for Baseline {
             *fields = [kind, written, e.name, e.start, e.length, e.right.into()];
             0
         }))
+    }
+
+    fn drop_all(&self, table: &mut [Cap], tally: &mut Tally, names: &[u32]) -> u64 {
+        packed(baseline::drop_all(table, tally, names).map(|()| 0))
+    }
+
+    fn write_drop(&self, names: &[u32], out: &mut [u8]) -> u64 {
+        packed(baseline::write_drop(names, out))
+    }
+
+    fn read_drop(&self, line: &[u8], names: &mut [u32; MAX_GROUP]) -> u64 {
+        packed(baseline::read_drop(line, names))
     }
 
     fn write_listing(&self, table: &[Cap], issued: u32, out: &mut [u8]) -> u64 {

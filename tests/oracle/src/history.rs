@@ -1,10 +1,11 @@
 //! The history: notes, and all that follows from them, worked out from the notes each time.
 
 use crate::table::{Row, refusal};
+use crate::together::group_refusal;
 use crate::values::{Event, READ_ONLY, READ_WRITE, Refused, Span};
 
 /// An allowed event. A create or borrow is noted with the name that it made, the others with 0.
-#[derive(Clone, Copy, Debug)]
+#[derive(Clone, Copy, Debug, PartialEq)]
 struct Note {
     made: u32,
     event: Event,
@@ -19,7 +20,7 @@ struct Made {
     right: u8,
 }
 
-#[derive(Clone, Debug)]
+#[derive(Clone, Debug, PartialEq)]
 pub struct History {
     rows: usize,
     notes: Vec<Note>,
@@ -52,6 +53,20 @@ impl History {
         self.count = self.count.max(made);
         self.notes.push(Note { made, event });
         Ok(made)
+    }
+
+    /// Card 5, the answer to names that are dropped together: 0, or the refusal. Allowed, each is noted
+    /// as dropped, in falling order.
+    pub fn answer_all(&mut self, names: &[u32]) -> Result<u32, Refused> {
+        if let Some(number) = group_refusal(&self.table(), self.count, names) {
+            return Err(number);
+        }
+        let drops = names.iter().rev().map(|name| Note {
+            made: 0,
+            event: Event::Drop { name: *name },
+        });
+        self.notes.extend(drops);
+        Ok(0)
     }
 
     /// The history's table: a row for each living name, rising, then zeros.

@@ -1,4 +1,4 @@
-//! A second checker, written from document 01 and cards 1, 2 and 4 alone and for clarity alone.
+//! A second checker, written from document 01 and cards 1, 2, 4 and 5 alone and for clarity alone.
 //!
 //! It shares no code and no plan with what it judges: the history derives everything from its notes
 //! each time it is asked, the rows of a lent table are searched from end to end, and text is taken
@@ -8,12 +8,17 @@ mod history;
 mod lines;
 mod table;
 mod text;
+mod together;
 mod values;
 
 pub use history::History;
-pub use lines::{Spelling, event_line, read_event_line};
+pub use lines::{Spelling, drop_line, event_line, read_drop_line, read_event_line};
 pub use table::{Row, Tally, apply, in_order, live_rows};
-pub use text::{HEADER, Run, check, listing, read_listing, run, write_event, write_listing};
+pub use text::{
+    HEADER, Run, check, listing, read_listing, run, write_drop, write_event, write_listing,
+};
+pub use together::{drop_all, is_group};
 pub use values::{
-    Event, MAX_DEPTH, MAX_INPUT, MAX_NAME, MAX_ROWS, READ_ONLY, READ_WRITE, Refused, Span,
+    Event, MAX_DEPTH, MAX_GROUP, MAX_INPUT, MAX_NAME, MAX_ROWS, READ_ONLY, READ_WRITE, Refused,
+    Span,
 };

@@ -1,6 +1,7 @@
-//! Event lines, in the two spellings.
+//! Event lines, in the two spellings, and the lines of names that are dropped together.
 
 use crate::table::is_unknown;
+use crate::together::is_group;
 use crate::values::{Event, READ_ONLY, READ_WRITE, Span};
 
 /// How a create or borrow is spelt: without its new name, or with it after the word.
@@ -92,6 +93,21 @@ fn used(kind: &[u8], values: &[&[u8]]) -> Option<Event> {
         },
         _ => return None,
     })
+}
+
+/// The one spelling of names that are dropped together, in both sorts of traces, if they are a group.
+/// Of one name it is the line of the drop.
+pub fn drop_line(names: &[u32]) -> Option<String> {
+    let words: String = names.iter().map(|name| format!(" {name}")).collect();
+    is_group(names).then(|| format!("(drop{words})\n"))
+}
+
+/// The names that the line drops together, if it is such a line.
+pub fn read_drop_line(line: &[u8]) -> Option<Vec<u32>> {
+    let body = line.strip_suffix(b")\n")?.strip_prefix(b"(drop ")?;
+    let words = body.split(|byte| *byte == b' ');
+    let names: Vec<u32> = words.map(number).collect::<Option<_>>()?;
+    is_group(&names).then_some(names)
 }
 
 fn span(start: &[u8], length: &[u8]) -> Option<Span> {

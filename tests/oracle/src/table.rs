@@ -116,11 +116,11 @@ pub fn is_unknown(event: Event) -> bool {
             .is_some_and(|right| right != READ_ONLY && right != READ_WRITE)
 }
 
-fn is_issued(name: u32, issued: u32) -> bool {
+pub fn is_issued(name: u32, issued: u32) -> bool {
     1 <= name && name <= issued
 }
 
-fn has_ended(rows: &[Row], name: u32, issued: u32) -> bool {
+pub fn has_ended(rows: &[Row], name: u32, issued: u32) -> bool {
     is_issued(name, issued) && find(rows, name).is_none()
 }
 
@@ -210,13 +210,13 @@ fn with_new(live: &[Row], name: u32, parent: Option<&Row>, span: Span, right: u8
     rows
 }
 
-fn without(live: &[Row], ended: &[u32]) -> Vec<Row> {
+pub fn without(live: &[Row], ended: &[u32]) -> Vec<Row> {
     let kept = live.iter().filter(|row| !ended.contains(&row.name));
     kept.copied().collect()
 }
 
 /// The names in the subtrees of the rows that pass.
-fn subtrees(live: &[Row], passes: impl Fn(&Row) -> bool) -> Vec<u32> {
+pub fn subtrees(live: &[Row], passes: impl Fn(&Row) -> bool) -> Vec<u32> {
     let below = |row: &&Row| ancestry(live, row).into_iter().any(&passes);
     live.iter().filter(below).map(|row| row.name).collect()
 }

@@ -1,7 +1,10 @@
 //! Listings, runs, and what `capcheck` prints.
 
-use crate::lines::{Spelling, event_line, number, read_event_line, right, right_word};
+use crate::lines::{
+    Spelling, drop_line, event_line, number, read_drop_line, read_event_line, right, right_word,
+};
 use crate::table::{Row, Tally, apply, in_order, live_rows};
+use crate::together::drop_all;
 use crate::values::{Event, MAX_DEPTH, MAX_INPUT, MAX_ROWS, Refused};
 
 /// The number of lines allowed, or the refusal and its line.
@@ -126,6 +129,10 @@ pub fn write_event(event: Event, spelling: Spelling, buffer: usize) -> Result<St
     fitting(event_line(event, spelling).ok_or(2)?, buffer)
 }
 
+pub fn write_drop(names: &[u32], buffer: usize) -> Result<String, Refused> {
+    fitting(drop_line(names).ok_or(13)?, buffer)
+}
+
 pub fn write_listing(rows: &[Row], issued: u32, buffer: usize) -> Result<String, Refused> {
     if !in_order(rows, issued) {
         return Err(1);
@@ -152,9 +159,15 @@ pub fn run(rows: &mut [Row], tally: &mut Tally, text: &[u8]) -> Run {
         None => (Spelling::Plain, 0, text),
     };
     for line in lines(rest) {
-        // An unknown kind is refused and counted just as a misspelt line is.
-        let event = read_event_line(line, spelling).unwrap_or(Event::Unknown);
-        apply(rows, tally, event).map_err(|number| (number, allowed + 1))?;
+        let answer = match read_drop_line(line) {
+            Some(names) => drop_all(rows, tally, &names),
+            // An unknown kind is refused and counted just as a misspelt line is.
+            None => {
+                let event = read_event_line(line, spelling).unwrap_or(Event::Unknown);
+                apply(rows, tally, event)
+            }
+        };
+        answer.map_err(|number| (number, allowed + 1))?;
         allowed += 1;
     }
     Ok(allowed)

@@ -1,15 +1,18 @@
-//! The values of document 01 and of cards 1 and 2: spans, rights, events and the numbers of refusals.
+//! The values of document 01 and of cards 1, 2 and 5: spans, rights, events and the numbers of
+//! refusals.
 
 pub const MAX_ROWS: usize = 1_024;
 pub const MAX_NAME: u32 = 1_000_000;
 pub const MAX_DEPTH: u32 = 64;
+/// The most names that are dropped together.
+pub const MAX_GROUP: usize = 64;
 /// The longest input that `capcheck` runs, in bytes.
 pub const MAX_INPUT: usize = 65_536;
 
 pub const READ_ONLY: u8 = 1;
 pub const READ_WRITE: u8 = 2;
 
-/// The number of a refusal, 1 to 12.
+/// The number of a refusal, 1 to 13.
 pub type Refused = u8;
 
 #[derive(Clone, Copy, Debug, PartialEq, Eq)]

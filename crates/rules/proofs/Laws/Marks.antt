@@ -6,10 +6,11 @@ use mathlib.Core.Bool.{Bool, true, false, not, cond, _&&_, _||_, or-true, or-fal
 use mathlib.Core.List.{List, [], _∷_}
 use Prim.Native.Nat.{ℕ, zero, suc, _+_, _≤_, _<_, max}
 use native.Mathlib.Nat.{not-suc-le-zero}
+use native.Mathlib.Numerals.{add-one}
 use native.Mathlib.Omega.{arith}
 use lib.Dec.{eqb, ltb}
-use lib.ListN.{length, getD, set, replicate, length-set, length-replicate, getD-replicate}
-use lib.Seq.{getD-set-same, getD-set-other}
+use lib.ListN.{length, getD, set, replicate, drop, length-set, length-replicate, getD-replicate, drop-of-length-le}
+use lib.Seq.{getD-set-same, getD-set-other, drop-cons}
 use borrow.Author.Tests.{eqb-true, eqb-false, eq-eqb, ne-eqb, ltb-true, ltb-false}
 use Rattle.model.specs.declared.Span.{Span}
 use Rattle.model.specs.declared.Cap.{Cap}
@@ -19,12 +20,14 @@ use Rattle.model.specs.Derivation.{Derivation, ancestry, inSubtree, onAncestry}
 use Rattle.model.specs.Strike.{Effect, Keep, Lower, End, isLower, isEnd, effectOf, strike, reached, struck}
 use Rattle.model.specs.Values.{touches}
 use Rattle.model.specs.Table.{emptyRow, span, derivation, derivations, named, parentInOrder}
+use Rattle.model.specs.Together.{inSubtrees}
 use Rattle.table.specs.Rows.{nameAt, parentAt, before, Rise, Found, LiveRows}
-use Rattle.rules.specs.Engine.{OnAncestry, weight, own, ownOfAccess, ownOfDrop, mark, Marked, Spread, Downward}
+use Rattle.rules.specs.Engine.{OnAncestry, weight, own, ownOfAccess, ownOfDrop, ownOfNames, Owned, mark, Marked, Spread, Downward}
 use Rattle.model.proofs.Lists.{test, clash, or-neither}
 use Rattle.model.proofs.Ancestries.{below-differs, ancestry-here, ancestry-past}
 use Rattle.model.proofs.Lent.{Named}
 use Rattle.model.proofs.Order.{place, parentInOrder-rowFitsParent}
+use Rattle.model.proofs.Together.{group-none, group-step}
 use Rattle.model.proofs.Rows.{struck-step, below-step, no-ancestry}
 use Rattle.table.proofs.Laws.Prefix.{last, all-before, at-before, none-named, named-none, place-of}
 use Rattle.table.proofs.Laws.Ordered.{rise-sub, rowsInOrder-rise, rowsInOrder-at}
@@ -221,11 +224,8 @@ module _ (T : List Cap) (k : ℕ) (st : LiveRows T k) where
     pub marked-use : Marked T k marks (struck isEnd a B u sp) (struck isLower a B u sp)
     marked-use = marked (struck isEnd a B u sp) (struck isLower a B u sp) (ownOfAccess T onLine a sp) marks s (rw (none-used isEnd, none-used isLower)) step-used
 
-  -- a drop
-  module _ (u q : ℕ) (marks : List ℕ) (f : Found T k u q) (s : Spread T k (ownOfDrop q) marks) where
-    abbrev dropped : ℕ → Bool
-    dropped x = inSubtree u (ancestry B x)
-
+  -- the place of a name is told by it
+  module _ (u q : ℕ) (f : Found T k u q) where
     at-place : (i : ℕ) → i < k → eqb i q ≡ eqb u (nameAt T i)
     at-place i l = go (test (eqb i q))
       where
@@ -237,20 +237,57 @@ module _ (T : List Cap) (k : ℕ) (st : LiveRows T k) where
             differs e (inl b) = eqb-false i q g (same-place T k i q stand-rise l (ltb-true q k b) (sym e ∙ sym (f .here (ltb-true q k b))))
             differs e (inr b) = named-none T k u (f .gone (ltb-false q k b)) i l (sym e)
 
+  both : (x y : Bool) → cond (x || y) 2 0 ≡ max (cond x 2 0) (cond y 2 0)
+  both true true = refl
+  both true false = refl
+  both false true = refl
+  both false false = refl
+
+  -- a drop
+  module _ (u q : ℕ) (marks : List ℕ) (f : Found T k u q) (s : Spread T k (ownOfDrop q) marks) where
+    abbrev dropped : ℕ → Bool
+    dropped x = inSubtree u (ancestry B x)
+
     step-dropped : (i : ℕ) → i < k → mark dropped (λ x. false) (nameAt T i) ≡ max (ownOfDrop q i) (mark dropped (λ x. false) (parentAt T i))
     step-dropped i l =
         let g : dropped (nameAt T i) ≡ eqb u (nameAt T i) || dropped (parentAt T i) = at-before _ T k (below-step (st .bound) (before T k) stand-named (st .rise) u) i l in
-        let o : ownOfDrop q i ≡ cond (eqb u (nameAt T i)) 2 0 = ap (λ (b : Bool). cond b 2 0) (at-place i l) in
+        let o : ownOfDrop q i ≡ cond (eqb u (nameAt T i)) 2 0 = ap (λ (b : Bool). cond b 2 0) (at-place u q f i l) in
         rw (g, o) (both (eqb u (nameAt T i)) (dropped (parentAt T i)))
-      where
-        both : (x y : Bool) → cond (x || y) 2 0 ≡ max (cond x 2 0) (cond y 2 0)
-        both true true = refl
-        both true false = refl
-        both false true = refl
-        both false false = refl
 
     pub marked-drop : Marked T k marks dropped (λ x. false)
     marked-drop = marked dropped (λ x. false) (ownOfDrop q) marks s (rw (no-ancestry (st .bound) (before T k) stand-named (st .rise))) step-dropped
+
+  -- names dropped together: their own marks, one more name at a time
+  pub owned-none : (names : List ℕ) (i : ℕ) → length names ≤ i → Owned T k (drop i names) (replicate 1025 0)
+  owned-none names i h = rw (drop-of-length-le names h) (record { long = length-replicate {A = ℕ} 1025 0; each = λ j l. getD-replicate {A = ℕ} 1025 j 0 0 (omega (arith, st .few)) })
+
+  pub owned-more : (names : List ℕ) (i q : ℕ) (owned : List ℕ) → i < length names → Found T k (getD names i 0) q → Owned T k (drop (i + 1) names) owned → Owned T k (drop i names) (set owned q 2)
+  owned-more names i q owned h f o = rw (drop-cons names i 0) (record { long = length-set owned q 2 ∙ o .long; each = each })
+    where
+      each : (j : ℕ) → j < k → getD (set owned q 2) j 0 ≡ ownOfNames T (getD names i 0 ∷ drop (suc i) names) j
+      each j l = go (test (eqb j q))
+        where
+          rest : getD owned j 0 ≡ ownOfNames T (drop (suc i) names) j
+          rest = rw add-one at (o .each j l)
+
+          told : eqb j q ≡ eqb (getD names i 0) (nameAt T j)
+          told = at-place (getD names i 0) q f j l
+
+          go : (eqb j q ≡ true) ⊎ (eqb j q ≡ false) → getD (set owned q 2) j 0 ≡ ownOfNames T (getD names i 0 ∷ drop (suc i) names) j
+          go (inl t) = let e : j ≡ q = eqb-true j q t in rw (sym told ∙ t, e) (getD-set-same owned q 2 0 (omega (arith, o .long, f .fits, st .few)))
+          go (inr d) = rw (sym told ∙ d) (getD-set-other owned q j 2 0 (eqb-false j q d) ∙ rest)
+
+  module _ (names owned marks : List ℕ) (o : Owned T k names owned) (s : Spread T k (λ i. getD owned i 0) marks) where
+    abbrev together : ℕ → Bool
+    together x = inSubtrees names (ancestry B x)
+
+    step-together : (i : ℕ) → i < k → mark together (λ x. false) (nameAt T i) ≡ max (getD owned i 0) (mark together (λ x. false) (parentAt T i))
+    step-together i l =
+        let g : together (nameAt T i) ≡ any (λ u. eqb u (nameAt T i)) names || together (parentAt T i) = at-before _ T k (group-step (st .bound) (before T k) stand-named (st .rise) names) i l in
+        rw (g, o .each i l) (both (any (λ u. eqb u (nameAt T i)) names) (together (parentAt T i)))
+
+    pub marked-together : Marked T k marks together (λ x. false)
+    marked-together = marked together (λ x. false) (λ i. getD owned i 0) marks s (rw (no-ancestry (st .bound) (before T k) stand-named (st .rise), group-none names)) step-together
 
 -- ---- the walk begins
 

@@ -182,7 +182,7 @@ above-one rows issued size (Read u s) = refl
 above-one rows issued size (Write u s) = refl
 above-one rows issued size (Drop u) = refl
 
-first-above : (cs : List (ℕ × Bool)) → all (λ c. ltb 1 (c .0)) cs ≡ true → first cs ≡ 1 → ⊥
+pub first-above : (cs : List (ℕ × Bool)) → all (λ c. ltb 1 (c .0)) cs ≡ true → first cs ≡ 1 → ⊥
 first-above [] h e = omega arith
 first-above (c ∷ cs) h e = let p = and-both (ltb 1 (c .0)) (all (λ c. ltb 1 (c .0)) cs) h in go (test (c .1)) (ltb-true 1 (c .0) (p .0)) (first-above cs (p .1))
   where

@@ -1,4 +1,4 @@
--- Document 01's and card 1's examples of lines, computed by the definitions. The program `text_cases` runs these and more on the code.
+-- Examples of lines, of document 01 and of cards 1 and 5, computed by the definitions. The program `text_cases` runs these and more on the code.
 -- Assumes nothing.
 use mathlib.Core.Path.{_≡_, refl}
 use mathlib.Core.List.{List, [], _∷_, map}
@@ -19,6 +19,8 @@ use Rattle.text.specs.Decimal.{numeral, decimal, numberFrom}
 use Rattle.text.specs.Event.{bytes, spaced, spell, writesName, hasSpelling}
 use Rattle.text.specs.Write.{written, stored, writeEvent}
 use Rattle.text.specs.Read.{same, guess, readEvent}
+use Rattle.text.specs.Group.{spellGroup, namesFrom, guessNames, readGroup, writeGroup}
+use Rattle.model.specs.Together.{risesAbove, risesStrictly, isGroup}
 
 abbrev name : ℕ → Name
 name n = record { 0 = n }
@@ -93,3 +95,24 @@ name-written = refl
 line : nextLine (bytes "(drop 1)\n(drop 2)\n") ≡ bytes "(drop 1)\n"
 unfolding through classOf
 line = refl
+
+-- card 5: names dropped together, and refusal 2 for names that do not rise strictly, for none, and for another word
+abbrev groups : List String → List (Result (List ℕ))
+groups = map (λ s. readGroup (bytes s))
+
+together : groups ("(drop 2 5 9)\n" ∷ "(drop 7)\n" ∷ []) ≡ value (2 ∷ 5 ∷ 9 ∷ []) ∷ value (7 ∷ []) ∷ []
+unfolding readGroup guessNames namesFrom isGroup risesStrictly risesAbove spellGroup through classOf numberFrom same spaced decimal numeral
+together = refl
+
+bad-groups : groups ("(drop 2 5 5)\n" ∷ "(drop 5 2)\n" ∷ "(drop)\n" ∷ "(drop )\n" ∷ "(drop 2 05)\n" ∷ "(read 2 5 9)\n" ∷ []) ≡ replicate 6 (refused 2)
+unfolding readGroup guessNames namesFrom isGroup risesStrictly risesAbove spellGroup through classOf numberFrom same spaced decimal numeral
+bad-groups = refl
+
+-- refusal 13 before 11, with the buffer untouched
+no-group : writeGroup (5 ∷ 2 ∷ []) (bytes "...") ≡ record { answer = refused 13; buffer = bytes "..." }
+unfolding writeGroup isGroup risesStrictly risesAbove
+no-group = refl
+
+group-written : writeGroup (2 ∷ 5 ∷ 9 ∷ []) (bytes "...............") ≡ record { answer = value 13; buffer = bytes "(drop 2 5 9)\n.." }
+unfolding writeGroup isGroup risesStrictly risesAbove written stored spellGroup spaced decimal numeral
+group-written = refl

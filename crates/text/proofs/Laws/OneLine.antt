@@ -20,7 +20,7 @@ use Rattle.model.specs.declared.Event.{Event}
 use Rattle.model.specs.declared.Event.the-variants.{Create, Borrow, Read, Write, Drop}
 
 -- a text that is a line by itself, whatever follows
-abbrev Ends : List ℕ → Type 0
+abbrev pub Ends : List ℕ → Type 0
 Ends e = (t : List ℕ) → linesOf (e ++ t) ≡ e ∷ linesOf t
 
 -- so is one with digits in front of it, with a number, and with numbers
@@ -35,7 +35,7 @@ decimal-end n e ends t =
     let r = decimal-width n in
     rw (r .2) (digits-end n (suc (r .0)) e ends t)
 
-numbers-end : (ns e : List ℕ) → Ends e → Ends (spaced ns ++ e)
+pub numbers-end : (ns e : List ℕ) → Ends e → Ends (spaced ns ++ e)
 unfolding spaced linesOf push classOf
 numbers-end [] e ends t = ends t
 numbers-end (n ∷ ns) e ends t =

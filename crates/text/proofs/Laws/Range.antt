@@ -25,7 +25,7 @@ unfolding spaced
 spaced-short [] h = omega arith
 spaced-short (n ∷ ns) h = simp length-append (omega (arith, decimal-short n (h .0), spaced-short ns (h .1)))
 
-line-short : (w ns e : List ℕ) → Below32 ns → length (w ++ (spaced ns ++ e)) ≤ length w + 11 * length ns + length e
+pub line-short : (w ns e : List ℕ) → Below32 ns → length (w ++ (spaced ns ++ e)) ≤ length w + 11 * length ns + length e
 line-short w ns e h = simp length-append (omega (arith, spaced-short ns h))
 
 ending-length : (r : ℕ) → length (bytes (ending r)) ≡ 5

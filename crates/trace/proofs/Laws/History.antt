@@ -6,7 +6,8 @@ use mathlib.Core.List.{List, [], _∷_}
 use Prim.Native.Nat.{ℕ, _+_}
 use lib.Dec.{eqb}
 use Rattle.model.specs.declared.Cap.{Cap}
-use Rattle.model.specs.declared.Event.{Event}
+use Rattle.model.specs.Together.{Request, answerRequest, answerNoted}
+use Rattle.model.proofs.Requests.{run-requests}
 use Rattle.model.specs.declared.Tally.{Tally}
 use Rattle.model.specs.Table.{inOrder}
 use Rattle.model.specs.Step.{State, initial}
@@ -17,10 +18,10 @@ use Rattle.model.proofs.Match.{Match, at-first}
 use Rattle.model.proofs.Match
 use Rattle.text.specs.Result.{Result, value, refused}
 use Rattle.text.specs.Line.{linesOf}
-use Rattle.text.specs.Read.{same, readEvent}
+use Rattle.text.specs.Read.{same}
 use Rattle.text.specs.declared.spelling.Spelling.{Spelling}
 use Rattle.text.specs.declared.spelling.Spelling.the-variants.{Plain, Named}
-use Rattle.trace.specs.Run.{header, Taken, Ran, takeRead, takeLine, runLines, runTrace, runFrom, lent, run}
+use Rattle.trace.specs.Run.{header, Taken, Ran, readRequest, takeRead, takeLine, runLines, runTrace, runFrom, lent, run}
 use Rattle.trace.specs.HistoryRun.{noted, SameRun}
 
 module _ (n : ℕ) where
@@ -35,12 +36,12 @@ module _ (n : ℕ) where
     match : Match n (r .state) (q .state)
 
   same-line : (k : Spelling) (h : State) (H : History) → Match n h H → (l : List ℕ) → SameLine (takeLine lent k h l) (takeLine (noted n) k H l)
-  same-line k h H m l = go (readEvent k l)
+  same-line k h H m l = go (readRequest k l)
     where
-      go : (r : Result Event) → SameLine (takeRead lent h r) (takeRead (noted n) H r)
-      go (value e) =
-          let r = Match.run n (e ∷ []) h H m in
-          let same : Step.answer h e ≡ History.answer n H e = cc in
+      go : (r : Result Request) → SameLine (takeRead lent h r) (takeRead (noted n) H r)
+      go (value q) =
+          let r = run-requests n (q ∷ []) h H m in
+          let same : answerRequest h q ≡ answerNoted n H q = cc in
           record { refusals = cc; match = r .1 }
       go (refused x) = record { refusals = refl; match = record { same-table = m .same-table; same-issued = m .same-issued; kept = m .kept } }
 

@@ -11,6 +11,8 @@ use lib.Seq.{take-all, length-take-le, drop-drop}
 use Rattle.text.specs.Class.{newline}
 use Rattle.text.specs.Line.{through, nextLine, linesOf}
 use Rattle.text.specs.Read.{readEvent}
+use Rattle.text.specs.Group.{readGroup}
+use Rattle.model.specs.Together.{Request, answerRequest, afterRequest}
 use Rattle.text.specs.declared.spelling.Spelling.{Spelling}
 use Rattle.text.specs.Result.{Result, value, refused}
 use Rattle.text.proofs.Laws.Line.{lines-next, next-some, through-le}
@@ -26,38 +28,50 @@ use Rattle.model.specs.Answers.{number, verdictOf}
 use Rattle.model.specs.Counts.{countRefused}
 use Rattle.model.specs.Step.{Verdict, State}
 use Rattle.model.specs.Table.{inOrder}
-use Rattle.model.proofs.Order.{order-after}
+use Rattle.model.proofs.Together.{order-request}
 use Rattle.rules.specs.declared.Outcome.{Outcome}
 use Rattle.table.specs.Words.{rowsOf}
-use Rattle.rules.specs.Steps.{heldIn, Stepped}
+use Rattle.rules.specs.Steps.{heldIn, Stepped, Grouped}
 use Rattle.table.proofs.Laws.Words.{in-first}
 use Rattle.table.proofs.Laws.Judge.{numbered}
 use Rattle.trace.specs.declared.run.RunAnswer.the-variants.{Refused as RunRefused}
-use Rattle.trace.specs.Run.{takeRead, takeLine, runLines, lent, ranOf, Known, Takes}
+use Rattle.trace.specs.Run.{takeRead, takeLine, runLines, lent, ranOf, readRequest, Known, TakesGroup, Takes}
 
 -- a line keeps a table in order
 pub line-order : (k : Spelling) (h : State) (l : List ℕ) → inOrder (h .table) (h .tally .issued) ≡ true → inOrder (takeLine lent k h l .state .table) (takeLine lent k h l .state .tally .issued) ≡ true
-line-order k h l o = go (readEvent k l)
+line-order k h l o = go (readRequest k l)
   where
-    go : (r : Result Event) → inOrder (takeRead lent h r .state .table) (takeRead lent h r .state .tally .issued) ≡ true
-    go (value e) = order-after h e o
+    go : (r : Result Request) → inOrder (takeRead lent h r .state .table) (takeRead lent h r .state .tally .issued) ≡ true
+    go (value q) = order-request h q o
     go (refused k) = o
 
 -- what is known of words says that their table is in order
 pub known-order : {ws : List ℕ} {n live issued : ℕ} {places : List ℕ} → Known ws n live issued places → inOrder (rowsOf ws n) issued ≡ true
 known-order {ws} {n} {live} {issued} k = ap (λ (rows : List Cap). inOrder rows issued) (sym (in-first ws n (k .orderly .few))) ∙ k .orderly .ordered
 
-module _ (k : Spelling) (ws : List ℕ) (n : ℕ) (t : Tally) (line : List ℕ) where
+module _ (ws : List ℕ) (n : ℕ) (t : Tally) (line : List ℕ) where
   -- a line that spells an event goes by the event's step
-  pub taken-event : {e : Event} {ws′ : List ℕ} {r : Outcome} → readEvent k line ≡ value e → Stepped ws n t e ws′ r → Takes k ws n t line ws′ r
-  taken-event q s = record {
+  pub taken-event : (k : Spelling) {e : Event} {ws′ : List ℕ} {r : Outcome} → readEvent k line ≡ value e → Stepped ws n t e ws′ r → Takes k ws n t line ws′ r
+  unfolding answerRequest afterRequest
+  taken-event k q s = record {
+    refusal = rw q (ap (λ (v : Verdict). v .refusal) (s .answer));
+    state = rw q (ap₂ (λ (rows : List Cap) (y : Tally). record { table = rows; tally = y }) (s .table) (s .tally));
+    long = s .long;
+  }
+
+  -- any other goes by the names that it spells
+  pub taken-other : (k : Spelling) {x : ℕ} {ws′ : List ℕ} {r : Outcome} → readEvent k line ≡ refused x → TakesGroup ws n t line ws′ r → Takes k ws n t line ws′ r
+  taken-other k q s = record { refusal = rw q (s .refusal); state = rw q (s .state); long = s .long }
+
+  pub taken-group : {names ws′ : List ℕ} {r : Outcome} → readGroup line ≡ value names → Grouped ws n t names ws′ r → TakesGroup ws n t line ws′ r
+  taken-group q s = record {
     refusal = rw q (ap (λ (v : Verdict). v .refusal) (s .answer));
     state = rw q (ap₂ (λ (rows : List Cap) (y : Tally). record { table = rows; tally = y }) (s .table) (s .tally));
     long = s .long;
   }
 
   -- a line that spells none is refused
-  pub taken-misspelt : {y : Tally} → readEvent k line ≡ refused 2 → y ≡ countRefused t → length ws ≡ 6144 → Takes k ws n t line ws (record { tally = y; answer = Refused Misspelt })
+  pub taken-misspelt : {y : Tally} → readGroup line ≡ refused 2 → y ≡ countRefused t → length ws ≡ 6144 → TakesGroup ws n t line ws (record { tally = y; answer = Refused Misspelt })
   taken-misspelt q c l = record { refusal = rw q; state = rw (q, c); long = l }
 
 -- line is the next line of what is left of s from a position on

@@ -1,0 +1,23 @@
+-- `marks_of_names` meets its contract.
+-- Assumes nothing.
+use lib.ListN.{getD}
+use borrow.Author.Needs.{needs}
+use Rattle.table.specs.Words.{rowsIn}
+use Rattle.rules.proofs.Laws.Marks.{stand-rise, spread-downward, marked-together}
+use Rattle.rules.proofs.marks.marks_of_names.Statement.{statement}
+use Rattle.rules.proofs.marks.marks_of_names.Tie as tie
+
+spread-names-requires : tie.Need-spread-names-requires
+spread-names-requires c κs =
+    let s = c .before .before .before in
+    (s .pre .0 .few, stand-rise (rowsIn (s .args .words .now)) (s .args .k) (s .pre .0), s .pre .1)
+
+returns : tie.Need-returns
+returns c =
+    let s = c .before .before .before .before in
+    let T = rowsIn (s .args .words .now) in
+    let owned = c .before .before .own-of-names .result in
+    (marked-together T (s .args .k) (s .pre .0) (s .args .names .now) owned (c .spread-names .result) (c .before .before .own-of-names .ensures) (c .spread-names .ensures), spread-downward T (s .args .k) (λ i. getD owned i 0) (c .spread-names .result) (c .spread-names .ensures))
+
+pub marks-of-names-spec : {M : Type 1} → statement M
+marks-of-names-spec = tie.close (tie.spec (λ c κs. search needs) spread-names-requires returns)

@@ -1,0 +1,63 @@
+-- Names dropped together: whether they rise strictly, and the first of them that is refused, each a step of a loop.
+-- Assumes nothing.
+use mathlib.Core.Path.{_≡_, refl, ap}
+use mathlib.Core.Bool.{false, true}
+use mathlib.Core.List.{List, [], _∷_}
+use Prim.Native.Nat.{ℕ, zero, suc, _+_, _≤_, _<_}
+use native.Mathlib.Numerals.{add-one}
+use native.Mathlib.Omega.{arith}
+use lib.Dec.{eqb}
+use lib.ListN.{length, getD, take, drop, drop-of-length-le}
+use lib.Seq.{drop-cons}
+use borrow.Author.Tests.{lt-ltb, le-ltb}
+use Rattle.model.specs.declared.Cap.{Cap}
+use Rattle.model.specs.Lists.{first}
+use Rattle.model.specs.Refusals.{standing}
+use Rattle.model.specs.Together.{risesAbove, risesStrictly, isGroup, standings, groupRefusals, judgeGroup}
+use Rattle.model.proofs.Lists.{clash}
+use Rattle.model.proofs.Together.{name-refused, name-passed}
+use Rattle.table.specs.Rows.{before, Orderly}
+use Rattle.table.proofs.Laws.Judge.{orderly-live}
+
+-- ---- names that rise
+
+pub rises-first : (names : List ℕ) → 1 ≤ length names → risesAbove (getD names 0 0) (drop 1 names) ≡ risesStrictly names
+unfolding risesStrictly
+rises-first [] h = absurd (let l : 1 ≤ 0 = h in omega arith)
+rises-first (x ∷ xs) h = refl
+
+module _ (names : List ℕ) (i x : ℕ) where
+  pub rises-stop : i < length names → getD names i 0 ≤ x → risesAbove x (drop i names) ≡ false
+  unfolding risesAbove
+  rises-stop h l = rw (drop-cons names i 0, le-ltb x (getD names i 0) l)
+
+  pub rises-on : i < length names → x < getD names i 0 → risesAbove x (drop i names) ≡ risesAbove (getD names i 0) (drop (i + 1) names)
+  unfolding risesAbove
+  rises-on h l = rw (drop-cons names i 0, lt-ltb x (getD names i 0) l, add-one)
+
+  pub rises-end : length names ≤ i → risesAbove x (drop i names) ≡ true
+  unfolding risesAbove
+  rises-end h = rw (drop-of-length-le names h)
+
+-- ---- names in turn
+
+module _ (rows : List Cap) (issued : ℕ) (names : List ℕ) (i : ℕ) where
+  abbrev number : ℕ
+  number = first (standing rows issued (record { 0 = getD names i 0 }))
+
+  pub names-stop : i < length names → (m : ℕ) → eqb m 0 ≡ false → number ≡ m → first (standings rows issued (drop i names)) ≡ m
+  names-stop h zero z e = clash refl z
+  names-stop h (suc k) z e = rw (drop-cons names i 0) (name-refused rows issued (getD names i 0) (drop (suc i) names) k e)
+
+  pub names-on : i < length names → number ≡ 0 → first (standings rows issued (drop i names)) ≡ first (standings rows issued (drop (i + 1) names))
+  names-on h z = rw (drop-cons names i 0, add-one) (name-passed rows issued (getD names i 0) (drop (suc i) names) z)
+
+  pub names-end : length names ≤ i → first (standings rows issued (drop i names)) ≡ 0
+  unfolding standings
+  names-end h = rw (drop-of-length-le names h)
+
+-- a group is judged by its names alone, on a table in order
+pub group-judged : (T : List Cap) (n k issued : ℕ) → n ≤ length T → Orderly T n k issued → (names : List ℕ) → isGroup names ≡ true
+    → first (standings (before T k) issued names) ≡ judgeGroup (take n T) issued names
+unfolding judgeGroup groupRefusals
+group-judged T n k issued l o names g = rw (o .ordered, g, orderly-live T n k issued l o)

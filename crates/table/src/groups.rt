@@ -1,0 +1,62 @@
+// Whether names may be dropped together, on a table in order.
+use crate::judge::Place;
+use crate::judge::place_of;
+use model::Answer;
+use model::Name;
+use model::Refusal;
+ghost use mathlib.Core.Path.{_≡_};
+ghost use Prim.Native.Nat.{_≤_};
+ghost use lib.ListN.{take};
+ghost use Rattle.model.specs.Lists.{first};
+ghost use Rattle.model.specs.Step.{verdict};
+ghost use Rattle.model.specs.Answers.{verdictOf};
+ghost use Rattle.model.specs.Together.{isGroup, standings, judgeGroup};
+ghost use Rattle.table.specs.Words.{rowsIn};
+ghost use Rattle.table.specs.Rows.{before, Rise, Orderly};
+
+// Whether names are a group: 1 to 64 of them, strictly rising.
+pub fn is_group(names: &[u32]) -> bool
+    ensures { λ r. ⌜ r ≡ isGroup (now (names .entry)) ⌝ }
+{
+    if names.len() < 1 {
+        return false;
+    }
+    if 64 < names.len() {
+        return false;
+    }
+    let mut i = 1;
+    while i < names.len() {
+        if names[i] <= names[i - 1] {
+            return false;
+        }
+        i += 1;
+    }
+    true
+}
+
+// Refusals 4 and 5, of the first name that gets one.
+fn judge_names(words: &[u32; 6144], k: usize, issued: u32, names: &[u32]) -> Answer
+    requires { ⌜ (k ≤ 1024) × Rise (rowsIn (now words)) k ⌝ }
+    ensures { λ a. ⌜ verdictOf a ≡ verdict (first (standings (before (rowsIn (now (words .entry))) k) issued (now (names .entry)))) 0 ⌝ }
+{
+    let mut i = 0;
+    while i < names.len() {
+        let place = place_of(words, k, issued, Name(names[i]));
+        if let Place::Not(x) = place {
+            return Answer::Refused(x);
+        }
+        i += 1;
+    }
+    Answer::Allowed(Name(0))
+}
+
+// Internal. The answer to a group of names.
+pub fn judge_group(words: &[u32; 6144], n: usize, k: usize, issued: u32, names: &[u32]) -> Answer
+    requires { ⌜ Orderly (rowsIn (now words)) n k issued ⌝ }
+    ensures { λ a. ⌜ verdictOf a ≡ verdict (judgeGroup (take n (rowsIn (now (words .entry)))) issued (now (names .entry))) 0 ⌝ }
+{
+    if !is_group(names) {
+        return Answer::Refused(Refusal::Misgrouped);
+    }
+    judge_names(words, k, issued, names)
+}

@@ -1,0 +1,55 @@
+-- `trace::run::take_group` meets its contract: the names that the line spells are dropped together, or refusal 2.
+-- Assumes nothing.
+use mathlib.Core.Path.{_≡_, sym, ap, subst, _∙_}
+use mathlib.Core.List.{List}
+use Prim.Native.Nat.{ℕ}
+use lib.ListN.{length, take}
+use lib.Seq.{length-take-le}
+use Rattle.model.specs.declared.Tally.{Tally}
+use Rattle.model.specs.Answers.{number}
+use Rattle.text.specs.Result.{Result, value, refused}
+use Rattle.text.specs.Group.{readGroup, groupAnswer, countOf}
+use Rattle.text.proofs.Laws.GroupLine.{refused-group-is-2}
+use Rattle.rules.specs.Steps.{Grouped}
+use Rattle.trace.proofs.Laws.Turn.{taken-group, taken-misspelt}
+use Rattle.trace.proofs.Laws.Names.{Got, got, none-got}
+use borrow.Author.Needs.{needs}
+use Rattle.trace.proofs.run.take_group.Statement.{statement}
+use Rattle.trace.proofs.run.take_group.Tie as tie
+
+-- what the reader left
+left : (c : tie.After-found) → Got (c .before .before .before .before .before .args .line .now) (c .found .given .0 .0) (c .before .before .read-group .last .1 .0)
+left c = got _ _ _ (ap groupAnswer (sym (c .found .given .1)) ∙ c .before .before .read-group .ensures .0) (c .before .before .read-group .ensures .1)
+
+array-share-prefix-names : tie.Need-array-share-prefix-names
+array-share-prefix-names c = left (c .before .before .before) .inside
+
+slice-aggregate-drop-known : tie.Need-slice-aggregate-drop-known
+slice-aggregate-drop-known c = sym (length-take-le _ _ (left (c .before .before .before .before) .inside))
+
+returns : tie.Need-returns
+returns c =
+    let s = c .before .before .before .before .before .before .before .before .before .before in
+    let g = left (c .before .before .before .before .before) in
+    let k = c .drop-known .ensures in
+    (taken-group (s .args .words .now) (s .args .rows) (s .args .tally) (s .args .line .now) (g .read ∙ ap value (sym (g .taken))) (k .0), record { orderly = k .1; placed = k .2; long = k .0 .long })
+
+returns-2 : tie.Need-returns-2
+returns-2 c =
+    let s = c .before .before .before .before .before .before in
+    let read : readGroup (s .args .line .now) ≡ refused 2 = none-got (s .args .line .now) (number (c .before .enum-told .given .0 .0)) (ap groupAnswer (sym (c .before .enum-told .given .1)) ∙ c .before .before .before .read-group .ensures .0) in
+    (taken-misspelt (s .args .words .now) (s .args .rows) (s .args .tally) (s .args .line .now) read (c .count-refused .ensures) (s .pre .long), rw (ap (λ (y : Tally). y .issued) (c .count-refused .ensures)) (s .pre))
+
+pub take-group-spec : {M : Type 1} → statement M
+take-group-spec =
+    tie.close
+    (tie.spec
+    (λ c κs. search needs)
+    (λ c. search needs)
+    array-share-prefix-names
+    slice-aggregate-drop-known
+    (λ c κs. search needs)
+    (λ c. search needs)
+    (λ c κs. search needs)
+    returns
+    returns-2)

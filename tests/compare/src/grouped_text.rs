@@ -1,0 +1,488 @@
+//! Lines of names that are dropped together, written, read, and in runs.
+
+use oracle::{HEADER, MAX_GROUP, MAX_INPUT, MAX_ROWS, Spelling, Tally};
+
+use crate::agree::{self, Agreed, Lent, Subject, packed, packed_run, same, same_answer};
+use crate::generate::{self, Request, Shape};
+use crate::lines::{NUMBERS, check_text, each_byte};
+use crate::random::Random;
+use crate::report::{Checked, Report, shrink};
+use crate::spellings::{rightly_named, with_header};
+
+const SAMPLES: [&str; 10] = [
+    "(drop 2 5 9)\n",
+    "(drop 1)\n",
+    "(drop 0 1)\n",
+    "(drop 9 10)\n",
+    "(drop 1 4294967295)\n",
+    "(drop 1 2 3 4 5 6 7 8)\n",
+    "(drop 1 1)\n",
+    "(drop 2 1)\n",
+    "(drop)\n",
+    "(drop 1 02)\n",
+];
+
+pub fn groups(report: &mut Report, subject: Subject) {
+    for (name, rows, steps, listing) in EXAMPLES {
+        let name = format!("dropped together: {name}");
+        report.group(&name, |_| example(subject, rows, steps, listing));
+    }
+    report.group("dropped together: the tally", |_| counted_once(subject));
+    report.group("dropped together: refusal 13", |_| misgrouped(subject));
+    report.group("lines of names dropped together, written", |random| {
+        written(random, subject)
+    });
+    report.group("lines of names dropped together, read", |random| {
+        read(random, subject, 0)
+    });
+    report.group("lines of names dropped together, damaged", |random| {
+        read(random, subject, 2)
+    });
+    report.group("every change of one byte of names dropped together", |_| {
+        each_byte(&SAMPLES, |line| read_all(subject, line))
+    });
+    report.group("numbers in lines of names dropped together", |_| {
+        words(subject)
+    });
+    report.group("lines of names dropped together at their limits", |_| {
+        limits(subject)
+    });
+    for (spelling, named) in [(Spelling::Plain, ""), (Spelling::Named, "named ")] {
+        run_groups(report, subject, spelling, named);
+    }
+    report.group(
+        "plain and named runs with names dropped together",
+        |random| both_spellings(random, subject),
+    );
+}
+
+fn run_groups(report: &mut Report, subject: Subject, spelling: Spelling, named: &str) {
+    let runs = format!("{named}runs with names dropped together");
+    report.group(&format!("{runs} on ordered tables"), |random| {
+        on_tables(random, subject, 5_000, spelling, |_, _, _| {})
+    });
+    report.group(&format!("{runs}, damaged"), |random| {
+        on_tables(random, subject, 8_000, spelling, |random, _, text| {
+            generate::damage(random, text)
+        })
+    });
+    report.group(&format!("{runs} on disordered tables"), |random| {
+        on_tables(random, subject, 3_000, spelling, |random, lent, _| {
+            generate::disturb(random, lent)
+        })
+    });
+    report.group(&format!("{runs} on large tables"), |random| {
+        large(random, subject, spelling)
+    });
+    report.group(&format!("capcheck on {runs}"), |random| {
+        capcheck(random, subject, spelling)
+    });
+}
+
+/// A line and its answer.
+type Step = (&'static str, Result<u32, u8>);
+
+const FRAME: [Step; 5] = [
+    ("(create 0 8 rw)", Ok(1)),
+    ("(create 8 8 rw)", Ok(2)),
+    ("(create 16 8 rw)", Ok(3)),
+    ("(borrow 2 8 4 rw)", Ok(4)),
+    ("(borrow 4 8 2 ro)", Ok(5)),
+];
+
+const ALL: &str = "(issued 5)\n(1 0 8 rw)\n(2 8 8 rw (4 8 4 rw (5 8 2 ro)))\n(3 16 8 rw)\n";
+
+/// Card 5: rows, lines after those of `FRAME`, and the listing after them.
+const EXAMPLES: [(&str, usize, &[Step], &str); 11] = [
+    (
+        "roots, with subtrees",
+        5,
+        &[("(drop 1 2)", Ok(0))],
+        "(issued 5)\n(3 16 8 rw)\n",
+    ),
+    (
+        "one name is the drop",
+        5,
+        &[("(drop 2)", Ok(0))],
+        "(issued 5)\n(1 0 8 rw)\n(3 16 8 rw)\n",
+    ),
+    (
+        "a name and one below it",
+        5,
+        &[("(drop 2 4)", Ok(0))],
+        "(issued 5)\n(1 0 8 rw)\n(3 16 8 rw)\n",
+    ),
+    (
+        "a chain, and another root",
+        16,
+        &[
+            ("(drop 2 3 4 5)", Ok(0)),
+            ("(read 4 8 1)", Err(5)),
+            ("(read 1 0 8)", Ok(0)),
+        ],
+        "(issued 5)\n(1 0 8 rw)\n",
+    ),
+    (
+        "from below a root that stays",
+        5,
+        &[("(drop 1 5)", Ok(0)), ("(write 4 8 1)", Ok(0))],
+        "(issued 5)\n(2 8 8 rw (4 8 4 rw))\n(3 16 8 rw)\n",
+    ),
+    ("all", 5, &[("(drop 1 2 3 4 5)", Ok(0))], "(issued 5)\n"),
+    (
+        "the first name refused gives the number",
+        7,
+        &[
+            ("(drop 4)", Ok(0)),
+            ("(drop 4 9)", Err(5)),
+            ("(drop 0 4)", Err(4)),
+            ("(drop 6 9)", Err(4)),
+            ("(drop 1 4294967295)", Err(4)),
+        ],
+        "(issued 5)\n(1 0 8 rw)\n(2 8 8 rw)\n(3 16 8 rw)\n",
+    ),
+    (
+        "all are dropped or none",
+        7,
+        &[
+            ("(drop 5)", Ok(0)),
+            ("(drop 1 2 3 5)", Err(5)),
+            ("(drop 1 2 3 6)", Err(4)),
+        ],
+        "(issued 5)\n(1 0 8 rw)\n(2 8 8 rw (4 8 4 rw))\n(3 16 8 rw)\n",
+    ),
+    (
+        "names that do not rise strictly",
+        5,
+        &[
+            ("(drop 2 1)", Err(2)),
+            ("(drop 1 1)", Err(2)),
+            ("(drop 1 3 2)", Err(2)),
+            ("(drop 9 7)", Err(2)),
+        ],
+        ALL,
+    ),
+    (
+        "lines that are none",
+        5,
+        &[
+            ("(drop)", Err(2)),
+            ("(drop )", Err(2)),
+            ("(drop 1  2)", Err(2)),
+            ("(drop 1 2 )", Err(2)),
+            ("(drop 1 02)", Err(2)),
+        ],
+        ALL,
+    ),
+    (
+        "rows come free",
+        5,
+        &[
+            ("(create 24 8 rw)", Err(10)),
+            ("(drop 1 5)", Ok(0)),
+            ("(create 24 8 rw)", Ok(6)),
+            ("(create 32 8 rw)", Ok(7)),
+        ],
+        "(issued 7)\n(2 8 8 rw (4 8 4 rw))\n(3 16 8 rw)\n(6 24 8 rw)\n(7 32 8 rw)\n",
+    ),
+];
+
+/// Takes each line as a run of its own in both spellings of traces, and a line of names as a call too.
+fn example(subject: Subject, rows: usize, steps: &[Step], listing: &str) -> Checked {
+    let mut lent = Lent::empty(rows);
+    for (line, expected) in FRAME.iter().chain(steps) {
+        let line = format!("{line}\n");
+        let before = lent.clone();
+        let as_run = expected.map(|_| 1).map_err(|number| (number, 1));
+        let answer = agree::run(subject, &mut lent, line.as_bytes())?;
+        same_answer(packed_run(as_run), answer).map_err(|why| format!("{line}: {why}"))?;
+        if line.starts_with("(drop") {
+            as_named_run(subject, &before, &lent, &line, answer)?;
+            as_call(subject, &before, &lent, &line, *expected)?;
+        }
+    }
+    let printed = oracle::listing(&lent.rows, lent.tally.issued);
+    same("listing", listing, printed.as_str())?;
+    Ok(steps.len() as u64)
+}
+
+fn as_named_run(subject: Subject, before: &Lent, after: &Lent, line: &str, answer: u64) -> Agreed {
+    let mut lent = before.clone();
+    let named = [HEADER, line.as_bytes()].concat();
+    same_answer(with_header(answer), agree::run(subject, &mut lent, &named)?)?;
+    same("what is lent", after, &lent)
+}
+
+/// The names of a line, as the implementation reads them, in a call.
+fn as_call(
+    subject: Subject,
+    before: &Lent,
+    after: &Lent,
+    line: &str,
+    expected: Result<u32, u8>,
+) -> Agreed {
+    read_all(subject, line.as_bytes())?;
+    let mut names = [0; MAX_GROUP];
+    let answer = subject.read_drop(line.as_bytes(), &mut names);
+    if expected == Err(2) {
+        return same_answer(packed(Err(2)), answer);
+    }
+    let mut lent = before.clone();
+    let names = &names[..answer as usize];
+    same_answer(
+        packed(expected),
+        agree::drop_all(subject, &mut lent, names)?,
+    )?;
+    same("what is lent", after, &lent)?;
+    agree::write_drop(subject, names)
+}
+
+/// However many are dropped, one drop is counted; however many are refused, one refusal.
+fn counted_once(subject: Subject) -> Checked {
+    let mut lent = Lent::empty(8);
+    let lines: String = FRAME.iter().map(|(line, _)| format!("{line}\n")).collect();
+    agree::run(subject, &mut lent, lines.as_bytes())?;
+    for names in [&[1, 4][..], &[1, 4], &[2, 7, 8], &[], &[3, 2], &[2, 3]] {
+        agree::drop_all(subject, &mut lent, names)?;
+    }
+    let expected = Tally {
+        issued: 5,
+        creates: 3,
+        borrows: 2,
+        drops: 2,
+        refused: 4,
+        ..Tally::default()
+    };
+    same("tally", expected, lent.tally)?;
+    lent.tally.drops = u32::MAX;
+    lent.tally.refused = u32::MAX;
+    agree::drop_all(subject, &mut lent, &[0, 1])?;
+    agree::run(
+        subject,
+        &mut lent,
+        b"(create 0 8 rw)\n(create 8 8 rw)\n(drop 6 7)\n",
+    )?;
+    same("drops", u32::MAX, lent.tally.drops)?;
+    same("refused", u32::MAX, lent.tally.refused)?;
+    Ok(8)
+}
+
+/// Lists that are no group: after 1 and before all others, and before 11.
+fn misgrouped(subject: Subject) -> Checked {
+    let mut lent = Lent::empty(2);
+    agree::run(subject, &mut lent, b"(create 0 8 rw)\n(create 8 8 rw)\n")?;
+    let mut disordered = lent.clone();
+    disordered.rows.swap(0, 1);
+    let too_many: Vec<u32> = (1..=65).collect();
+    for names in [&[][..], &[1, 1], &[2, 1], &[9, 0], &[1, 2, 2], &too_many] {
+        let call = |lent: &Lent| agree::drop_all(subject, &mut lent.clone(), names);
+        same_answer(13 << 32, call(&lent)?)?;
+        same_answer(1 << 32, call(&disordered)?)?;
+        for size in [0, 8, 800] {
+            let mut out = vec![b'?'; size];
+            same_answer(13 << 32, subject.write_drop(names, &mut out))?;
+            same("buffer", vec![b'?'; size], out)?;
+        }
+    }
+    Ok(30)
+}
+
+/// Names of any numbers that rise strictly.
+fn any_group(random: &mut Random) -> Vec<u32> {
+    let most = random.pick(&[1, 2, 3, 8, MAX_GROUP]);
+    let count = random.between(1, most);
+    let mut names: Vec<u32> = match random.one_in(4) {
+        true => {
+            let first = random.number().min(u32::MAX - 63);
+            (first..=u32::MAX).take(count).collect()
+        }
+        false => (0..count).map(|_| random.number()).collect(),
+    };
+    names.sort_unstable();
+    names.dedup();
+    names
+}
+
+fn written(random: &mut Random, subject: Subject) -> Checked {
+    let lists = 12_000;
+    for _ in 0..lists {
+        let names = match random.one_in(6) {
+            true => generate::bad_group(random, &Lent::empty(0)),
+            false => any_group(random),
+        };
+        agree::write_drop(subject, &names).map_err(|why| format!("{why}\n  {names:?}"))?;
+    }
+    Ok(lists)
+}
+
+/// A line by each of the readers.
+fn read_all(subject: Subject, line: &[u8]) -> Agreed {
+    agree::read_drop(subject, line)?;
+    agree::read_event(subject, line)?;
+    agree::read_named(subject, line)
+}
+
+/// Lines of groups and of what is none, damaged up to so many times.
+fn read(random: &mut Random, subject: Subject, damages: usize) -> Checked {
+    let lines = 16_000;
+    for _ in 0..lines {
+        let names = match random.one_in(6) {
+            true => generate::bad_group(random, &Lent::empty(0)),
+            false => any_group(random),
+        };
+        let mut line = generate::requests_text(&[Request::Group(names)], Spelling::Plain);
+        for _ in 0..damages.min(random.between(1, 2)) {
+            generate::damage(random, &mut line);
+        }
+        check_text(&line, |line| read_all(subject, line))?;
+    }
+    Ok(lines)
+}
+
+/// Strange words in the place of names.
+fn words(subject: Subject) -> Checked {
+    let mut cases = 0;
+    let mut one = |line: String| {
+        cases += 1;
+        check_text(line.as_bytes(), |text| read_all(subject, text))
+    };
+    for first in NUMBERS {
+        one(format!("(drop {first})\n"))?;
+        for second in NUMBERS {
+            one(format!("(drop {first} {second})\n"))?;
+            one(format!("(drop 0 {first} {second})\n"))?;
+            one(format!("(drop {first} {second} 4294967295)\n"))?;
+            one(format!("(drop 1 2 {first} 4 {second})\n"))?;
+        }
+    }
+    Ok(cases)
+}
+
+/// Lines of numbers of names around 64, the shortest and the longest, and far longer ones, by
+/// themselves, in runs and in what capcheck is given.
+fn limits(subject: Subject) -> Checked {
+    let creates = |name: u32| format!("(create {} 8 rw)\n", name * 8);
+    let creates: String = (0..70).map(creates).collect();
+    let mut cases = 0;
+    for count in [1_u32, 2, 62, 63, 64, 65, 66, 127, 128, 129, 5_000] {
+        for first in [0, 1, 2, 7, u32::MAX - count + 1] {
+            let names: Vec<u32> = (first..=u32::MAX).take(count as usize).collect();
+            agree::write_drop(subject, &names)?;
+            let line = generate::requests_text(&[Request::Group(names)], Spelling::Plain);
+            read_all(subject, &line)?;
+            let text = [creates.as_bytes(), &line].concat();
+            agree::run(subject, &mut Lent::empty(MAX_ROWS), &text)?;
+            agree::check(subject, &text)?;
+            cases += 4;
+        }
+    }
+    let longest: Vec<u32> = (u32::MAX - 63..=u32::MAX).collect();
+    let mut out = [0; 711];
+    same_answer(711, subject.write_drop(&longest, &mut out))?;
+    same_answer(64, subject.read_drop(&out, &mut [0; MAX_GROUP]))?;
+    for length in [MAX_INPUT, MAX_INPUT + 1] {
+        for filling in [" 1", " ", "1", "0"] {
+            let mut text = format!("(drop 1{}", filling.repeat(MAX_INPUT)).into_bytes();
+            text.truncate(length);
+            agree::check(subject, &text)?;
+            agree::read_drop(subject, &text)?;
+            cases += 2;
+        }
+    }
+    Ok(cases)
+}
+
+fn run_text(subject: Subject, lent: &Lent, text: &[u8]) -> Agreed {
+    let run = |text: &[u8]| agree::run(subject, &mut lent.clone(), text).map(|_| ());
+    check_text(text, run).map_err(|why| format!("{why}\n  {lent:?}"))
+}
+
+fn on_tables(
+    random: &mut Random,
+    subject: Subject,
+    runs: u64,
+    spelling: Spelling,
+    change: impl Fn(&mut Random, &mut Lent, &mut Vec<u8>),
+) -> Checked {
+    for _ in 0..runs {
+        let shape = Shape::partly_full(random, 12);
+        let mut lent = generate::ordered(random, &shape);
+        let lines = random.between(0, 10);
+        let requests = generate::requests(random, lent.clone(), lines, spelling);
+        let mut text = generate::requests_text(&requests, spelling);
+        change(random, &mut lent, &mut text);
+        run_text(subject, &lent, &text)?;
+    }
+    Ok(runs)
+}
+
+fn large(random: &mut Random, subject: Subject, spelling: Spelling) -> Checked {
+    let runs = 16;
+    for _ in 0..runs {
+        let rows = random.between(500, MAX_ROWS);
+        let shape = Shape::full(random, rows);
+        let lent = generate::ordered(random, &shape);
+        let requests = generate::requests(random, lent.clone(), 8, spelling);
+        run_text(
+            subject,
+            &lent,
+            &generate::requests_text(&requests, spelling),
+        )?;
+    }
+    Ok(runs)
+}
+
+fn capcheck(random: &mut Random, subject: Subject, spelling: Spelling) -> Checked {
+    let inputs = 1_500;
+    for _ in 0..inputs {
+        let lines = random.between(0, 16);
+        let requests = generate::requests(random, Lent::empty(MAX_ROWS), lines, spelling);
+        let mut text = generate::requests_text(&requests, spelling);
+        if random.one_in(2) {
+            generate::damage(random, &mut text);
+        }
+        check_text(&text, |text| agree::check(subject, text))?;
+    }
+    Ok(inputs)
+}
+
+/// The same requests in both spellings, with right names.
+fn both_spellings(random: &mut Random, subject: Subject) -> Checked {
+    let runs = 4_000;
+    for _ in 0..runs {
+        let shape = Shape::partly_full(random, 12);
+        let lent = generate::ordered(random, &shape);
+        let requests = generate::requests(random, lent.clone(), 12, Spelling::Plain);
+        let outcome = |requests: &[Request]| same_verdicts(subject, &lent, requests);
+        outcome(&requests).map_err(|_| {
+            let fewer = shrink(&requests, |fewer| outcome(fewer).is_err());
+            let why = outcome(&fewer).expect_err("a smaller case fails too");
+            format!("{why}\n  {lent:?}\n  requests {fewer:?}")
+        })?;
+    }
+    Ok(runs)
+}
+
+fn same_verdicts(subject: Subject, lent: &Lent, requests: &[Request]) -> Agreed {
+    let mut issuing = lent.clone();
+    let mut name = |request: &Request| match request {
+        Request::Single(event) => {
+            let named = rightly_named(&issuing, *event);
+            let _ = agree::oracle_apply(&mut issuing, *event);
+            Request::Single(named)
+        }
+        Request::Group(names) => {
+            let _ = agree::oracle_drop_all(&mut issuing, names);
+            request.clone()
+        }
+    };
+    let named: Vec<Request> = requests.iter().map(&mut name).collect();
+    let plain = generate::requests_text(requests, Spelling::Plain);
+    let named = generate::requests_text(&named, Spelling::Named);
+    let mut after_plain = lent.clone();
+    let mut after_named = lent.clone();
+    let answer = agree::run(subject, &mut after_plain, &plain)?;
+    let with_names = agree::run(subject, &mut after_named, &named)?;
+    same_answer(with_header(answer), with_names)?;
+    same("what is lent", after_plain, after_named)
+}

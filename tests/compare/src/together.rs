@@ -1,0 +1,336 @@
+//! Names dropped together: on lent tables, beside single drops, and beside the history.
+
+use std::sync::atomic::{AtomicU64, Ordering};
+
+use interface::Event;
+use oracle::{History, MAX_GROUP, MAX_ROWS, Row, Span, Spelling};
+
+use crate::agree::{self, Agreed, Lent, Subject, oracle_event, packed, same, same_answer};
+use crate::events::{Lost, TABLES, Tables, chain, demand_three, empty_table, roots};
+use crate::generate::{self, Request, Shape};
+use crate::random::Random;
+use crate::report::{Checked, Report, shrink};
+
+pub fn groups(report: &mut Report, subject: Subject) {
+    for tables in &TABLES {
+        let name = format!("names dropped together on {}", tables.name);
+        report.group(&name, |random| on_tables(random, subject, tables));
+    }
+    report.group("names dropped together at every place", |random| {
+        at_every_place(random, subject)
+    });
+    report.group("names dropped together beside single drops", |random| {
+        beside_single_drops(random, subject)
+    });
+    for (name, lists, length, spelling) in [
+        ("lists", 1_200, 20, Spelling::Plain),
+        ("long lists", 30, 80, Spelling::Plain),
+        ("named lists", 1_200, 20, Spelling::Named),
+    ] {
+        let name = format!("{name} with names dropped together and their history");
+        report.group(&name, |random| {
+            histories(random, subject, lists, length, spelling)
+        });
+    }
+    report.group("every sort of names dropped together was met", |_| {
+        every_sort_met()
+    });
+}
+
+/// Sorts of names that are dropped together, for what they meet.
+const SORTS: [&str; 14] = [
+    "allowed, one name",
+    "allowed, a name and one below it",
+    "allowed, two below the same parent",
+    "allowed, two roots, and some stay",
+    "allowed, 64 names",
+    "refused by the first name alone",
+    "refused by the last name alone",
+    "refused by a name between allowed ones",
+    "refused 5, though a later name is 4",
+    "refused 4, though a later name is 5",
+    "refused 13, no name",
+    "refused 13, more than 64 rising names",
+    "refused 13, though a name is live",
+    "refused 13, and a name is refused too",
+];
+
+/// How often calls were of each sort.
+static SORTS_MET: [AtomicU64; 14] = [const { AtomicU64::new(0) }; 14];
+
+fn count_sorts(lent: &Lent, names: &[u32], answer: u64) {
+    let (allowed, number) = (answer >> 32 == 0, answer >> 32);
+    let row = |name: &u32| lent.rows.iter().find(|row| row.name == *name && *name != 0);
+    let pairs = |holds: &dyn Fn(&Row, &Row) -> bool| {
+        let rows: Vec<&Row> = names.iter().filter_map(row).collect();
+        let later = |at: usize| rows[at + 1..].iter();
+        (0..rows.len()).any(|at| later(at).any(|other| holds(rows[at], other)))
+    };
+    let unissued = |name: &u32| *name == 0 || *name > lent.tally.issued;
+    let ended = |name: &u32| !unissued(name) && row(name).is_none();
+    let live: Vec<bool> = names.iter().map(|name| row(name).is_some()).collect();
+    let refused_at: Vec<usize> = (0..live.len()).filter(|at| !live[*at]).collect();
+    let alone = names.len() > 1 && refused_at.len() == 1;
+    let root = |row: &Row| row.parent == 0;
+    let rising = names.windows(2).all(|pair| pair[0] < pair[1]);
+    let roots = lent.rows.iter().filter(|row| row.name != 0 && root(row));
+    let sorts = [
+        allowed && names.len() == 1,
+        allowed && pairs(&|one, other| other.parent == one.name),
+        allowed && pairs(&|one, other| other.parent == one.parent && !root(one)),
+        allowed && pairs(&|one, other| root(one) && root(other)) && roots.count() > names.len(),
+        allowed && names.len() == MAX_GROUP,
+        matches!(number, 4 | 5) && alone && refused_at[0] == 0,
+        matches!(number, 4 | 5) && alone && refused_at[0] == names.len() - 1,
+        matches!(number, 4 | 5) && alone && (1..names.len() - 1).contains(&refused_at[0]),
+        number == 5 && names.iter().any(unissued),
+        number == 4 && names.iter().any(ended),
+        number == 13 && names.is_empty(),
+        number == 13 && names.len() > MAX_GROUP && rising,
+        number == 13 && live.contains(&true),
+        number == 13 && !refused_at.is_empty(),
+    ];
+    for (met, is_of_sort) in SORTS_MET.iter().zip(sorts) {
+        met.fetch_add(is_of_sort.into(), Ordering::Relaxed);
+    }
+}
+
+/// Whether calls were of every sort, each often enough that no accident decides.
+fn every_sort_met() -> Checked {
+    let met = SORTS_MET.each_ref().map(|met| met.load(Ordering::Relaxed));
+    match met.iter().all(|count| *count >= 50) {
+        true => Ok(met.iter().sum()),
+        false => Err(format!("sorts: {:?}", SORTS.iter().zip(met))),
+    }
+}
+
+fn drop_all(subject: Subject, lent: &mut Lent, names: &[u32]) -> Result<u64, String> {
+    let before = lent.clone();
+    let answer = agree::drop_all(subject, lent, names)?;
+    count_sorts(&before, names, answer);
+    Ok(answer)
+}
+
+/// Some names, one list after the other, on each of many tables.
+fn on_tables(random: &mut Random, subject: Subject, tables: &Tables) -> Checked {
+    let mut cases = 0;
+    for _ in 0..tables.count / 2 {
+        let mut lent = (tables.table)(random);
+        for _ in 0..tables.events {
+            let names = match random.one_in(6) {
+                true => generate::bad_group(random, &lent),
+                false => generate::group(random, &lent),
+            };
+            let before = lent.clone();
+            drop_all(subject, &mut lent, &names).map_err(|_| smallest(subject, &before, &names))?;
+            cases += 1;
+        }
+    }
+    Ok(cases)
+}
+
+/// A small table and few names that still fail.
+fn smallest(subject: Subject, lent: &Lent, names: &[u32]) -> String {
+    let outcome = |rows: &[Row], names: &[u32]| {
+        let tally = lent.tally;
+        let rows = rows.to_vec();
+        agree::drop_all(subject, &mut Lent { rows, tally }, names)
+    };
+    let names = shrink(names, |fewer| outcome(&lent.rows, fewer).is_err());
+    let rows = shrink(&lent.rows, |fewer| outcome(fewer, &names).is_err());
+    let why = outcome(&rows, &names).expect_err("a smaller case fails too");
+    let tally = lent.tally;
+    format!("{why}\n  rows {rows:?}\n  tally {tally:?}\n  names {names:?}")
+}
+
+/// Lists of all lengths around the limits, from tables with room for them, whole and with one name
+/// at each place that is ended, not issued, 0, the one before it again, or below the one before it.
+fn at_every_place(random: &mut Random, subject: Subject) -> Checked {
+    let mut cases = 0;
+    for count in [0, 1, 2, 3, 5, 63, 64, 65, 66] {
+        for rows in [roots(70, 8), chain(1, 64), tree(70), roots(MAX_ROWS, 8)] {
+            let lent = with_gaps(random, rows);
+            let live = oracle::live_rows(&lent.rows);
+            let whole: Vec<u32> = live.iter().map(|row| row.name).take(count).collect();
+            drop_all(subject, &mut lent.clone(), &whole)
+                .map_err(|_| smallest(subject, &lent, &whole))?;
+            cases += 1 + with_one_changed(random, subject, &lent, &whole)?;
+        }
+    }
+    Ok(cases)
+}
+
+fn with_one_changed(random: &mut Random, subject: Subject, lent: &Lent, whole: &[u32]) -> Checked {
+    // Large tables take long, and a few places tell as much.
+    let places: Vec<usize> = match lent.rows.len() > 100 {
+        true => (0..whole.len().min(2)).collect(),
+        false => (0..whole.len()).collect(),
+    };
+    let issued = lent.tally.issued;
+    for at in &places {
+        let last = if *at > 0 { whole[*at - 1] } else { 0 };
+        let far = random.number();
+        for other in [
+            last + 1,
+            issued + 1,
+            0,
+            last,
+            last.saturating_sub(1),
+            u32::MAX,
+            far,
+        ] {
+            let mut names = whole.to_vec();
+            names[*at] = other;
+            drop_all(subject, &mut lent.clone(), &names)
+                .map_err(|_| smallest(subject, lent, &names))?;
+        }
+    }
+    Ok(places.len() as u64 * 7)
+}
+
+/// A root with children, of which each has one child.
+fn tree(rows: u32) -> Vec<Row> {
+    let below = |name: u32, parent, depth| Row {
+        name,
+        parent,
+        depth,
+        ..chain(1, 1)[0]
+    };
+    let row = |name: u32| match name {
+        1 => chain(1, 1)[0],
+        _ if name % 2 == 0 => below(name, 1, 2),
+        _ => below(name, name - 1, 3),
+    };
+    (1..=rows).map(row).collect()
+}
+
+/// The rows with every name doubled, so that an ended one stands before each.
+fn with_gaps(random: &mut Random, rows: Vec<Row>) -> Lent {
+    let doubled = |row: Row| Row {
+        name: row.name * 2,
+        parent: row.parent * 2,
+        ..row
+    };
+    let mut tally = generate::tally(random);
+    tally.issued = rows.len() as u32 * 2 + 1;
+    let rows = rows.into_iter().map(doubled).collect();
+    Lent { rows, tally }
+}
+
+/// Names on tables in order. Refused lists are not counted.
+fn beside_single_drops(random: &mut Random, subject: Subject) -> Checked {
+    let mut cases = 0;
+    while cases < 8_000 {
+        let most_rows = random.pick(&[6, 16, 16, 90]);
+        let shape = match random.one_in(3) {
+            true => Shape::full(random, most_rows),
+            false => Shape::partly_full(random, most_rows),
+        };
+        let lent = generate::ordered(random, &shape);
+        let names = generate::group(random, &lent);
+        let same = as_single_drops(subject, &lent, &names);
+        cases += same.map_err(|why| format!("{why}\n  {lent:?}\n  names {names:?}"))?;
+    }
+    Ok(cases)
+}
+
+fn drop_of(name: u32) -> Event {
+    let kind = 5;
+    Event {
+        kind,
+        name,
+        ..Event::default()
+    }
+}
+
+/// A group leaves what single drops in falling order leave, but for the count of drops.
+fn as_single_drops(subject: Subject, lent: &Lent, names: &[u32]) -> Checked {
+    let mut together = lent.clone();
+    let answer = drop_all(subject, &mut together, names)?;
+    if names.len() == 1 {
+        // One name is the drop, refused ones included.
+        let mut singly = lent.clone();
+        same_answer(
+            answer,
+            agree::apply(subject, &mut singly, drop_of(names[0]))?,
+        )?;
+        same("what is lent", &together, &singly)?;
+    }
+    if answer >> 32 != 0 {
+        return Ok(0);
+    }
+    let mut singly = lent.clone();
+    for name in names.iter().rev() {
+        same_answer(0, agree::apply(subject, &mut singly, drop_of(*name))?)?;
+    }
+    let once = lent.tally.drops.saturating_add(1);
+    same("drops", once, together.tally.drops)?;
+    singly.tally.drops = once;
+    same("what is lent", &together, &singly)?;
+    Ok(1)
+}
+
+/// Lists of requests from empty tables, beside the history.
+fn histories(
+    random: &mut Random,
+    subject: Subject,
+    lists: u64,
+    length: usize,
+    spelling: Spelling,
+) -> Checked {
+    for _ in 0..lists {
+        let lent = empty_table(random);
+        let requests = generate::requests(random, lent.clone(), length, spelling);
+        follow_history(subject, lent.clone(), &requests).map_err(|_| {
+            let outcome = |requests: &[Request]| follow_history(subject, lent.clone(), requests);
+            let fewer = shrink(&requests, |fewer| outcome(fewer).is_err());
+            let why = outcome(&fewer).expect_err("a smaller case fails too");
+            let rows = lent.rows.len();
+            format!("{why}\n  {rows} empty rows\n  requests {fewer:?}")
+        })?;
+    }
+    Ok(lists * length as u64)
+}
+
+fn follow_history(subject: Subject, mut lent: Lent, requests: &[Request]) -> Agreed {
+    let mut history = History::new(lent.rows.len());
+    let mut lost = Lost::default();
+    let mut spans = Vec::new();
+    for request in requests {
+        let (expected, answer) = match request {
+            Request::Single(event) => {
+                spans.push(Span {
+                    start: event.start,
+                    length: event.length,
+                });
+                let expected = history.answer(oracle_event(*event));
+                (expected, agree::apply(subject, &mut lent, *event)?)
+            }
+            Request::Group(names) => {
+                let expected = answer_all(&mut history, names)?;
+                (expected, drop_all(subject, &mut lent, names)?)
+            }
+        };
+        same_answer(packed(expected), answer).map_err(|why| format!("history: {why}"))?;
+        if history.table() != lent.rows || history.count() != lent.tally.issued {
+            return Err(format!("history: another table, {:?}", history.table()));
+        }
+        lost.check(&lent)?;
+    }
+    demand_three(subject, &lent, &history, spans.into_iter().rev().take(4))
+}
+
+/// The history's answer to a group. Where that is allowed so are single drops in falling order, and
+/// they leave the same notes.
+fn answer_all(history: &mut History, names: &[u32]) -> Result<Result<u32, u8>, String> {
+    let mut singly = history.clone();
+    let expected = history.answer_all(names);
+    if expected.is_ok() {
+        for name in names.iter().rev() {
+            let answer = singly.answer(oracle::Event::Drop { name: *name });
+            same("history, singly", Ok(0), answer)?;
+        }
+    }
+    same("notes", &*history, &singly)?;
+    Ok(expected)
+}
