@@ -1,10 +1,11 @@
-# make              the library and the program capcheck, both proved
-# make install      into PREFIX, below DESTDIR where that is set
-# make test         the gate
-# make bench        each call's time beside the Rust baseline's
+# make                the library and the program capcheck, both proved
+# make install        into PREFIX, below DESTDIR where that is set
+# make install-built  the same, of what is built, up to date or not
+# make test           the gate
+# make bench          each call's time beside the Rust baseline's
 
 PREFIX ?= /usr/local
-VERSION := 0.1.0
+VERSION := $(shell sed -n 's/^version=//p' capcheck)
 RT ?= rt
 CARGO ?= cargo
 INSTALL ?= install
@@ -12,7 +13,7 @@ INSTALL ?= install
 libraries := target/staticlib
 root := $(DESTDIR)$(PREFIX)
 
-.PHONY: all library program install uninstall test bench clean
+.PHONY: all library program install install-built uninstall test bench clean
 
 all: library program
 
@@ -24,16 +25,21 @@ program:
 	$(RT) check capcheck
 
 install: all
-	$(INSTALL) -d $(root)/include $(root)/lib/pkgconfig $(root)/bin
+	$(MAKE) install-built
+
+install-built:
+	$(INSTALL) -d $(root)/include $(root)/lib/pkgconfig $(root)/bin $(root)/libexec/kelzoud
 	$(INSTALL) -m 644 include/kelzoud.h $(root)/include/
 	$(INSTALL) -m 644 $(libraries)/libkelzoud.a $(root)/lib/
-	$(INSTALL) -m 755 target/bin/capcheck $(root)/bin/
+	$(INSTALL) -m 755 capcheck $(root)/bin/
+	$(INSTALL) -m 755 target/bin/capcheck $(root)/libexec/kelzoud/
 	sed -e 's|@PREFIX@|$(PREFIX)|' -e 's|@VERSION@|$(VERSION)|' kelzoud.pc.in \
 	    > $(root)/lib/pkgconfig/kelzoud.pc
 
 uninstall:
 	rm -f $(root)/include/kelzoud.h $(root)/lib/libkelzoud.a $(root)/bin/capcheck \
-	    $(root)/lib/pkgconfig/kelzoud.pc
+	    $(root)/lib/pkgconfig/kelzoud.pc $(root)/libexec/kelzoud/capcheck
+	if [ -d $(root)/libexec/kelzoud ]; then rmdir $(root)/libexec/kelzoud; fi
 
 test:
 	.ci/run
