@@ -6,7 +6,7 @@ use mathlib.Core.List.{List, [], reverse, reverse-reverse}
 use Prim.Native.Nat.{ℕ, suc, _^_, _≤_, _<_}
 use native.Mathlib.Omega.{arith}
 use lib.Dec.{leb}
-use lib.ListN.{length, length-reverse}
+use lib.ListN.{length, take, length-reverse}
 use borrow.Author.Tests.{le-leb, lt-leb}
 use Rattle.model.specs.declared.Cap.{Cap}
 use Rattle.model.specs.Lists.{filter}
@@ -17,11 +17,15 @@ use Rattle.model.proofs.Order.{live-named, liveRowsFirst-lent}
 use Rattle.model.proofs.Rows.{lent-live}
 use Rattle.text.specs.Result.{Result, value, refused}
 use Rattle.text.specs.Read.{same}
+use Rattle.text.specs.Write.{stored}
 use Rattle.listing.specs.Listing.{roots, listed, listing}
 use Rattle.listing.specs.Sort.{sorted}
 use Rattle.listing.specs.Forms.{readLines, guessRows, guessIssued}
 use Rattle.listing.specs.ReadListing.{isListing, guessTable, Listed, readListing}
+use Rattle.listing.specs.WriteListing.{listingWritten, listingStored}
+use Rattle.listing.specs.ReadInto.{readTable}
 use Rattle.text.proofs.Laws.Read.{same-refl, same-true}
+use Rattle.text.proofs.Laws.Write.{Wrote, wrote}
 use Rattle.listing.proofs.Laws.Sorted.{preorder, InOrder, sorted-preorder, length-sorted}
 use Rattle.listing.proofs.Laws.Live.{live-order}
 use Rattle.listing.proofs.Laws.Front.{Order, order, order-live}
@@ -113,6 +117,20 @@ module _ (table : List Cap) (issued : ℕ) (t : Listable table issued) where
   pub read-back : readListing (listing table issued) (length table) ≡ value (record { table = table; issued = issued })
   read-back =
       read-listed (length table) fits ∙ (λ i. value (record { table = lent-live table (o .arrange) i; issued = issued }))
+
+  -- what a writer left in the buffer reads back
+  pub written-reads-back : (out : List ℕ) (n : ℕ) → listingWritten table issued out ≡ value n
+      → readListing (take n (listingStored table issued out)) (length table) ≡ value (record { table = table; issued = issued })
+  unfolding listingWritten listingStored
+  written-reads-back out n h =
+      let w : Wrote true (listing table issued) (stored true (listing table issued) out) n = wrote n (record { answer = sym (rw (t .ordered) at h); buffer = refl }) refl in
+      rw (t .ordered) (ap (λ (s : List ℕ). readListing s (length table)) (w .front) ∙ read-back)
+
+  -- and so into a lent table: one in order has at most 1,024 rows
+  pub written-reads-into : (out : List ℕ) (n : ℕ) → listingWritten table issued out ≡ value n
+      → readTable (take n (listingStored table issued out)) (length table) ≡ value (record { table = table; issued = issued })
+  unfolding readTable
+  written-reads-into out n h = rw (le-leb (length table) 1024 (o .few)) (written-reads-back out n h)
 
 -- ---- no other text is read
 
