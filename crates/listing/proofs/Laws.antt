@@ -15,4 +15,5 @@ pub mod ReadListing
 pub mod Nested
 pub mod Back
 pub mod Theorems
+pub mod Fixed
 pub mod Examples
