@@ -16,4 +16,6 @@ pub mod Nested
 pub mod Back
 pub mod Theorems
 pub mod Fixed
+pub mod Guess
+pub mod Refused
 pub mod Examples

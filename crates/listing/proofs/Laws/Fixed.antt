@@ -11,8 +11,9 @@ use Rattle.model.specs.Step.{State}
 use Rattle.text.specs.Result.{Result, value, refused}
 use Rattle.listing.specs.ReadListing.{Listed}
 use Rattle.listing.specs.WriteListing.{listingWritten, listingStored}
+use Rattle.listing.specs.Listable.{Listable}
 use Rattle.listing.specs.ReadInto.{readTable, stateRead, stateInto, Fixes}
-use Rattle.listing.proofs.Laws.Theorems.{Listable, written-reads-into}
+use Rattle.listing.proofs.Laws.Theorems.{written-reads-into}
 
 -- "no listing changes the tally's other counts"
 pub counts-stay : (s : List ℕ) (h : State) (c : Counter) → countIn c (stateInto s h .tally) ≡ countIn c (h .tally)

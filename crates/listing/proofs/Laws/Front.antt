@@ -44,7 +44,7 @@ all-named : (rows : List Cap) → Named rows → all (λ c. not (named 0 c)) row
 all-named [] h = refl
 all-named (c ∷ rows) h = rw (h .0) (all-named rows (h .1))
 
-All-reverse : (P : Cap → Type 0) (l : List Cap) → All P l → All P (reverse l)
+pub All-reverse : (P : Cap → Type 0) (l : List Cap) → All P l → All P (reverse l)
 All-reverse P [] h = tt
 All-reverse P (x ∷ l) h = rw (mathlib.Core.List.reverse-cons x l) (Rattle.model.proofs.Lists.All-append P (reverse l) (x ∷ []) (All-reverse P l (h .1)) (h .0, tt))
 

@@ -14,6 +14,7 @@ use Rattle.model.specs.Table.{span, named, lookup, isRight, rowFitsParent, pare
 use Rattle.model.proofs.Lists.{All, All-map, All-append, test, and-both}
 use Rattle.model.proofs.Order.{rises, place, parentInOrder-rowFitsParent}
 use Rattle.model.proofs.Rows.{lookup-each}
+use Rattle.listing.specs.Listable.{SmallRows}
 
 -- numbers of 32 bits, and a right
 pub record Fields (c : Cap) : Type 0 where
@@ -83,16 +84,12 @@ module _ (bound : ℕ) where
   pub roots-reverse : (rows : List Cap) → rowsInOrder bound rows ≡ true → All (λ x. x .parent .0 ≡ 0 → x .depth ≡ 1) (reverse rows)
   roots-reverse rows h = All-reverse _ rows (roots-deep rows h)
 
--- the numbers of a row have 32 bits, as those of every row of the code
-abbrev pub Small : Cap → Type 0
-Small c = (c .start .0 < 2 ^ 32) × (c .length < 2 ^ 32)
-
-fields : (bound : ℕ) → bound ≤ 1000001 → (rows : List Cap) → All Small rows → rowsInOrder bound rows ≡ true → All Fields rows
+fields : (bound : ℕ) → bound ≤ 1000001 → (rows : List Cap) → SmallRows rows → rowsInOrder bound rows ≡ true → All Fields rows
 fields bound l [] small h = tt
 fields bound l (c ∷ rows) small h =
     let r = rises bound c rows h in
     let p = place c rows (r .in-place) in
     (record { name = omega (arith, r .below-bound); start = small .0 .0; length = small .0 .1; right = p .has-right }, fields (c .name .0) (omega (arith, r .below-bound)) rows (small .1) (r .rest))
 
-pub fields-reverse : (rows : List Cap) → All Small rows → (bound : ℕ) → bound ≤ 1000001 → rowsInOrder bound rows ≡ true → All Fields (reverse rows)
+pub fields-reverse : (rows : List Cap) → SmallRows rows → (bound : ℕ) → bound ≤ 1000001 → rowsInOrder bound rows ≡ true → All Fields (reverse rows)
 fields-reverse rows small bound l h = All-reverse Fields rows (fields bound l rows small h)

@@ -24,19 +24,14 @@ use Rattle.listing.specs.Forms.{readLines, guessRows, guessIssued}
 use Rattle.listing.specs.ReadListing.{isListing, guessTable, Listed, readListing}
 use Rattle.listing.specs.WriteListing.{listingWritten, listingStored}
 use Rattle.listing.specs.ReadInto.{readTable}
+use Rattle.listing.specs.Listable.{Listable}
 use Rattle.text.proofs.Laws.Read.{same-refl, same-true}
 use Rattle.text.proofs.Laws.Write.{Wrote, wrote}
 use Rattle.listing.proofs.Laws.Sorted.{preorder, InOrder, sorted-preorder, length-sorted}
 use Rattle.listing.proofs.Laws.Live.{live-order}
 use Rattle.listing.proofs.Laws.Front.{Order, order, order-live}
-use Rattle.listing.proofs.Laws.Nested.{Small, nested-reverse, roots-reverse, fields-reverse}
+use Rattle.listing.proofs.Laws.Nested.{nested-reverse, roots-reverse, fields-reverse}
 use Rattle.listing.proofs.Laws.Back.{lines-back, lines-behind, issued-back}
-
--- a table in order whose starts and lengths are numbers of 32 bits, as every table of the code. (A span of length 4,294,967,296 at address 0
--- is legal, and one of length 0 at address 4,294,967,296, and neither has such numbers.)
-pub record Listable (table : List Cap) (issued : ℕ) : Type 0 where
-  pub ordered : inOrder table issued ≡ true
-  pub small : All Small (liveRows table)
 
 -- the live rows in a table of another size
 module _ (n : ℕ) (table : List Cap) (issued : ℕ) (h : inOrder table issued ≡ true) (few : n ≤ 1024) (fits : length (liveRows table) ≤ n) where
@@ -92,12 +87,12 @@ module _ (table : List Cap) (issued : ℕ) (t : Listable table issued) where
   number-back : guessIssued (listing table issued) ≡ issued
   number-back = issued-back rows issued (omega (arith, o .names))
 
-  is-listing : isListing (listing table issued) (guessTable (listing table issued)) (guessIssued (listing table issued)) ≡ true
+  pub is-listing : isListing (listing table issued) (guessTable (listing table issued)) (guessIssued (listing table issued)) ≡ true
   unfolding isListing
   is-listing =
       rw (table-back, number-back, resized-order 1024 table issued (t .ordered) (omega arith) count, resized-listing 1024 table issued (t .ordered) (omega arith) count) (same-refl (listing table issued))
 
-  live-back : liveRows (guessTable (listing table issued)) ≡ liveRows table
+  pub live-back : liveRows (guessTable (listing table issued)) ≡ liveRows table
   live-back = ap liveRows table-back ∙ live-lent 1024 (liveRows table) (live-named table)
 
   -- ---- what is written is read back
