@@ -9,7 +9,7 @@ use native.Mathlib.Omega.{arith}
 use lib.Dec.{leb, eqb}
 use borrow.Author.Tests.{leb-true, eqb-true, eqb-false, eq-eqb}
 use Rattle.model.specs.declared.Cap.{Cap}
-use Rattle.model.specs.Values.{legal, inside}
+use Rattle.model.specs.Values.{inside}
 use Rattle.model.specs.Table.{span, named, lookup, isRight, rowFitsParent, parentInOrder, rowsInOrder}
 use Rattle.model.proofs.Lists.{All, All-map, All-append, test, and-both}
 use Rattle.model.proofs.Order.{rises, place, parentInOrder-rowFitsParent}

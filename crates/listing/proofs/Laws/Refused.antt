@@ -3,7 +3,7 @@
 -- Assumes nothing.
 use mathlib.Core.Path.{_≡_, refl, sym, ap, _∙_}
 use mathlib.Core.Logic.{_⊎_, inl, inr}
-use mathlib.Core.Bool.{Bool, true, false, cond, not, _&&_}
+use mathlib.Core.Bool.{Bool, true, false, cond, not}
 use mathlib.Core.List.{List}
 use Prim.Native.Nat.{ℕ}
 use native.Mathlib.Omega.{arith}
@@ -23,7 +23,7 @@ use Rattle.listing.specs.Forms.{guessIssued}
 use Rattle.listing.specs.ReadListing.{isListing, guessTable, Listed, readListing}
 use Rattle.listing.specs.WriteListing.{listingWritten}
 use Rattle.listing.specs.ReadInto.{readTable, issuedRead, answerInto}
-use Rattle.listing.specs.Listable.{Listable, ListingOf, Overfull}
+use Rattle.listing.specs.Listable.{ListingOf, Overfull}
 use Rattle.listing.specs.Refusals.{refusal, noListing, tooManyCapabilities, readRefusals, writeRefusals}
 use Rattle.text.proofs.Laws.Read.{same-true}
 use Rattle.listing.proofs.Laws.Guess.{guess-small}

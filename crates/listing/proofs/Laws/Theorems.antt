@@ -3,7 +3,7 @@
 use mathlib.Core.Path.{_≡_, refl, sym, ap, ap₂, _∙_, subst}
 use mathlib.Core.Bool.{Bool, true, false, cond, not, _&&_}
 use mathlib.Core.List.{List, [], reverse, reverse-reverse}
-use Prim.Native.Nat.{ℕ, suc, _^_, _≤_, _<_}
+use Prim.Native.Nat.{ℕ, suc, _≤_, _<_}
 use native.Mathlib.Omega.{arith}
 use lib.Dec.{leb}
 use lib.ListN.{length, take, length-reverse}
@@ -11,7 +11,7 @@ use borrow.Author.Tests.{le-leb, lt-leb}
 use Rattle.model.specs.declared.Cap.{Cap}
 use Rattle.model.specs.Lists.{filter}
 use Rattle.model.specs.Table.{named, liveRows, lentTable, inOrder}
-use Rattle.model.proofs.Lists.{All, length-filter}
+use Rattle.model.proofs.Lists.{length-filter}
 use Rattle.model.proofs.Lent.{live-lent, length-lent}
 use Rattle.model.proofs.Order.{live-named, liveRowsFirst-lent}
 use Rattle.model.proofs.Rows.{lent-live}
