@@ -9,7 +9,7 @@ use lib.ListN.{length, replicate, drop}
 use Rattle.model.specs.declared.Cap.{Cap}
 use Rattle.model.specs.Lists.{filter}
 use Rattle.model.specs.Table.{emptyRow, named, liveRows, lentTable}
-use Rattle.model.proofs.Lists.{All, All-append, All-sub}
+use Rattle.model.proofs.Lists.{All, All-append, All-reverse, All-sub}
 use Rattle.text.specs.Class.{newline}
 use Rattle.text.specs.Line.{through}
 use Rattle.text.proofs.Laws.Number.{number-of-small}
@@ -17,7 +17,6 @@ use Rattle.listing.specs.Sort.{insert, sorted}
 use Rattle.listing.specs.Forms.{Reading, startText, lengthText, childrenText, rowOf, childFollows, readForm, readRun, readLine, lineFollows, readLines, guessRows}
 use Rattle.listing.specs.ReadListing.{guessTable}
 use Rattle.listing.specs.Listable.{Small, SmallRows}
-use Rattle.listing.proofs.Laws.Front.{All-reverse}
 
 row-small : (s : List ℕ) (parent depth : ℕ) → Small (rowOf s parent depth)
 row-small s parent depth = (number-of-small (startText s), number-of-small (lengthText s))

@@ -11,7 +11,7 @@ use borrow.Author.Tests.{leb-true, eqb-true, eqb-false, eq-eqb}
 use Rattle.model.specs.declared.Cap.{Cap}
 use Rattle.model.specs.Values.{inside}
 use Rattle.model.specs.Table.{span, named, lookup, isRight, rowFitsParent, parentInOrder, rowsInOrder}
-use Rattle.model.proofs.Lists.{All, All-map, All-append, test, and-both}
+use Rattle.model.proofs.Lists.{All, All-map, All-append, All-reverse, test, and-both}
 use Rattle.model.proofs.Order.{rises, place, parentInOrder-rowFitsParent}
 use Rattle.model.proofs.Rows.{lookup-each}
 use Rattle.listing.specs.Listable.{SmallRows}
@@ -35,10 +35,6 @@ Nested (c ∷ later) = All (Deeper (c .name .0) (c .depth)) later × Nested late
 nested-snoc : (xs : List Cap) (c : Cap) → Nested xs → All (λ x. Deeper (x .name .0) (x .depth) c) xs → Nested (xs ++ (c ∷ []))
 nested-snoc [] c n d = (tt, tt)
 nested-snoc (x ∷ xs) c n d = (All-append (Deeper (x .name .0) (x .depth)) xs (c ∷ []) (n .0) (d .0, tt), nested-snoc xs c (n .1) (d .1))
-
-All-reverse : (P : Cap → Type 0) (l : List Cap) → All P l → All P (reverse l)
-All-reverse P [] h = tt
-All-reverse P (x ∷ l) h = rw (reverse-cons x l) (All-append P (reverse l) (x ∷ []) (All-reverse P l (h .1)) (h .0, tt))
 
 -- what a row's place says of its parent, and of a root
 under-depth : (c p : Cap) → rowFitsParent c p ≡ true → (c .depth ≡ p .depth + 1) × (p .depth < 64)
