@@ -15,4 +15,7 @@ pub mod ReadListing
 pub mod Nested
 pub mod Back
 pub mod Theorems
+pub mod Fixed
+pub mod Guess
+pub mod Refused
 pub mod Examples

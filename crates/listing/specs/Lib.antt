@@ -7,3 +7,5 @@ pub mod Stored
 pub mod ReadListing
 pub mod WriteListing
 pub mod ReadInto
+pub mod Listable
+pub mod Refusals

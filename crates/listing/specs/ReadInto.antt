@@ -50,3 +50,8 @@ pub record ReadsInto (s : List ℕ) (before after : State) (r : ListingRead) : T
   pub answer : listingAnswer r ≡ answerInto s before
   pub table : after .table ≡ stateInto s before .table
   pub tally : after .tally ≡ stateInto s before .tally
+
+-- "A listing that is read fixes the whole lent table and the issued number"
+pub record Fixes (l : Listed) (after : State) : Type 0 where
+  pub table : after .table ≡ l .table
+  pub issued : after .tally .issued ≡ l .issued

@@ -17,6 +17,7 @@ pub mod Lost
 pub mod Demand3
 pub mod Traces
 pub mod Rows
+pub mod OneTable
 pub mod Fresh
 pub mod Together
 pub mod Requests

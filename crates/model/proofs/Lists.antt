@@ -69,6 +69,10 @@ module _ {A : Type 0} where
   All-last P [] m h = h
   All-last P (x ∷ l) m h = All-last P l m (h .1)
 
+  pub All-reverse : (P : A → Type 0) (l : List A) → All P l → All P (reverse l)
+  All-reverse P [] h = tt
+  All-reverse P (x ∷ l) h = rw (reverse-cons x l) (All-append P (reverse l) (x ∷ []) (All-reverse P l (h .1)) (h .0, tt))
+
   -- a fact of the members that pass a test
   pub All-filter : (p : A → Bool) (P : A → Type 0) (l : List A) → All (λ x. p x ≡ true → P x) l → All P (filter p l)
   All-filter p P [] h = tt

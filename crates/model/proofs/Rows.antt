@@ -19,7 +19,7 @@ use Rattle.model.specs.declared.Access.{Access}
 use Rattle.model.specs.Derivation.{ancestry, inSubtree, onAncestry}
 use Rattle.model.specs.Strike.{Effect, strike, reached, struck}
 use Rattle.model.specs.Table.{emptyRow, lookup, derivation, derivations, named, liveRows, lentTable, isEmptyRow, liveRowsFirst, rowsInOrder}
-use Rattle.model.proofs.Lists.{All, All-map, All-append, test, and-both, filter-none, filter-reverse}
+use Rattle.model.proofs.Lists.{All, All-map, All-reverse, test, and-both, filter-none, filter-reverse}
 use Rattle.model.proofs.Ancestries.{same, below-differs, ancestry-zero, ancestry-above}
 use Rattle.model.proofs.Lent.{Named}
 use Rattle.model.proofs.Order.{rises, steps, rowsInOrder-falling}
@@ -117,16 +117,12 @@ module _ (t : List Cap) (a : liveRowsFirst t ≡ true) where
 
 -- a fact of every row, at a place of the table
 pub All-at : {A : Type 0} (P : A → Type 0) (l : List A) (d : A) → All P l → (k : ℕ) → k < length l → P (getD (reverse l) k d)
-All-at {A} P l d h k lt = at (reverse l) (All-reverse l h) k (rw length-reverse lt)
+All-at {A} P l d h k lt = at (reverse l) (All-reverse P l h) k (rw length-reverse lt)
   where
     at : (l : List A) → All P l → (k : ℕ) → k < length l → P (getD l k d)
     at [] h k lt = absurd (not-suc-le-zero lt)
     at (x ∷ l) h zero lt = h .0
     at (x ∷ l) h (suc k) lt = at l (h .1) k (le-of-suc-le-suc lt)
-
-    All-reverse : (l : List A) → All P l → All P (reverse l)
-    All-reverse [] h = tt
-    All-reverse (x ∷ l) h = rw (reverse-cons x l) (All-append P (reverse l) (x ∷ []) (All-reverse l (h .1)) (h .0, tt))
 
 -- each row is found by its name
 pub lookup-each : (bound : ℕ) (rows : List Cap) → rowsInOrder bound rows ≡ true → All (λ c. (c .name .0 < bound) × (lookup (c .name .0) rows ≡ c)) rows

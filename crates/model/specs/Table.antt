@@ -2,7 +2,7 @@
 -- Assumes nothing.
 use Prim.Native.Nat.{ℕ, suc, _+_, _-_}
 use mathlib.Core.Bool.{Bool, true, not, cond, _&&_, _||_}
-use mathlib.Core.List.{List, [], _∷_, _++_, map, reverse}
+use mathlib.Core.List.{List, [], _∷_, _++_, map, reverse, List·Memᴰ}
 use lib.Dec.{leb, ltb, eqb}
 use lib.ListN.{length, replicate}
 use Rattle.model.specs.declared.Span.{Span}
@@ -91,3 +91,10 @@ rowsInOrder bound (c ∷ earlier) = ltb (c .name .0) bound && rowInOrder c earli
 -- issued is at most 1,000,000"; and the rest of that sentence of each row
 unfoldable pub inOrder : List Cap → ℕ → Bool
 inOrder table issued = leb (length table) 1024 && liveRowsFirst table && leb issued 1000000 && rowsInOrder (suc issued) (liveRows table)
+
+-- ---- one set of capabilities
+
+-- rows that are the same set: a capability is among the one exactly when it is among the other
+pub record SameMembers (a b : List Cap) : Type 0 where
+  pub forth : (c : Cap) → List·Memᴰ c a → List·Memᴰ c b
+  pub back : (c : Cap) → List·Memᴰ c b → List·Memᴰ c a

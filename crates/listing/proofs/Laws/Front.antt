@@ -14,7 +14,7 @@ use Rattle.model.specs.Lists.{all}
 use Rattle.model.specs.Table.{named, liveRows, liveRowsFirst, rowsInOrder, inOrder}
 use Rattle.table.specs.Words.{rowsOf, rowsIn}
 use Rattle.table.specs.Rows.{Front}
-use Rattle.model.proofs.Lists.{All, and-both}
+use Rattle.model.proofs.Lists.{All-reverse, and-both}
 use Rattle.model.proofs.Lent.{Named}
 use Rattle.model.proofs.Order.{rowsInOrder-wider, live-named}
 use Rattle.table.proofs.Laws.Words.{length-rows, length-in, in-first}
@@ -43,10 +43,6 @@ all-rows ws = take-all 1024 (rowsIn ws) (omega (arith, length-in ws))
 all-named : (rows : List Cap) → Named rows → all (λ c. not (named 0 c)) rows ≡ true
 all-named [] h = refl
 all-named (c ∷ rows) h = rw (h .0) (all-named rows (h .1))
-
-All-reverse : (P : Cap → Type 0) (l : List Cap) → All P l → All P (reverse l)
-All-reverse P [] h = tt
-All-reverse P (x ∷ l) h = rw (mathlib.Core.List.reverse-cons x l) (Rattle.model.proofs.Lists.All-append P (reverse l) (x ∷ []) (All-reverse P l (h .1)) (h .0, tt))
 
 -- the live rows of a table in order
 pub order-live : (table : List Cap) (issued : ℕ) → inOrder table issued ≡ true → Live (reverse (liveRows table))

@@ -16,7 +16,7 @@ use Rattle.model.specs.Table.{emptyRow, named, rowsInOrder}
 use Rattle.table.specs.Words.{rowsOf, rowsIn}
 use Rattle.table.specs.Rows.{nameAt, parentAt, Rise}
 use Rattle.table.proofs.Laws.Words.{length-rows, rows-at, in-at}
-use Rattle.model.proofs.Lists.{All, All-map, All-append, test, clash, and-both}
+use Rattle.model.proofs.Lists.{All, All-map, All-reverse, test, clash, and-both}
 use Rattle.model.proofs.Order.{rises, place, parentInOrder-rowFitsParent}
 use Rattle.listing.specs.Links.{Live}
 use Rattle.listing.proofs.Laws.Sorted.{Above, Member, here, there, Ordered, InOrder}
@@ -40,10 +40,6 @@ any-reverse p (x ∷ l) h = rw (reverse-cons x l, any-append p (reverse l) (x �
     go true false h r = refl
     go false true h r = refl
     go false false h r = r h
-
-All-reverse : (P : Cap → Type 0) (l : List Cap) → All P l → All P (reverse l)
-All-reverse P [] h = tt
-All-reverse P (x ∷ l) h = rw (reverse-cons x l) (All-append P (reverse l) (x ∷ []) (All-reverse P l (h .1)) (h .0, tt))
 
 above-snoc : (n : ℕ) (xs : List Cap) (c : Cap) → Above n xs → n < c .name .0 → Above n (xs ++ (c ∷ []))
 above-snoc n [] c a h = (h, tt)

@@ -9,11 +9,12 @@ use native.Mathlib.Omega.{arith}
 use lib.Dec.{leb, eqb}
 use borrow.Author.Tests.{leb-true, eqb-true, eqb-false, eq-eqb}
 use Rattle.model.specs.declared.Cap.{Cap}
-use Rattle.model.specs.Values.{legal, inside}
+use Rattle.model.specs.Values.{inside}
 use Rattle.model.specs.Table.{span, named, lookup, isRight, rowFitsParent, parentInOrder, rowsInOrder}
-use Rattle.model.proofs.Lists.{All, All-map, All-append, test, and-both}
+use Rattle.model.proofs.Lists.{All, All-map, All-append, All-reverse, test, and-both}
 use Rattle.model.proofs.Order.{rises, place, parentInOrder-rowFitsParent}
 use Rattle.model.proofs.Rows.{lookup-each}
+use Rattle.listing.specs.Listable.{SmallRows}
 
 -- numbers of 32 bits, and a right
 pub record Fields (c : Cap) : Type 0 where
@@ -34,10 +35,6 @@ Nested (c ∷ later) = All (Deeper (c .name .0) (c .depth)) later × Nested late
 nested-snoc : (xs : List Cap) (c : Cap) → Nested xs → All (λ x. Deeper (x .name .0) (x .depth) c) xs → Nested (xs ++ (c ∷ []))
 nested-snoc [] c n d = (tt, tt)
 nested-snoc (x ∷ xs) c n d = (All-append (Deeper (x .name .0) (x .depth)) xs (c ∷ []) (n .0) (d .0, tt), nested-snoc xs c (n .1) (d .1))
-
-All-reverse : (P : Cap → Type 0) (l : List Cap) → All P l → All P (reverse l)
-All-reverse P [] h = tt
-All-reverse P (x ∷ l) h = rw (reverse-cons x l) (All-append P (reverse l) (x ∷ []) (All-reverse P l (h .1)) (h .0, tt))
 
 -- what a row's place says of its parent, and of a root
 under-depth : (c p : Cap) → rowFitsParent c p ≡ true → (c .depth ≡ p .depth + 1) × (p .depth < 64)
@@ -83,16 +80,12 @@ module _ (bound : ℕ) where
   pub roots-reverse : (rows : List Cap) → rowsInOrder bound rows ≡ true → All (λ x. x .parent .0 ≡ 0 → x .depth ≡ 1) (reverse rows)
   roots-reverse rows h = All-reverse _ rows (roots-deep rows h)
 
--- the numbers of a row have 32 bits, as those of every row of the code
-abbrev pub Small : Cap → Type 0
-Small c = (c .start .0 < 2 ^ 32) × (c .length < 2 ^ 32)
-
-fields : (bound : ℕ) → bound ≤ 1000001 → (rows : List Cap) → All Small rows → rowsInOrder bound rows ≡ true → All Fields rows
+fields : (bound : ℕ) → bound ≤ 1000001 → (rows : List Cap) → SmallRows rows → rowsInOrder bound rows ≡ true → All Fields rows
 fields bound l [] small h = tt
 fields bound l (c ∷ rows) small h =
     let r = rises bound c rows h in
     let p = place c rows (r .in-place) in
     (record { name = omega (arith, r .below-bound); start = small .0 .0; length = small .0 .1; right = p .has-right }, fields (c .name .0) (omega (arith, r .below-bound)) rows (small .1) (r .rest))
 
-pub fields-reverse : (rows : List Cap) → All Small rows → (bound : ℕ) → bound ≤ 1000001 → rowsInOrder bound rows ≡ true → All Fields (reverse rows)
+pub fields-reverse : (rows : List Cap) → SmallRows rows → (bound : ℕ) → bound ≤ 1000001 → rowsInOrder bound rows ≡ true → All Fields (reverse rows)
 fields-reverse rows small bound l h = All-reverse Fields rows (fields bound l rows small h)

@@ -3,36 +3,35 @@
 use mathlib.Core.Path.{_≡_, refl, sym, ap, ap₂, _∙_, subst}
 use mathlib.Core.Bool.{Bool, true, false, cond, not, _&&_}
 use mathlib.Core.List.{List, [], reverse, reverse-reverse}
-use Prim.Native.Nat.{ℕ, suc, _^_, _≤_, _<_}
+use Prim.Native.Nat.{ℕ, suc, _≤_, _<_}
 use native.Mathlib.Omega.{arith}
 use lib.Dec.{leb}
-use lib.ListN.{length, length-reverse}
+use lib.ListN.{length, take, length-reverse}
 use borrow.Author.Tests.{le-leb, lt-leb}
 use Rattle.model.specs.declared.Cap.{Cap}
 use Rattle.model.specs.Lists.{filter}
 use Rattle.model.specs.Table.{named, liveRows, lentTable, inOrder}
-use Rattle.model.proofs.Lists.{All, length-filter}
+use Rattle.model.proofs.Lists.{length-filter}
 use Rattle.model.proofs.Lent.{live-lent, length-lent}
 use Rattle.model.proofs.Order.{live-named, liveRowsFirst-lent}
 use Rattle.model.proofs.Rows.{lent-live}
 use Rattle.text.specs.Result.{Result, value, refused}
 use Rattle.text.specs.Read.{same}
+use Rattle.text.specs.Write.{stored}
 use Rattle.listing.specs.Listing.{roots, listed, listing}
 use Rattle.listing.specs.Sort.{sorted}
 use Rattle.listing.specs.Forms.{readLines, guessRows, guessIssued}
 use Rattle.listing.specs.ReadListing.{isListing, guessTable, Listed, readListing}
+use Rattle.listing.specs.WriteListing.{listingWritten, listingStored}
+use Rattle.listing.specs.ReadInto.{readTable}
+use Rattle.listing.specs.Listable.{Listable}
 use Rattle.text.proofs.Laws.Read.{same-refl, same-true}
+use Rattle.text.proofs.Laws.Write.{Wrote, wrote}
 use Rattle.listing.proofs.Laws.Sorted.{preorder, InOrder, sorted-preorder, length-sorted}
 use Rattle.listing.proofs.Laws.Live.{live-order}
 use Rattle.listing.proofs.Laws.Front.{Order, order, order-live}
-use Rattle.listing.proofs.Laws.Nested.{Small, nested-reverse, roots-reverse, fields-reverse}
+use Rattle.listing.proofs.Laws.Nested.{nested-reverse, roots-reverse, fields-reverse}
 use Rattle.listing.proofs.Laws.Back.{lines-back, lines-behind, issued-back}
-
--- a table in order whose starts and lengths are numbers of 32 bits, as every table of the code. (A span of length 4,294,967,296 at address 0
--- is legal, and one of length 0 at address 4,294,967,296, and neither has such numbers.)
-pub record Listable (table : List Cap) (issued : ℕ) : Type 0 where
-  pub ordered : inOrder table issued ≡ true
-  pub small : All Small (liveRows table)
 
 -- the live rows in a table of another size
 module _ (n : ℕ) (table : List Cap) (issued : ℕ) (h : inOrder table issued ≡ true) (few : n ≤ 1024) (fits : length (liveRows table) ≤ n) where
@@ -88,12 +87,12 @@ module _ (table : List Cap) (issued : ℕ) (t : Listable table issued) where
   number-back : guessIssued (listing table issued) ≡ issued
   number-back = issued-back rows issued (omega (arith, o .names))
 
-  is-listing : isListing (listing table issued) (guessTable (listing table issued)) (guessIssued (listing table issued)) ≡ true
+  pub is-listing : isListing (listing table issued) (guessTable (listing table issued)) (guessIssued (listing table issued)) ≡ true
   unfolding isListing
   is-listing =
       rw (table-back, number-back, resized-order 1024 table issued (t .ordered) (omega arith) count, resized-listing 1024 table issued (t .ordered) (omega arith) count) (same-refl (listing table issued))
 
-  live-back : liveRows (guessTable (listing table issued)) ≡ liveRows table
+  pub live-back : liveRows (guessTable (listing table issued)) ≡ liveRows table
   live-back = ap liveRows table-back ∙ live-lent 1024 (liveRows table) (live-named table)
 
   -- ---- what is written is read back
@@ -113,6 +112,20 @@ module _ (table : List Cap) (issued : ℕ) (t : Listable table issued) where
   pub read-back : readListing (listing table issued) (length table) ≡ value (record { table = table; issued = issued })
   read-back =
       read-listed (length table) fits ∙ (λ i. value (record { table = lent-live table (o .arrange) i; issued = issued }))
+
+  -- what a writer left in the buffer reads back
+  pub written-reads-back : (out : List ℕ) (n : ℕ) → listingWritten table issued out ≡ value n
+      → readListing (take n (listingStored table issued out)) (length table) ≡ value (record { table = table; issued = issued })
+  unfolding listingWritten listingStored
+  written-reads-back out n h =
+      let w : Wrote true (listing table issued) (stored true (listing table issued) out) n = wrote n (record { answer = sym (rw (t .ordered) at h); buffer = refl }) refl in
+      rw (t .ordered) (ap (λ (s : List ℕ). readListing s (length table)) (w .front) ∙ read-back)
+
+  -- and so into a lent table: one in order has at most 1,024 rows
+  pub written-reads-into : (out : List ℕ) (n : ℕ) → listingWritten table issued out ≡ value n
+      → readTable (take n (listingStored table issued out)) (length table) ≡ value (record { table = table; issued = issued })
+  unfolding readTable
+  written-reads-into out n h = rw (le-leb (length table) 1024 (o .few)) (written-reads-back out n h)
 
 -- ---- no other text is read
 
