@@ -1,12 +1,14 @@
--- Card 1: a trace without names, and the same with its right names behind `(trace 2)`, get the same verdicts.
+-- Card 1: a trace without names, and the same with its right names behind `(trace 2)`, get the same verdicts, up to the first line that
+-- is misspelt in both.
 -- Assumes nothing.
 use mathlib.Core.Path.{_≡_, refl, sym, ap, _∙_}
 use mathlib.Core.Logic.{_⊎_, inl, inr}
 use mathlib.Core.Bool.{Bool, true, false, cond}
-use mathlib.Core.List.{List, [], _∷_, _++_, map}
-use Prim.Native.Nat.{ℕ, zero, suc, _+_, _<_, _≤_, _^_}
+use mathlib.Core.List.{List, [], _∷_, _++_, append-assoc, nil≢cons, head-eq-of-cons-eq}
+use Prim.Native.Nat.{ℕ, zero, suc, _+_, _<_, _^_}
 use native.Mathlib.Omega.{arith}
 use lib.Dec.{eqb}
+use lib.ListN.{length, length-take}
 use borrow.Author.Tests.{leb-true, eqb-true}
 use Rattle.model.specs.declared.Event.{Event}
 use Rattle.model.specs.declared.Event.the-variants.{Create, Borrow, Read, Write, Drop}
@@ -18,21 +20,23 @@ use Rattle.model.proofs.Lists.{test}
 use Rattle.model.proofs.Named.{same-request-answer, same-request-after, issued-request-allowed}
 use Rattle.model.proofs.Order.{ordered}
 use Rattle.model.proofs.Together.{order-request}
-use Rattle.text.specs.Class.{classOf}
-use Rattle.text.specs.Line.{through, push, linesOf}
+use Rattle.text.specs.Class.{classOf, newline}
+use Rattle.text.specs.Line.{through, nextLine, linesOf}
 use Rattle.text.specs.Decimal.{numeral, decimal, numberFrom}
-use Rattle.text.specs.Event.{spaced, spell, hasSpelling, writesName, InRange}
+use Rattle.text.specs.Event.{spaced, hasSpelling, writesName, InRange}
 use Rattle.text.specs.Group.{spellGroup, namesFrom, guessNames, readGroup}
 use Rattle.text.specs.Read.{same}
 use Rattle.text.specs.Result.{value, refused}
 use Rattle.text.specs.declared.spelling.Spelling.{Spelling}
 use Rattle.text.specs.declared.spelling.Spelling.the-variants.{Plain, Named}
+use Rattle.text.proofs.Laws.Line.{lines-next, next-some}
 use Rattle.text.proofs.Laws.OneLine.{spell-is-line, header-is-no-event}
 use Rattle.text.proofs.Laws.GroupLine.{group-reads-back, group-is-line, group-is-no-event}
-use Rattle.text.proofs.Laws.Read.{same-refl, same-true}
+use Rattle.text.proofs.Laws.Read.{same-true}
 use Rattle.text.proofs.Laws.OneSpelling.{spelling-reads-back}
-use Rattle.trace.specs.Run.{header, Taken, Ran, readRequest, takeLine, runLines, runTrace, runFrom, lent, run}
-use Rattle.trace.specs.Spellings.{spellRequest, textOf, plainText, namedText, Spellable, Spelled, oneHigher, SameVerdicts}
+use Rattle.trace.specs.Run.{header, Taken, Ran, readRequest, takeLine, runLines, runFrom, lent, run}
+use Rattle.trace.specs.Spellings.{spellRequest, textOf, plainText, namedText, Spellable, Spelled, oneHigher, Rests, none, misspelt, OldTrace, SameVerdicts}
+use Rattle.trace.proofs.Laws.Header.{trace-plain, trace-named}
 
 -- ---- an event that has a spelling without its name has one with its right name
 
@@ -54,11 +58,14 @@ named-in-range i l (Drop u) k = k
 
 -- ---- a request
 
--- it is one line
-request-line : (q : Request) (t : List ℕ) → linesOf (spellRequest q ++ t) ≡ spellRequest q ∷ linesOf t
+-- it is one line, whatever follows
+one-line : (q : Request) (t : List ℕ) → linesOf (spellRequest q ++ t) ≡ spellRequest q ∷ linesOf t
 unfolding spellRequest
-request-line (Single e) t = spell-is-line e t
-request-line (Group names) t = group-is-line names t
+one-line (Single e) t = spell-is-line e t
+one-line (Group names) t = group-is-line names t
+
+request-line : (q : Request) (s t : List ℕ) → linesOf ((spellRequest q ++ s) ++ t) ≡ spellRequest q ∷ linesOf (s ++ t)
+request-line q s t = ap linesOf (append-assoc (spellRequest q) s t) ∙ one-line q (s ++ t)
 
 -- which reads back, without its name and with its right name
 reads-plain : (q : Request) → Spellable q → readRequest Plain (spellRequest (unnamedRequest q)) ≡ value (unnamedRequest q)
@@ -79,41 +86,50 @@ record Higher (q p : Ran State) : Type 0 where
   numbers : q .number ≡ p .number + 1
   states : q .state ≡ p .state
 
-same-lines : (qs : List Request) → Spelled qs → (before : ℕ) (h : State) → inOrder (h .table) (h .tally .issued) ≡ true → (i : ℕ) → i ≡ h .tally .issued
-    → Higher (runLines lent Named (before + 1) h (linesOf (textOf (allRightlyNamedRequests i qs)))) (runLines lent Plain before h (linesOf (plainText qs)))
-unfolding textOf allRightlyNamedRequests runLines linesOf
-same-lines [] sp before h o i is = record { refusals = refl; numbers = refl; states = refl }
-same-lines (q ∷ qs) sp before h o i is =
-    let small : suc i < 2 ^ 32 = omega (arith, is, leb-true (h .tally .issued) 1000000 (ordered (h .table) (h .tally .issued) o .names-left)) in
-    rw (
-      request-line (rightlyNamedRequest i q) (textOf (allRightlyNamedRequests (issuedAfterRequest i q) qs)),
-      request-line (unnamedRequest q) (plainText qs),
-      reads-named i small q (sp .0),
-      reads-plain q (sp .0),
-      answers,
-      afters,
-    )
-    (go (eqb (answerRequest h (unnamedRequest q) .refusal) 0) refl (same-lines qs (sp .1) (before + 1) (afterRequest h (unnamedRequest q)) (order-request h (unnamedRequest q) o) (issuedAfterRequest i q)))
-  where
-    answers : answerRequest h (rightlyNamedRequest i q) ≡ answerRequest h (unnamedRequest q)
-    answers = ap (λ (j : ℕ). answerRequest h (rightlyNamedRequest j q)) is ∙ same-request-answer h q
+-- behind the requests, both have the same line or none
+same-rests : {rest rest′ : List ℕ} → Rests rest rest′ → (before : ℕ) (h : State) → Higher (runLines lent Named (before + 1) h (linesOf rest′)) (runLines lent Plain before h (linesOf rest))
+unfolding runLines linesOf
+same-rests none before h = record { refusals = refl; numbers = refl; states = refl }
+same-rests (misspelt {rest = rest} {rest′ = rest′} some line no-plain no-named) before h =
+    let some′ : 0 < length rest′ = omega (arith, next-some rest some, ap length line, length-take (through newline rest′) rest′) in
+    rw (lines-next rest some, lines-next rest′ some′, ← line, no-plain, no-named) (record { refusals = refl; numbers = refl; states = refl })
 
-    afters : afterRequest h (rightlyNamedRequest i q) ≡ afterRequest h (unnamedRequest q)
-    afters = ap (λ (j : ℕ). afterRequest h (rightlyNamedRequest j q)) is ∙ same-request-after h q
+module _ {rest rest′ : List ℕ} (rests : Rests rest rest′) where
+  same-lines : (qs : List Request) → Spelled qs → (before : ℕ) (h : State) → inOrder (h .table) (h .tally .issued) ≡ true → (i : ℕ) → i ≡ h .tally .issued
+      → Higher (runLines lent Named (before + 1) h (linesOf (textOf (allRightlyNamedRequests i qs) ++ rest′))) (runLines lent Plain before h (linesOf (plainText qs ++ rest)))
+  unfolding textOf allRightlyNamedRequests runLines
+  same-lines [] sp before h o i is = same-rests rests before h
+  same-lines (q ∷ qs) sp before h o i is =
+      let small : suc i < 2 ^ 32 = omega (arith, is, leb-true (h .tally .issued) 1000000 (ordered (h .table) (h .tally .issued) o .names-left)) in
+      rw (
+        request-line (rightlyNamedRequest i q) (textOf (allRightlyNamedRequests (issuedAfterRequest i q) qs)) rest′,
+        request-line (unnamedRequest q) (plainText qs) rest,
+        reads-named i small q (sp .0),
+        reads-plain q (sp .0),
+        answers,
+        afters,
+      )
+      (go (eqb (answerRequest h (unnamedRequest q) .refusal) 0) refl (same-lines qs (sp .1) (before + 1) (afterRequest h (unnamedRequest q)) (order-request h (unnamedRequest q) o) (issuedAfterRequest i q)))
+    where
+      answers : answerRequest h (rightlyNamedRequest i q) ≡ answerRequest h (unnamedRequest q)
+      answers = ap (λ (j : ℕ). answerRequest h (rightlyNamedRequest j q)) is ∙ same-request-answer h q
 
-    next : State
-    next = afterRequest h (unnamedRequest q)
+      afters : afterRequest h (rightlyNamedRequest i q) ≡ afterRequest h (unnamedRequest q)
+      afters = ap (λ (j : ℕ). afterRequest h (rightlyNamedRequest j q)) is ∙ same-request-after h q
 
-    rest : Ran State
-    rest = runLines lent Plain (before + 1) next (linesOf (plainText qs))
+      next : State
+      next = afterRequest h (unnamedRequest q)
 
-    named-rest : Ran State
-    named-rest = runLines lent Named (before + 1 + 1) next (linesOf (textOf (allRightlyNamedRequests (issuedAfterRequest i q) qs)))
+      plain : Ran State
+      plain = runLines lent Plain (before + 1) next (linesOf (plainText qs ++ rest))
 
-    go : (b : Bool) → eqb (answerRequest h (unnamedRequest q) .refusal) 0 ≡ b → (issuedAfterRequest i q ≡ next .tally .issued → Higher named-rest rest)
-        → Higher (cond b named-rest (record { refusal = answerRequest h (unnamedRequest q) .refusal; number = before + 1 + 1; state = next })) (cond b rest (record { refusal = answerRequest h (unnamedRequest q) .refusal; number = before + 1; state = next }))
-    go true z ih = ih (ap (λ (j : ℕ). issuedAfterRequest j q) is ∙ sym (issued-request-allowed h q (eqb-true _ 0 z)))
-    go false z ih = record { refusals = refl; numbers = refl; states = refl }
+      named : Ran State
+      named = runLines lent Named (before + 1 + 1) next (linesOf (textOf (allRightlyNamedRequests (issuedAfterRequest i q) qs) ++ rest′))
+
+      go : (b : Bool) → eqb (answerRequest h (unnamedRequest q) .refusal) 0 ≡ b → (issuedAfterRequest i q ≡ next .tally .issued → Higher named plain)
+          → Higher (cond b named (record { refusal = answerRequest h (unnamedRequest q) .refusal; number = before + 1 + 1; state = next })) (cond b plain (record { refusal = answerRequest h (unnamedRequest q) .refusal; number = before + 1; state = next }))
+      go true z ih = ih (ap (λ (j : ℕ). issuedAfterRequest j q) is ∙ sym (issued-request-allowed h q (eqb-true _ 0 z)))
+      go false z ih = record { refusals = refl; numbers = refl; states = refl }
 
 -- a line that is refused has a number
 refused-line : (k : Spelling) (before : ℕ) (h : State) (ls : List (List ℕ)) → (runLines lent k before h ls .refusal ≡ 0) ⊎ (before < runLines lent k before h ls .number)
@@ -139,10 +155,6 @@ higher-is (suc r) (suc n) h = omega arith
 
 -- ---- the two texts
 
-header-line : (t : List ℕ) → linesOf (header ++ t) ≡ header ∷ linesOf t
-unfolding linesOf push classOf
-header-line t = refl
-
 -- no request is spelled as the header
 no-group : readGroup header ≡ refused 2
 unfolding readGroup guessNames namesFrom isGroup risesStrictly risesAbove spellGroup spaced decimal numeral numberFrom through classOf same
@@ -158,31 +170,45 @@ no-header q sp = go (test (same (spellRequest (unnamedRequest q)) header))
     go (inl y) = absurd (let z : _≡_ {A = ℕ} 0 1 = cc (ap (readRequest Plain) (same-true (spellRequest (unnamedRequest q)) header y), reads-plain q sp, refuses) in omega arith)
     go (inr n) = n
 
-plain-trace : (h : State) (qs : List Request) → Spelled qs → runTrace lent h (linesOf (plainText qs)) ≡ runLines lent Plain 0 h (linesOf (plainText qs))
-unfolding runTrace textOf linesOf
-plain-trace h [] sp = refl
-plain-trace h (q ∷ qs) sp = rw (request-line (unnamedRequest q) (plainText qs), no-header q (sp .0))
+first-line : (text line : List ℕ) (lines : List (List ℕ)) → linesOf text ≡ line ∷ lines → nextLine text ≡ line
+unfolding linesOf
+first-line [] line lines e = absurd (nil≢cons e)
+first-line (b ∷ text) line lines e = head-eq-of-cons-eq (sym (lines-next (b ∷ text) (omega arith)) ∙ e)
 
-named-trace : (h : State) (i : ℕ) (es : List Request) → runTrace lent h (linesOf (namedText i es)) ≡ runLines lent Named 1 h (linesOf (textOf (allRightlyNamedRequests i es)))
-unfolding runTrace
-named-trace h i es = rw (header-line (textOf (allRightlyNamedRequests i es)), same-refl header)
+-- so a trace that begins with a request is one of document 01, whatever follows; and the other begins with the header
+pub request-first : (q : Request) (qs : List Request) → Spelled (q ∷ qs) → (rest : List ℕ) → OldTrace (plainText (q ∷ qs) ++ rest)
+unfolding textOf
+request-first q qs sp rest =
+    let p = unnamedRequest q in
+    rw (first-line ((spellRequest p ++ plainText qs) ++ rest) (spellRequest p) (linesOf (plainText qs ++ rest)) (request-line p (plainText qs) rest)) (no-header q (sp .0))
 
-module _ (h : State) (es : List Request) (sp : Spelled es) (o : inOrder (h .table) (h .tally .issued) ≡ true) where
-  plain-run : run h (plainText es) ≡ runLines lent Plain 0 h (linesOf (plainText es))
+header-first : (t : List ℕ) → same (nextLine (header ++ t)) header ≡ true
+unfolding through classOf same
+header-first t = refl
+
+module _ (h : State) (qs : List Request) (sp : Spelled qs) {rest rest′ : List ℕ} (rests : Rests rest rest′) (old : OldTrace (plainText qs ++ rest)) (o : inOrder (h .table) (h .tally .issued) ≡ true) where
+  abbrev plain : List ℕ
+  plain = plainText qs ++ rest
+
+  -- the lines behind the header
+  abbrev behind : List ℕ
+  behind = textOf (allRightlyNamedRequests (h .tally .issued) qs) ++ rest′
+
+  plain-run : run h plain ≡ runLines lent Plain 0 h (linesOf plain)
   unfolding runFrom
-  plain-run = rw o (plain-trace h es sp)
+  plain-run = rw o (trace-plain plain old lent h)
 
-  named-run : run h (namedText (h .tally .issued) es) ≡ runLines lent Named 1 h (linesOf (textOf (allRightlyNamedRequests (h .tally .issued) es)))
+  named-run : run h (header ++ behind) ≡ runLines lent Named 1 h (linesOf behind)
   unfolding runFrom
-  named-run = rw o (named-trace h (h .tally .issued) es)
+  named-run = rw o (trace-named (header ++ behind) (header-first behind) lent h)
 
-  in-order : SameVerdicts h es
+  in-order : SameVerdicts h plain (header ++ behind)
   in-order =
-      let s = same-lines es sp 0 h o (h .tally .issued) refl in
-      let p = runLines lent Plain 0 h (linesOf (plainText es)) in
+      let s = same-lines rests qs sp 0 h o (h .tally .issued) refl in
+      let p = runLines lent Plain 0 h (linesOf plain) in
       record {
         same-refusal = rw (named-run, plain-run) (s .refusals);
-        one-higher = rw (named-run, plain-run) (s .numbers ∙ higher-is (p .refusal) (p .number) (refused-line Plain 0 h (linesOf (plainText es))));
+        one-higher = rw (named-run, plain-run) (s .numbers ∙ higher-is (p .refusal) (p .number) (refused-line Plain 0 h (linesOf plain)));
         same-state = rw (named-run, plain-run) (s .states);
       }
 
@@ -190,12 +216,19 @@ refused-run : (h : State) (text : List ℕ) → inOrder (h .table) (h .tally .is
 unfolding runFrom
 refused-run h text d = rw d
 
-pub same-verdicts : (h : State) (es : List Request) → Spelled es → SameVerdicts h es
-same-verdicts h es sp = go (test (inOrder (h .table) (h .tally .issued)))
+pub same-verdicts : (h : State) (qs : List Request) → Spelled qs → {rest rest′ : List ℕ} → Rests rest rest′ → OldTrace (plainText qs ++ rest)
+    → SameVerdicts h (plainText qs ++ rest) (namedText (h .tally .issued) qs ++ rest′)
+same-verdicts h qs sp {rest} {rest′} rests old = go (test (inOrder (h .table) (h .tally .issued)))
   where
-    go : (inOrder (h .table) (h .tally .issued) ≡ true) ⊎ (inOrder (h .table) (h .tally .issued) ≡ false) → SameVerdicts h es
-    go (inl o) = in-order h es sp o
+    plain : List ℕ
+    plain = plainText qs ++ rest
+
+    named : List ℕ
+    named = namedText (h .tally .issued) qs ++ rest′
+
+    go : (inOrder (h .table) (h .tally .issued) ≡ true) ⊎ (inOrder (h .table) (h .tally .issued) ≡ false) → SameVerdicts h plain named
+    go (inl o) = in-order h qs sp rests old o
     go (inr d) =
-        let named = refused-run h (namedText (h .tally .issued) es) d in
-        let plain = refused-run h (plainText es) d in
-        record { same-refusal = rw (named, plain); one-higher = rw (named, plain); same-state = rw (named, plain) }
+        let p = refused-run h plain d in
+        let n = refused-run h named d in
+        record { same-refusal = rw (n, p); one-higher = rw (n, p); same-state = rw (n, p) }
