@@ -7,7 +7,7 @@ use mathlib.Core.Bool.{true, false}
 use mathlib.Core.List.{List, [], _∷_, _++_, map}
 use lib.ListN.{length}
 use Rattle.model.specs.Together.{Request, Single, Group, isGroup}
-use Rattle.model.specs.Step.{State}
+use Rattle.model.specs.Step.{State, initial}
 use Rattle.model.specs.Named.{unnamed, unnamedRequest, allRightlyNamedRequests}
 use Rattle.text.specs.Event.{spell, hasSpelling, Below32, InRange}
 use Rattle.text.specs.Group.{spellGroup}
@@ -15,7 +15,9 @@ use Rattle.text.specs.Line.{nextLine}
 use Rattle.text.specs.Read.{same}
 use Rattle.text.specs.Result.{refused}
 use Rattle.text.specs.declared.spelling.Spelling.the-variants.{Plain, Named}
-use Rattle.trace.specs.Run.{header, readRequest, run}
+use Rattle.listing.specs.Listing.{listing}
+use Rattle.trace.specs.Run.{header, readRequest, Ran, run}
+use Rattle.trace.specs.Check.{answerLine, report, noCounts, checkText}
 
 -- the line of an event, or of names dropped together, and the lines of several
 unfoldable pub spellRequest : Request → List ℕ
@@ -65,3 +67,14 @@ pub record SameVerdicts (h : State) (plain named : List ℕ) : Type 0 where
   pub same-refusal : run h named .refusal ≡ run h plain .refusal
   pub one-higher : run h named .number ≡ oneHigher (run h plain .refusal) (run h plain .number)
   pub same-state : run h named .state ≡ run h plain .state
+
+-- the run that `capcheck` prints
+abbrev pub checked : List ℕ → Ran State
+checked = run (initial 1024 noCounts)
+
+-- what `capcheck` prints of the two, neither `(long)`: the new one's answer with its number one higher, and the same listing
+pub record SameChecks (plain named : List ℕ) : Type 0 where
+  pub plain-report : checkText plain ≡ report (checked plain)
+  pub named-report : checkText named
+      ≡ answerLine (checked plain .refusal) (oneHigher (checked plain .refusal) (checked plain .number))
+      ++ listing (checked plain .state .table) (checked plain .state .tally .issued)

@@ -1,18 +1,18 @@
 -- Card 1: a trace without names, and the same with its right names behind `(trace 2)`, get the same verdicts, up to the first line that
--- is misspelt in both.
+-- is misspelt in both; and what `capcheck` prints of them.
 -- Assumes nothing.
 use mathlib.Core.Path.{_≡_, refl, sym, ap, _∙_}
 use mathlib.Core.Logic.{_⊎_, inl, inr}
 use mathlib.Core.Bool.{Bool, true, false, cond}
 use mathlib.Core.List.{List, [], _∷_, _++_, append-assoc, nil≢cons, head-eq-of-cons-eq}
-use Prim.Native.Nat.{ℕ, zero, suc, _+_, _<_, _^_}
+use Prim.Native.Nat.{ℕ, zero, suc, _+_, _<_, _≤_, _^_}
 use native.Mathlib.Omega.{arith}
 use lib.Dec.{eqb}
 use lib.ListN.{length, length-take}
 use borrow.Author.Tests.{leb-true, eqb-true}
 use Rattle.model.specs.declared.Event.{Event}
 use Rattle.model.specs.declared.Event.the-variants.{Create, Borrow, Read, Write, Drop}
-use Rattle.model.specs.Step.{State}
+use Rattle.model.specs.Step.{State, initial}
 use Rattle.model.specs.Together.{Request, Single, Group, risesAbove, risesStrictly, isGroup, answerRequest, afterRequest}
 use Rattle.model.specs.Table.{inOrder}
 use Rattle.model.specs.Named.{unnamed, rightlyNamed, unnamedRequest, rightlyNamedRequest, issuedAfterRequest, allRightlyNamedRequests}
@@ -35,8 +35,10 @@ use Rattle.text.proofs.Laws.GroupLine.{group-reads-back, group-is-line, group-i
 use Rattle.text.proofs.Laws.Read.{same-true}
 use Rattle.text.proofs.Laws.OneSpelling.{spelling-reads-back}
 use Rattle.trace.specs.Run.{header, Taken, Ran, readRequest, takeLine, runLines, runFrom, lent, run}
-use Rattle.trace.specs.Spellings.{spellRequest, textOf, plainText, namedText, Spellable, Spelled, oneHigher, Rests, none, misspelt, OldTrace, SameVerdicts}
+use Rattle.trace.specs.Check.{report, noCounts, checkText}
+use Rattle.trace.specs.Spellings.{spellRequest, textOf, plainText, namedText, Spellable, Spelled, oneHigher, Rests, none, misspelt, OldTrace, SameVerdicts, checked, SameChecks}
 use Rattle.trace.proofs.Laws.Header.{trace-plain, trace-named}
+use Rattle.trace.proofs.Laws.Report.{ran-report}
 
 -- ---- an event that has a spelling without its name has one with its right name
 
@@ -232,3 +234,17 @@ same-verdicts h qs sp {rest} {rest′} rests old = go (test (inOrder (h .table) 
         let p = refused-run h plain d in
         let n = refused-run h named d in
         record { same-refusal = rw (n, p); one-higher = rw (n, p); same-state = rw (n, p) }
+
+-- ---- what `capcheck` prints
+
+ran-text : (text : List ℕ) → length text ≤ 65536 → checkText text ≡ report (checked text)
+ran-text text l = sym (ran-report text (checked text) refl l)
+
+pub same-checks : (qs : List Request) → Spelled qs → {rest rest′ : List ℕ} → Rests rest rest′ → OldTrace (plainText qs ++ rest)
+    → length (plainText qs ++ rest) ≤ 65536 → length (namedText 0 qs ++ rest′) ≤ 65536 → SameChecks (plainText qs ++ rest) (namedText 0 qs ++ rest′)
+same-checks qs sp {rest} {rest′} rests old few few′ =
+    let v = same-verdicts (initial 1024 noCounts) qs sp rests old in
+    record {
+      plain-report = ran-text (plainText qs ++ rest) few;
+      named-report = ran-text (namedText 0 qs ++ rest′) few′ ∙ ap report (λ i. record { refusal = v .same-refusal i; number = v .one-higher i; state = v .same-state i });
+    }
