@@ -27,17 +27,17 @@ use Rattle.text.specs.Event.{spaced, hasSpelling, writesName, InRange}
 use Rattle.text.specs.Group.{spellGroup, namesFrom, guessNames, readGroup}
 use Rattle.text.specs.Read.{same}
 use Rattle.text.specs.Result.{value, refused}
-use Rattle.text.specs.declared.spelling.Spelling.{Spelling}
 use Rattle.text.specs.declared.spelling.Spelling.the-variants.{Plain, Named}
 use Rattle.text.proofs.Laws.Line.{lines-next, next-some}
 use Rattle.text.proofs.Laws.OneLine.{spell-is-line, header-is-no-event}
 use Rattle.text.proofs.Laws.GroupLine.{group-reads-back, group-is-line, group-is-no-event}
 use Rattle.text.proofs.Laws.Read.{same-true}
 use Rattle.text.proofs.Laws.OneSpelling.{spelling-reads-back}
-use Rattle.trace.specs.Run.{header, Taken, Ran, readRequest, takeLine, runLines, runFrom, lent, run}
+use Rattle.trace.specs.Run.{header, Ran, readRequest, runLines, runFrom, lent, run}
 use Rattle.trace.specs.Check.{report, noCounts, checkText}
 use Rattle.trace.specs.Spellings.{spellRequest, textOf, plainText, namedText, Spellable, Spelled, oneHigher, Rests, none, misspelt, OldTrace, SameVerdicts, checked, SameChecks}
 use Rattle.trace.proofs.Laws.Header.{trace-plain, trace-named}
+use Rattle.trace.proofs.Laws.Order.{refused-line, refused-run}
 use Rattle.trace.proofs.Laws.Report.{ran-report}
 
 -- ---- an event that has a spelling without its name has one with its right name
@@ -133,22 +133,6 @@ module _ {rest rest′ : List ℕ} (rests : Rests rest rest′) where
       go true z ih = ih (ap (λ (j : ℕ). issuedAfterRequest j q) is ∙ sym (issued-request-allowed h q (eqb-true _ 0 z)))
       go false z ih = record { refusals = refl; numbers = refl; states = refl }
 
--- a line that is refused has a number
-refused-line : (k : Spelling) (before : ℕ) (h : State) (ls : List (List ℕ)) → (runLines lent k before h ls .refusal ≡ 0) ⊎ (before < runLines lent k before h ls .number)
-unfolding runLines
-refused-line k before h [] = inl refl
-refused-line k before h (l ∷ ls) = go (eqb (t .refusal) 0) (refused-line k (before + 1) (t .state) ls)
-  where
-    t : Taken State
-    t = takeLine lent k h l
-
-    go : (b : Bool) → (runLines lent k (before + 1) (t .state) ls .refusal ≡ 0) ⊎ (before + 1 < runLines lent k (before + 1) (t .state) ls .number)
-        → (cond b (runLines lent k (before + 1) (t .state) ls) (record { refusal = t .refusal; number = before + 1; state = t .state }) .refusal ≡ 0)
-        ⊎ (before < cond b (runLines lent k (before + 1) (t .state) ls) (record { refusal = t .refusal; number = before + 1; state = t .state }) .number)
-    go true (inl z) = inl z
-    go true (inr m) = inr (omega arith)
-    go false ih = inr (omega arith)
-
 higher-is : (r n : ℕ) → (r ≡ 0) ⊎ (0 < n) → n + 1 ≡ oneHigher r n
 higher-is zero n h = omega arith
 higher-is (suc r) zero (inl z) = absurd (let e : _≡_ {A = ℕ} (suc r) 0 = z in omega arith)
@@ -213,10 +197,6 @@ module _ (h : State) (qs : List Request) (sp : Spelled qs) {rest rest′ : List 
         one-higher = rw (named-run, plain-run) (s .numbers ∙ higher-is (p .refusal) (p .number) (refused-line Plain 0 h (linesOf plain)));
         same-state = rw (named-run, plain-run) (s .states);
       }
-
-refused-run : (h : State) (text : List ℕ) → inOrder (h .table) (h .tally .issued) ≡ false → run h text ≡ record { refusal = 1; number = 0; state = h }
-unfolding runFrom
-refused-run h text d = rw d
 
 pub same-verdicts : (h : State) (qs : List Request) → Spelled qs → {rest rest′ : List ℕ} → Rests rest rest′ → OldTrace (plainText qs ++ rest)
     → SameVerdicts h (plainText qs ++ rest) (namedText (h .tally .issued) qs ++ rest′)
