@@ -23,9 +23,9 @@ use Rattle.model.proofs.Together.{order-request}
 use Rattle.text.specs.Class.{classOf, newline}
 use Rattle.text.specs.Line.{through, nextLine, linesOf}
 use Rattle.text.specs.Decimal.{numeral, decimal, numberFrom}
-use Rattle.text.specs.Event.{spaced, hasSpelling, writesName, InRange}
+use Rattle.text.specs.Event.{bytes, spaced, spell, hasSpelling, writesName, InRange}
 use Rattle.text.specs.Group.{spellGroup, namesFrom, guessNames, readGroup}
-use Rattle.text.specs.Read.{same}
+use Rattle.text.specs.Read.{same, guess, readEvent}
 use Rattle.text.specs.Result.{value, refused}
 use Rattle.text.specs.declared.spelling.Spelling.the-variants.{Plain, Named}
 use Rattle.text.proofs.Laws.Line.{lines-next, next-some}
@@ -95,6 +95,11 @@ same-rests none before h = record { refusals = refl; numbers = refl; states = re
 same-rests (misspelt {rest = rest} {rest′ = rest′} some line no-plain no-named) before h =
     let some′ : 0 < length rest′ = omega (arith, next-some rest some, ap length line, length-take (through newline rest′) rest′) in
     rw (lines-next rest some, lines-next rest′ some′, ← line, no-plain, no-named) (record { refusals = refl; numbers = refl; states = refl })
+
+-- an example: a number with a leading zero, and in the first another line behind it
+rests-example : Rests (bytes "(read 01 0 8)\n(drop 1)\n") (bytes "(read 01 0 8)\n")
+unfolding readEvent guess hasSpelling spell readGroup guessNames namesFrom isGroup risesStrictly risesAbove spellGroup spaced decimal numeral numberFrom through classOf same
+rests-example = misspelt {rest = bytes "(read 01 0 8)\n(drop 1)\n"} (omega arith) refl refl refl
 
 module _ {rest rest′ : List ℕ} (rests : Rests rest rest′) where
   same-lines : (qs : List Request) → Spelled qs → (before : ℕ) (h : State) → inOrder (h .table) (h .tally .issued) ≡ true → (i : ℕ) → i ≡ h .tally .issued
