@@ -1,18 +1,23 @@
 -- Card 1: "Two traces that differ only in this spelling, with right names and neither `(long)`, get the same verdicts; the new one's lines
 -- allowed, and its line number unless 0, are one higher."
 -- Assumes nothing.
-use Prim.Native.Nat.{ℕ, zero, suc, _≤_}
+use Prim.Native.Nat.{ℕ, zero, suc, _≤_, _<_}
 use mathlib.Core.Path.{_≡_}
-use mathlib.Core.Bool.{true}
+use mathlib.Core.Bool.{true, false}
 use mathlib.Core.List.{List, [], _∷_, _++_, map}
 use lib.ListN.{length}
 use Rattle.model.specs.Together.{Request, Single, Group, isGroup}
-use Rattle.model.specs.Step.{State}
+use Rattle.model.specs.Step.{State, initial}
 use Rattle.model.specs.Named.{unnamed, unnamedRequest, allRightlyNamedRequests}
 use Rattle.text.specs.Event.{spell, hasSpelling, Below32, InRange}
 use Rattle.text.specs.Group.{spellGroup}
-use Rattle.text.specs.declared.spelling.Spelling.the-variants.{Plain}
-use Rattle.trace.specs.Run.{header, run}
+use Rattle.text.specs.Line.{nextLine}
+use Rattle.text.specs.Read.{same}
+use Rattle.text.specs.Result.{refused}
+use Rattle.text.specs.declared.spelling.Spelling.the-variants.{Plain, Named}
+use Rattle.listing.specs.Listing.{listing}
+use Rattle.trace.specs.Run.{header, readRequest, Ran, run}
+use Rattle.trace.specs.Check.{answerLine, report, noCounts, checkText}
 
 -- the line of an event, or of names dropped together, and the lines of several
 unfoldable pub spellRequest : Request → List ℕ
@@ -45,8 +50,31 @@ oneHigher zero lines = suc lines
 oneHigher (suc refusal) zero = zero
 oneHigher (suc refusal) (suc line) = suc (suc line)
 
--- on any lent table and tally
-pub record SameVerdicts (h : State) (es : List Request) : Type 0 where
-  pub same-refusal : run h (namedText (h .tally .issued) es) .refusal ≡ run h (plainText es) .refusal
-  pub one-higher : run h (namedText (h .tally .issued) es) .number ≡ oneHigher (run h (plainText es) .refusal) (run h (plainText es) .number)
-  pub same-state : run h (namedText (h .tally .issued) es) .state ≡ run h (plainText es) .state
+-- What stands behind the requests of both: nothing; or one and the same line, which is read in neither spelling. A run ends at that line,
+-- so anything may follow it, in each of the two another text.
+pub data Rests : List ℕ → List ℕ → Type 0 where
+  none : Rests [] []
+  misspelt : {rest rest′ : List ℕ} → 0 < length rest → nextLine rest ≡ nextLine rest′ → readRequest Plain (nextLine rest) ≡ refused 2
+      → readRequest Named (nextLine rest) ≡ refused 2 → Rests rest rest′
+
+-- A trace of document 01: its first line is not the header. One that begins with a request always is (`request-first` of
+-- proofs/Laws/Spellings); where there is none, what stands behind could begin with the header.
+abbrev pub OldTrace : List ℕ → Type 0
+OldTrace text = same (nextLine text) header ≡ false
+
+-- the verdicts of the two traces, on any lent table and tally
+pub record SameVerdicts (h : State) (plain named : List ℕ) : Type 0 where
+  pub same-refusal : run h named .refusal ≡ run h plain .refusal
+  pub one-higher : run h named .number ≡ oneHigher (run h plain .refusal) (run h plain .number)
+  pub same-state : run h named .state ≡ run h plain .state
+
+-- the run that `capcheck` prints
+abbrev pub checked : List ℕ → Ran State
+checked = run (initial 1024 noCounts)
+
+-- what `capcheck` prints of the two, neither `(long)`: the new one's answer with its number one higher, and the same listing
+pub record SameChecks (plain named : List ℕ) : Type 0 where
+  pub plain-report : checkText plain ≡ report (checked plain)
+  pub named-report : checkText named
+      ≡ answerLine (checked plain .refusal) (oneHigher (checked plain .refusal) (checked plain .number))
+      ++ listing (checked plain .state .table) (checked plain .state .tally .issued)

@@ -38,7 +38,7 @@ unfolding standings
 above-names rows issued [] = refl
 above-names rows issued (u ∷ names) = above-names rows issued names
 
-group-not-1 : (t : List Cap) (issued : ℕ) (names : List ℕ) → inOrder t issued ≡ true → judgeGroup t issued names ≡ 1 → ⊥
+pub group-not-1 : (t : List Cap) (issued : ℕ) (names : List ℕ) → inOrder t issued ≡ true → judgeGroup t issued names ≡ 1 → ⊥
 unfolding judgeGroup groupRefusals
 group-not-1 t issued names o e = first-above ((13, misgrouped names) ∷ standings (liveRows t) issued names) (above-names (liveRows t) issued names) (rw o at e)
 

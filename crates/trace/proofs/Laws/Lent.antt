@@ -11,7 +11,6 @@ use borrow.Author.Tests.{leb-true, leb-false}
 use Rattle.model.specs.declared.Cap.{Cap}
 use Rattle.model.specs.declared.Tally.{Tally}
 use Rattle.model.specs.Step.{State}
-use Rattle.model.specs.Table.{inOrder}
 use Rattle.model.proofs.Lists.{test}
 use Rattle.table.specs.Words.{rowsOf}
 use Rattle.rules.specs.Steps.{heldIn, lends}
@@ -19,7 +18,8 @@ use Rattle.rules.proofs.Laws.Records.{stored, many-disordered, too-many, loaded
 use Rattle.trace.specs.declared.run.RunAnswer.{RunAnswer}
 use Rattle.trace.specs.declared.run.RunAnswer.the-variants.{Allowed, Refused}
 use Rattle.trace.specs.declared.run.RunOutcome.{RunOutcome}
-use Rattle.trace.specs.Run.{Ran, runFrom, run, ranOf, Runs}
+use Rattle.trace.specs.Run.{Ran, run, ranOf, Runs}
+use Rattle.trace.proofs.Laws.Order.{refused-run}
 
 -- an answer carries the state that it is given with
 pub carries : (a : RunAnswer) (h : State) → ranOf a h .state ≡ h
@@ -43,21 +43,16 @@ module _ (ys : List Cap) (t : Tally) (w : List ℕ) (same : rowsOf w (min (lengt
       ap (λ (rows : List Cap). ranOf (r .answer) (lends rows (r .tally))) (stored-all ys l ws) ∙ h .ran
       ∙ ap (λ (rows : List Cap). run (lends rows t) text) (loaded-all ys l w same)
 
-  module _ (l : 1024 < length ys) where
-    refuses : (rows : List Cap) → inOrder rows (t .issued) ≡ false → run (lends rows t) text ≡ record { refusal = 1; number = 0; state = lends rows t }
-    unfolding runFrom
-    refuses rows e = rw e
-
-    ran-many : Ran-lent
-    ran-many =
-        let held : State = heldIn ws (length ys) (r .tally) in
-        let e : ranOf (r .answer) held ≡ record { refusal = 1; number = 0; state = heldIn w (length ys) t } = h .ran ∙ refuses (rowsOf w (length ys)) (too-many w (length ys) (t .issued) l) in
-        let kept : held ≡ heldIn w (length ys) t = sym (carries (r .answer) held) ∙ ap (λ (x : Ran State). x .state) e in
-        let table : stored ys ws (min (length ys) 1024) ≡ ys = stored-same ys w ws same l (ap (λ (x : State). x .table) kept) in
-        let tally : r .tally ≡ t = ap (λ (x : State). x .tally) kept in
-        given-with (r .answer) held after
-        ∙ (λ i. record { refusal = e i .refusal; number = e i .number; state = lends (table i) (tally i) })
-        ∙ sym (refuses ys (many-disordered ys (t .issued) l))
+  ran-many : 1024 < length ys → Ran-lent
+  ran-many l =
+      let held : State = heldIn ws (length ys) (r .tally) in
+      let e : ranOf (r .answer) held ≡ record { refusal = 1; number = 0; state = heldIn w (length ys) t } = h .ran ∙ refused-run (heldIn w (length ys) t) text (too-many w (length ys) (t .issued) l) in
+      let kept : held ≡ heldIn w (length ys) t = sym (carries (r .answer) held) ∙ ap (λ (x : Ran State). x .state) e in
+      let table : stored ys ws (min (length ys) 1024) ≡ ys = stored-same ys w ws same l (ap (λ (x : State). x .table) kept) in
+      let tally : r .tally ≡ t = ap (λ (x : State). x .tally) kept in
+      given-with (r .answer) held after
+      ∙ (λ i. record { refusal = e i .refusal; number = e i .number; state = lends (table i) (tally i) })
+      ∙ sym (refused-run (lends ys t) text (many-disordered ys (t .issued) l))
 
   pub ran-lent : Ran-lent
   ran-lent = go (test (leb (length ys) 1024))

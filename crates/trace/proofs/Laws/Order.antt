@@ -1,9 +1,10 @@
--- A run keeps a table in order, and its line number is at most the number of bytes.
+-- A run keeps a table in order, refuses one that is not, and its line number is at most the number of bytes.
 -- Assumes nothing.
 use mathlib.Core.Path.{_≡_, refl, ap}
+use mathlib.Core.Logic.{_⊎_, inl, inr}
 use mathlib.Core.Bool.{Bool, true, false, cond}
 use mathlib.Core.List.{List, [], _∷_}
-use Prim.Native.Nat.{ℕ, suc, _+_, _≤_}
+use Prim.Native.Nat.{ℕ, suc, _+_, _≤_, _<_}
 use native.Mathlib.Omega.{arith}
 use lib.Dec.{eqb}
 use lib.ListN.{length}
@@ -17,11 +18,11 @@ use Rattle.text.specs.declared.spelling.Spelling.the-variants.{Plain, Named}
 use Rattle.trace.specs.Run.{header, Ran, takeLine, runLines, runTrace, runFrom, lent, run}
 use Rattle.trace.proofs.Laws.Turn.{line-order}
 
-abbrev Ordered : State → Type 0
+abbrev pub Ordered : State → Type 0
 Ordered h = inOrder (h .table) (h .tally .issued) ≡ true
 
 -- a turn of a run, for what holds of the rest of it and of an end at this line
-turned : {S : Type 0} (P : Ran S → Type 0) (t : Bool) (rest end : Ran S) → P rest → P end → P (cond t rest end)
+pub turned : {S : Type 0} (P : Ran S → Type 0) (t : Bool) (rest end : Ran S) → P rest → P end → P (cond t rest end)
 turned P true rest end p q = p
 turned P false rest end p q = q
 
@@ -33,7 +34,7 @@ order-lines k before h (l ∷ ls) o =
     turned (λ (r : Ran State). Ordered (r .state)) (eqb (t .refusal) 0) (runLines lent k (before + 1) (t .state) ls) (record { refusal = t .refusal; number = before + 1; state = t .state }) (order-lines k (before + 1) (t .state) ls (line-order k h l o)) (line-order k h l o)
 
 -- what holds of the lines in either spelling holds of a trace
-of-trace : (P : Ran State → Type 0) (h : State) (ls : List (List ℕ)) → P (runLines lent Plain 0 h ls) → ((line : List ℕ) (rest : List (List ℕ)) → ls ≡ line ∷ rest → P (runLines lent Named 1 h rest))
+pub of-trace : (P : Ran State → Type 0) (h : State) (ls : List (List ℕ)) → P (runLines lent Plain 0 h ls) → ((line : List ℕ) (rest : List (List ℕ)) → ls ≡ line ∷ rest → P (runLines lent Named 1 h rest))
     → P (runTrace lent h ls)
 unfolding runTrace
 of-trace P h [] p q = p
@@ -43,6 +44,30 @@ pub order-run : (h : State) (text : List ℕ) → Ordered h → Ordered (run h t
 unfolding runFrom
 order-run h text o =
     rw o (of-trace (λ (r : Ran State). Ordered (r .state)) h (linesOf text) (order-lines Plain 0 h (linesOf text) o) (λ line rest e. order-lines Named 1 h rest o))
+
+-- a table that is not in order is refused before any line
+pub refused-run : (h : State) (text : List ℕ) → inOrder (h .table) (h .tally .issued) ≡ false → run h text ≡ record { refusal = 1; number = 0; state = h }
+unfolding runFrom
+refused-run h text d = rw d
+
+-- a line that is refused has a number above those before it
+abbrev pub Behind : ℕ → Ran State → Type 0
+Behind before r = (r .refusal ≡ 0) ⊎ (before < r .number)
+
+behind-more : (before : ℕ) (r : Ran State) → Behind (before + 1) r → Behind before r
+behind-more before r (inl z) = inl z
+behind-more before r (inr l) = inr (omega arith)
+
+pub refused-line : (k : Spelling) (before : ℕ) (h : State) (ls : List (List ℕ)) → Behind before (runLines lent k before h ls)
+unfolding runLines
+refused-line k before h [] = inl refl
+refused-line k before h (l ∷ ls) =
+    let t = takeLine lent k h l in
+    let rest = runLines lent k (before + 1) (t .state) ls in
+    turned (Behind before) (eqb (t .refusal) 0) rest (record { refusal = t .refusal; number = before + 1; state = t .state }) (behind-more before rest (refused-line k (before + 1) (t .state) ls)) (inr (omega arith))
+
+pub refused-trace : (h : State) (ls : List (List ℕ)) → Behind 0 (runTrace lent h ls)
+refused-trace h ls = of-trace (Behind 0) h ls (refused-line Plain 0 h ls) (λ line rest e. behind-more 0 (runLines lent Named 1 h rest) (refused-line Named 1 h rest))
 
 number-lines : (k : Spelling) (before : ℕ) (h : State) (ls : List (List ℕ)) → runLines lent k before h ls .number ≤ before + length ls
 unfolding runLines

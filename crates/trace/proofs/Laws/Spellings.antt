@@ -1,16 +1,18 @@
--- Card 1: a trace without names, and the same with its right names behind `(trace 2)`, get the same verdicts.
+-- Card 1: a trace without names, and the same with its right names behind `(trace 2)`, get the same verdicts, up to the first line that
+-- is misspelt in both; and what `capcheck` prints of them.
 -- Assumes nothing.
 use mathlib.Core.Path.{_≡_, refl, sym, ap, _∙_}
 use mathlib.Core.Logic.{_⊎_, inl, inr}
 use mathlib.Core.Bool.{Bool, true, false, cond}
-use mathlib.Core.List.{List, [], _∷_, _++_, map}
+use mathlib.Core.List.{List, [], _∷_, _++_, append-assoc, nil≢cons, head-eq-of-cons-eq}
 use Prim.Native.Nat.{ℕ, zero, suc, _+_, _<_, _≤_, _^_}
 use native.Mathlib.Omega.{arith}
 use lib.Dec.{eqb}
+use lib.ListN.{length, length-take}
 use borrow.Author.Tests.{leb-true, eqb-true}
 use Rattle.model.specs.declared.Event.{Event}
 use Rattle.model.specs.declared.Event.the-variants.{Create, Borrow, Read, Write, Drop}
-use Rattle.model.specs.Step.{State}
+use Rattle.model.specs.Step.{State, initial}
 use Rattle.model.specs.Together.{Request, Single, Group, risesAbove, risesStrictly, isGroup, answerRequest, afterRequest}
 use Rattle.model.specs.Table.{inOrder}
 use Rattle.model.specs.Named.{unnamed, rightlyNamed, unnamedRequest, rightlyNamedRequest, issuedAfterRequest, allRightlyNamedRequests}
@@ -18,21 +20,25 @@ use Rattle.model.proofs.Lists.{test}
 use Rattle.model.proofs.Named.{same-request-answer, same-request-after, issued-request-allowed}
 use Rattle.model.proofs.Order.{ordered}
 use Rattle.model.proofs.Together.{order-request}
-use Rattle.text.specs.Class.{classOf}
-use Rattle.text.specs.Line.{through, push, linesOf}
+use Rattle.text.specs.Class.{classOf, newline}
+use Rattle.text.specs.Line.{through, nextLine, linesOf}
 use Rattle.text.specs.Decimal.{numeral, decimal, numberFrom}
-use Rattle.text.specs.Event.{spaced, spell, hasSpelling, writesName, InRange}
+use Rattle.text.specs.Event.{bytes, spaced, spell, hasSpelling, writesName, InRange}
 use Rattle.text.specs.Group.{spellGroup, namesFrom, guessNames, readGroup}
-use Rattle.text.specs.Read.{same}
+use Rattle.text.specs.Read.{same, guess, readEvent}
 use Rattle.text.specs.Result.{value, refused}
-use Rattle.text.specs.declared.spelling.Spelling.{Spelling}
 use Rattle.text.specs.declared.spelling.Spelling.the-variants.{Plain, Named}
+use Rattle.text.proofs.Laws.Line.{lines-next, next-some}
 use Rattle.text.proofs.Laws.OneLine.{spell-is-line, header-is-no-event}
 use Rattle.text.proofs.Laws.GroupLine.{group-reads-back, group-is-line, group-is-no-event}
-use Rattle.text.proofs.Laws.Read.{same-refl, same-true}
+use Rattle.text.proofs.Laws.Read.{same-true}
 use Rattle.text.proofs.Laws.OneSpelling.{spelling-reads-back}
-use Rattle.trace.specs.Run.{header, Taken, Ran, readRequest, takeLine, runLines, runTrace, runFrom, lent, run}
-use Rattle.trace.specs.Spellings.{spellRequest, textOf, plainText, namedText, Spellable, Spelled, oneHigher, SameVerdicts}
+use Rattle.trace.specs.Run.{header, Ran, readRequest, runLines, runFrom, lent, run}
+use Rattle.trace.specs.Check.{report, noCounts, checkText}
+use Rattle.trace.specs.Spellings.{spellRequest, textOf, plainText, namedText, Spellable, Spelled, oneHigher, Rests, none, misspelt, OldTrace, SameVerdicts, checked, SameChecks}
+use Rattle.trace.proofs.Laws.Header.{trace-plain, trace-named}
+use Rattle.trace.proofs.Laws.Order.{refused-line, refused-run}
+use Rattle.trace.proofs.Laws.Report.{ran-report}
 
 -- ---- an event that has a spelling without its name has one with its right name
 
@@ -54,11 +60,14 @@ named-in-range i l (Drop u) k = k
 
 -- ---- a request
 
--- it is one line
-request-line : (q : Request) (t : List ℕ) → linesOf (spellRequest q ++ t) ≡ spellRequest q ∷ linesOf t
+-- it is one line, whatever follows
+one-line : (q : Request) (t : List ℕ) → linesOf (spellRequest q ++ t) ≡ spellRequest q ∷ linesOf t
 unfolding spellRequest
-request-line (Single e) t = spell-is-line e t
-request-line (Group names) t = group-is-line names t
+one-line (Single e) t = spell-is-line e t
+one-line (Group names) t = group-is-line names t
+
+request-line : (q : Request) (s t : List ℕ) → linesOf ((spellRequest q ++ s) ++ t) ≡ spellRequest q ∷ linesOf (s ++ t)
+request-line q s t = ap linesOf (append-assoc (spellRequest q) s t) ∙ one-line q (s ++ t)
 
 -- which reads back, without its name and with its right name
 reads-plain : (q : Request) → Spellable q → readRequest Plain (spellRequest (unnamedRequest q)) ≡ value (unnamedRequest q)
@@ -79,57 +88,55 @@ record Higher (q p : Ran State) : Type 0 where
   numbers : q .number ≡ p .number + 1
   states : q .state ≡ p .state
 
-same-lines : (qs : List Request) → Spelled qs → (before : ℕ) (h : State) → inOrder (h .table) (h .tally .issued) ≡ true → (i : ℕ) → i ≡ h .tally .issued
-    → Higher (runLines lent Named (before + 1) h (linesOf (textOf (allRightlyNamedRequests i qs)))) (runLines lent Plain before h (linesOf (plainText qs)))
-unfolding textOf allRightlyNamedRequests runLines linesOf
-same-lines [] sp before h o i is = record { refusals = refl; numbers = refl; states = refl }
-same-lines (q ∷ qs) sp before h o i is =
-    let small : suc i < 2 ^ 32 = omega (arith, is, leb-true (h .tally .issued) 1000000 (ordered (h .table) (h .tally .issued) o .names-left)) in
-    rw (
-      request-line (rightlyNamedRequest i q) (textOf (allRightlyNamedRequests (issuedAfterRequest i q) qs)),
-      request-line (unnamedRequest q) (plainText qs),
-      reads-named i small q (sp .0),
-      reads-plain q (sp .0),
-      answers,
-      afters,
-    )
-    (go (eqb (answerRequest h (unnamedRequest q) .refusal) 0) refl (same-lines qs (sp .1) (before + 1) (afterRequest h (unnamedRequest q)) (order-request h (unnamedRequest q) o) (issuedAfterRequest i q)))
-  where
-    answers : answerRequest h (rightlyNamedRequest i q) ≡ answerRequest h (unnamedRequest q)
-    answers = ap (λ (j : ℕ). answerRequest h (rightlyNamedRequest j q)) is ∙ same-request-answer h q
+-- behind the requests, both have the same line or none
+same-rests : {rest rest′ : List ℕ} → Rests rest rest′ → (before : ℕ) (h : State) → Higher (runLines lent Named (before + 1) h (linesOf rest′)) (runLines lent Plain before h (linesOf rest))
+unfolding runLines linesOf
+same-rests none before h = record { refusals = refl; numbers = refl; states = refl }
+same-rests (misspelt {rest = rest} {rest′ = rest′} some line no-plain no-named) before h =
+    let some′ : 0 < length rest′ = omega (arith, next-some rest some, ap length line, length-take (through newline rest′) rest′) in
+    rw (lines-next rest some, lines-next rest′ some′, ← line, no-plain, no-named) (record { refusals = refl; numbers = refl; states = refl })
 
-    afters : afterRequest h (rightlyNamedRequest i q) ≡ afterRequest h (unnamedRequest q)
-    afters = ap (λ (j : ℕ). afterRequest h (rightlyNamedRequest j q)) is ∙ same-request-after h q
+-- an example: a number with a leading zero, and in the first another line behind it
+rests-example : Rests (bytes "(read 01 0 8)\n(drop 1)\n") (bytes "(read 01 0 8)\n")
+unfolding readEvent guess hasSpelling spell readGroup guessNames namesFrom isGroup risesStrictly risesAbove spellGroup spaced decimal numeral numberFrom through classOf same
+rests-example = misspelt {rest = bytes "(read 01 0 8)\n(drop 1)\n"} (omega arith) refl refl refl
 
-    next : State
-    next = afterRequest h (unnamedRequest q)
+module _ {rest rest′ : List ℕ} (rests : Rests rest rest′) where
+  same-lines : (qs : List Request) → Spelled qs → (before : ℕ) (h : State) → inOrder (h .table) (h .tally .issued) ≡ true → (i : ℕ) → i ≡ h .tally .issued
+      → Higher (runLines lent Named (before + 1) h (linesOf (textOf (allRightlyNamedRequests i qs) ++ rest′))) (runLines lent Plain before h (linesOf (plainText qs ++ rest)))
+  unfolding textOf allRightlyNamedRequests runLines
+  same-lines [] sp before h o i is = same-rests rests before h
+  same-lines (q ∷ qs) sp before h o i is =
+      let small : suc i < 2 ^ 32 = omega (arith, is, leb-true (h .tally .issued) 1000000 (ordered (h .table) (h .tally .issued) o .names-left)) in
+      rw (
+        request-line (rightlyNamedRequest i q) (textOf (allRightlyNamedRequests (issuedAfterRequest i q) qs)) rest′,
+        request-line (unnamedRequest q) (plainText qs) rest,
+        reads-named i small q (sp .0),
+        reads-plain q (sp .0),
+        answers,
+        afters,
+      )
+      (go (eqb (answerRequest h (unnamedRequest q) .refusal) 0) refl (same-lines qs (sp .1) (before + 1) (afterRequest h (unnamedRequest q)) (order-request h (unnamedRequest q) o) (issuedAfterRequest i q)))
+    where
+      answers : answerRequest h (rightlyNamedRequest i q) ≡ answerRequest h (unnamedRequest q)
+      answers = ap (λ (j : ℕ). answerRequest h (rightlyNamedRequest j q)) is ∙ same-request-answer h q
 
-    rest : Ran State
-    rest = runLines lent Plain (before + 1) next (linesOf (plainText qs))
+      afters : afterRequest h (rightlyNamedRequest i q) ≡ afterRequest h (unnamedRequest q)
+      afters = ap (λ (j : ℕ). afterRequest h (rightlyNamedRequest j q)) is ∙ same-request-after h q
 
-    named-rest : Ran State
-    named-rest = runLines lent Named (before + 1 + 1) next (linesOf (textOf (allRightlyNamedRequests (issuedAfterRequest i q) qs)))
+      next : State
+      next = afterRequest h (unnamedRequest q)
 
-    go : (b : Bool) → eqb (answerRequest h (unnamedRequest q) .refusal) 0 ≡ b → (issuedAfterRequest i q ≡ next .tally .issued → Higher named-rest rest)
-        → Higher (cond b named-rest (record { refusal = answerRequest h (unnamedRequest q) .refusal; number = before + 1 + 1; state = next })) (cond b rest (record { refusal = answerRequest h (unnamedRequest q) .refusal; number = before + 1; state = next }))
-    go true z ih = ih (ap (λ (j : ℕ). issuedAfterRequest j q) is ∙ sym (issued-request-allowed h q (eqb-true _ 0 z)))
-    go false z ih = record { refusals = refl; numbers = refl; states = refl }
+      plain : Ran State
+      plain = runLines lent Plain (before + 1) next (linesOf (plainText qs ++ rest))
 
--- a line that is refused has a number
-refused-line : (k : Spelling) (before : ℕ) (h : State) (ls : List (List ℕ)) → (runLines lent k before h ls .refusal ≡ 0) ⊎ (before < runLines lent k before h ls .number)
-unfolding runLines
-refused-line k before h [] = inl refl
-refused-line k before h (l ∷ ls) = go (eqb (t .refusal) 0) (refused-line k (before + 1) (t .state) ls)
-  where
-    t : Taken State
-    t = takeLine lent k h l
+      named : Ran State
+      named = runLines lent Named (before + 1 + 1) next (linesOf (textOf (allRightlyNamedRequests (issuedAfterRequest i q) qs) ++ rest′))
 
-    go : (b : Bool) → (runLines lent k (before + 1) (t .state) ls .refusal ≡ 0) ⊎ (before + 1 < runLines lent k (before + 1) (t .state) ls .number)
-        → (cond b (runLines lent k (before + 1) (t .state) ls) (record { refusal = t .refusal; number = before + 1; state = t .state }) .refusal ≡ 0)
-        ⊎ (before < cond b (runLines lent k (before + 1) (t .state) ls) (record { refusal = t .refusal; number = before + 1; state = t .state }) .number)
-    go true (inl z) = inl z
-    go true (inr m) = inr (omega arith)
-    go false ih = inr (omega arith)
+      go : (b : Bool) → eqb (answerRequest h (unnamedRequest q) .refusal) 0 ≡ b → (issuedAfterRequest i q ≡ next .tally .issued → Higher named plain)
+          → Higher (cond b named (record { refusal = answerRequest h (unnamedRequest q) .refusal; number = before + 1 + 1; state = next })) (cond b plain (record { refusal = answerRequest h (unnamedRequest q) .refusal; number = before + 1; state = next }))
+      go true z ih = ih (ap (λ (j : ℕ). issuedAfterRequest j q) is ∙ sym (issued-request-allowed h q (eqb-true _ 0 z)))
+      go false z ih = record { refusals = refl; numbers = refl; states = refl }
 
 higher-is : (r n : ℕ) → (r ≡ 0) ⊎ (0 < n) → n + 1 ≡ oneHigher r n
 higher-is zero n h = omega arith
@@ -138,10 +145,6 @@ higher-is (suc r) zero (inr l) = absurd (let e : 0 < 0 = l in omega arith)
 higher-is (suc r) (suc n) h = omega arith
 
 -- ---- the two texts
-
-header-line : (t : List ℕ) → linesOf (header ++ t) ≡ header ∷ linesOf t
-unfolding linesOf push classOf
-header-line t = refl
 
 -- no request is spelled as the header
 no-group : readGroup header ≡ refused 2
@@ -158,44 +161,75 @@ no-header q sp = go (test (same (spellRequest (unnamedRequest q)) header))
     go (inl y) = absurd (let z : _≡_ {A = ℕ} 0 1 = cc (ap (readRequest Plain) (same-true (spellRequest (unnamedRequest q)) header y), reads-plain q sp, refuses) in omega arith)
     go (inr n) = n
 
-plain-trace : (h : State) (qs : List Request) → Spelled qs → runTrace lent h (linesOf (plainText qs)) ≡ runLines lent Plain 0 h (linesOf (plainText qs))
-unfolding runTrace textOf linesOf
-plain-trace h [] sp = refl
-plain-trace h (q ∷ qs) sp = rw (request-line (unnamedRequest q) (plainText qs), no-header q (sp .0))
+first-line : (text line : List ℕ) (lines : List (List ℕ)) → linesOf text ≡ line ∷ lines → nextLine text ≡ line
+unfolding linesOf
+first-line [] line lines e = absurd (nil≢cons e)
+first-line (b ∷ text) line lines e = head-eq-of-cons-eq (sym (lines-next (b ∷ text) (omega arith)) ∙ e)
 
-named-trace : (h : State) (i : ℕ) (es : List Request) → runTrace lent h (linesOf (namedText i es)) ≡ runLines lent Named 1 h (linesOf (textOf (allRightlyNamedRequests i es)))
-unfolding runTrace
-named-trace h i es = rw (header-line (textOf (allRightlyNamedRequests i es)), same-refl header)
+-- so a trace that begins with a request is one of document 01, whatever follows; and the other begins with the header
+pub request-first : (q : Request) (qs : List Request) → Spelled (q ∷ qs) → (rest : List ℕ) → OldTrace (plainText (q ∷ qs) ++ rest)
+unfolding textOf
+request-first q qs sp rest =
+    let p = unnamedRequest q in
+    rw (first-line ((spellRequest p ++ plainText qs) ++ rest) (spellRequest p) (linesOf (plainText qs ++ rest)) (request-line p (plainText qs) rest)) (no-header q (sp .0))
 
-module _ (h : State) (es : List Request) (sp : Spelled es) (o : inOrder (h .table) (h .tally .issued) ≡ true) where
-  plain-run : run h (plainText es) ≡ runLines lent Plain 0 h (linesOf (plainText es))
+header-first : (t : List ℕ) → same (nextLine (header ++ t)) header ≡ true
+unfolding through classOf same
+header-first t = refl
+
+module _ (h : State) (qs : List Request) (sp : Spelled qs) {rest rest′ : List ℕ} (rests : Rests rest rest′) (old : OldTrace (plainText qs ++ rest)) (o : inOrder (h .table) (h .tally .issued) ≡ true) where
+  abbrev plain : List ℕ
+  plain = plainText qs ++ rest
+
+  -- the lines behind the header
+  abbrev behind : List ℕ
+  behind = textOf (allRightlyNamedRequests (h .tally .issued) qs) ++ rest′
+
+  plain-run : run h plain ≡ runLines lent Plain 0 h (linesOf plain)
   unfolding runFrom
-  plain-run = rw o (plain-trace h es sp)
+  plain-run = rw o (trace-plain plain old lent h)
 
-  named-run : run h (namedText (h .tally .issued) es) ≡ runLines lent Named 1 h (linesOf (textOf (allRightlyNamedRequests (h .tally .issued) es)))
+  named-run : run h (header ++ behind) ≡ runLines lent Named 1 h (linesOf behind)
   unfolding runFrom
-  named-run = rw o (named-trace h (h .tally .issued) es)
+  named-run = rw o (trace-named (header ++ behind) (header-first behind) lent h)
 
-  in-order : SameVerdicts h es
+  in-order : SameVerdicts h plain (header ++ behind)
   in-order =
-      let s = same-lines es sp 0 h o (h .tally .issued) refl in
-      let p = runLines lent Plain 0 h (linesOf (plainText es)) in
+      let s = same-lines rests qs sp 0 h o (h .tally .issued) refl in
+      let p = runLines lent Plain 0 h (linesOf plain) in
       record {
         same-refusal = rw (named-run, plain-run) (s .refusals);
-        one-higher = rw (named-run, plain-run) (s .numbers ∙ higher-is (p .refusal) (p .number) (refused-line Plain 0 h (linesOf (plainText es))));
+        one-higher = rw (named-run, plain-run) (s .numbers ∙ higher-is (p .refusal) (p .number) (refused-line Plain 0 h (linesOf plain)));
         same-state = rw (named-run, plain-run) (s .states);
       }
 
-refused-run : (h : State) (text : List ℕ) → inOrder (h .table) (h .tally .issued) ≡ false → run h text ≡ record { refusal = 1; number = 0; state = h }
-unfolding runFrom
-refused-run h text d = rw d
-
-pub same-verdicts : (h : State) (es : List Request) → Spelled es → SameVerdicts h es
-same-verdicts h es sp = go (test (inOrder (h .table) (h .tally .issued)))
+pub same-verdicts : (h : State) (qs : List Request) → Spelled qs → {rest rest′ : List ℕ} → Rests rest rest′ → OldTrace (plainText qs ++ rest)
+    → SameVerdicts h (plainText qs ++ rest) (namedText (h .tally .issued) qs ++ rest′)
+same-verdicts h qs sp {rest} {rest′} rests old = go (test (inOrder (h .table) (h .tally .issued)))
   where
-    go : (inOrder (h .table) (h .tally .issued) ≡ true) ⊎ (inOrder (h .table) (h .tally .issued) ≡ false) → SameVerdicts h es
-    go (inl o) = in-order h es sp o
+    plain : List ℕ
+    plain = plainText qs ++ rest
+
+    named : List ℕ
+    named = namedText (h .tally .issued) qs ++ rest′
+
+    go : (inOrder (h .table) (h .tally .issued) ≡ true) ⊎ (inOrder (h .table) (h .tally .issued) ≡ false) → SameVerdicts h plain named
+    go (inl o) = in-order h qs sp rests old o
     go (inr d) =
-        let named = refused-run h (namedText (h .tally .issued) es) d in
-        let plain = refused-run h (plainText es) d in
-        record { same-refusal = rw (named, plain); one-higher = rw (named, plain); same-state = rw (named, plain) }
+        let p = refused-run h plain d in
+        let n = refused-run h named d in
+        record { same-refusal = rw (n, p); one-higher = rw (n, p); same-state = rw (n, p) }
+
+-- ---- what `capcheck` prints
+
+ran-text : (text : List ℕ) → length text ≤ 65536 → checkText text ≡ report (checked text)
+ran-text text l = sym (ran-report text (checked text) refl l)
+
+pub same-checks : (qs : List Request) → Spelled qs → {rest rest′ : List ℕ} → Rests rest rest′ → OldTrace (plainText qs ++ rest)
+    → length (plainText qs ++ rest) ≤ 65536 → length (namedText 0 qs ++ rest′) ≤ 65536 → SameChecks (plainText qs ++ rest) (namedText 0 qs ++ rest′)
+same-checks qs sp {rest} {rest′} rests old few few′ =
+    let v = same-verdicts (initial 1024 noCounts) qs sp rests old in
+    record {
+      plain-report = ran-text (plainText qs ++ rest) few;
+      named-report = ran-text (namedText 0 qs ++ rest′) few′ ∙ ap report (λ i. record { refusal = v .same-refusal i; number = v .one-higher i; state = v .same-state i });
+    }
