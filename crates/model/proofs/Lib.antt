@@ -20,3 +20,4 @@ pub mod Rows
 pub mod Fresh
 pub mod Together
 pub mod Requests
+pub mod Given
