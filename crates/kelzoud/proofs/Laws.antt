@@ -1,7 +1,9 @@
--- The numbers of answers: those of a run's are those of what it stands for, and no refusal's is above 13.
+-- The numbers of answers: those of a run's are those of what it stands for, no refusal's is above 13, and a refusal and a value that are
+-- packed into one number are found again in it.
 -- Assumes nothing.
-use mathlib.Core.Path.{_≡_, refl}
-use Prim.Native.Nat.{_≤_}
+use mathlib.Core.Path.{_≡_, refl, ap, _∙_}
+use Prim.Native.Nat.{ℕ, _+_, _*_, _/_, _%_, _≤_}
+use native.Mathlib.Nat.{min-eq-left, min-eq-right, div-eq-of-lt, mod-eq-of-lt, mul-add-div-right, mul-add-mod-self-right, add-zero}
 use native.Mathlib.Omega.{arith}
 use Rattle.model.specs.declared.Refusal.{Refusal}
 use Rattle.model.specs.declared.Refusal.the-variants.{Disordered, Misspelt, IllegalSpan, Unissued, Ended, OutsideSpan, ReadOnly, TooDeep, NamesSpent, TableFull, BufferTooShort, Misnamed, Misgrouped}
@@ -10,7 +12,7 @@ use Rattle.model.specs.Step.{State}
 use Rattle.trace.specs.declared.run.RunAnswer.{RunAnswer}
 use Rattle.trace.specs.declared.run.RunAnswer.the-variants.{Allowed, Refused}
 use Rattle.trace.specs.Run.{ranOf}
-use Rattle.kelzoud.specs.Interface.{packedRan, packedRun}
+use Rattle.kelzoud.specs.Interface.{packed, packedRan, packedRun}
 
 pub packed-as : (a : RunAnswer) (h : State) → packedRun a ≡ packedRan (ranOf a h)
 packed-as (Allowed k) h = refl
@@ -30,3 +32,38 @@ number-small TableFull = omega arith
 number-small BufferTooShort = omega arith
 number-small Misnamed = omega arith
 number-small Misgrouped = omega arith
+
+-- ---- a refusal and a value in one number
+
+-- the largest value that is given as it is, and the first above it
+pub packed-ceiling : (k : ℕ) → packed k 4294967295 ≡ k * 4294967296 + 4294967295
+unfolding packed
+packed-ceiling k = refl
+
+pub packed-above : (k : ℕ) → packed k 4294967296 ≡ packed k 4294967295
+unfolding packed
+packed-above k = refl
+
+module _ (k n : ℕ) (h : n ≤ 4294967295) where
+  pub packed-value : packed k n ≡ k * 4294967296 + n
+  unfolding packed
+  packed-value = rw (min-eq-left h)
+
+  -- the refusal's number is the quotient, and the value the rest
+  pub packed-number-back : packed k n / 4294967296 ≡ k
+  packed-number-back =
+      ap (λ m. m / 4294967296) packed-value
+      ∙ mul-add-div-right (omega arith) k n
+      ∙ ap (λ m. k + m) (div-eq-of-lt (omega arith))
+      ∙ add-zero k
+
+  pub packed-value-back : packed k n % 4294967296 ≡ n
+  packed-value-back =
+      ap (λ m. m % 4294967296) packed-value
+      ∙ mul-add-mod-self-right k 4294967296 n
+      ∙ mod-eq-of-lt (omega arith)
+
+-- a value above the largest is given as the largest
+pub packed-large : (k n : ℕ) → 4294967295 ≤ n → packed k n ≡ packed k 4294967295
+unfolding packed
+packed-large k n h = rw (min-eq-right h)

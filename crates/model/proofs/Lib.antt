@@ -21,3 +21,4 @@ pub mod OneTable
 pub mod Fresh
 pub mod Together
 pub mod Requests
+pub mod Given

@@ -1,23 +1,28 @@
--- The number given is the first in order of precedence that applies: its condition holds, and none that comes before it does.
+-- The number given, to an event or to a group, is the first in order of precedence that applies: its condition holds, and none that comes
+-- before it does. And the order of precedence, worded again.
 -- Assumes nothing.
-use mathlib.Core.Path.{_≡_, refl, sym, ap}
+use mathlib.Core.Path.{_≡_, refl, sym, ap, _∙_}
 use mathlib.Core.Logic.{_⊎_, inl, inr}
-use mathlib.Core.Bool.{Bool, true, false, cond, _&&_}
-use mathlib.Core.List.{List, [], _∷_}
-use Prim.Native.Nat.{ℕ, suc, _<_, _≤_}
+use mathlib.Core.Bool.{Bool, true, false, cond, _&&_, _||_, or-true}
+use mathlib.Core.List.{List, [], _∷_, _++_}
+use Prim.Native.Nat.{ℕ, zero, suc, _<_, _≤_}
 use native.Mathlib.Omega.{arith}
-use lib.Dec.{eqb, ltb}
+use lib.Dec.{leb, eqb, ltb}
+use lib.ListN.{length}
 use borrow.Author.Tests.{ltb-true, eqb-true, eq-eqb, ne-eqb}
+use Rattle.model.specs.declared.Name.{Name}
 use Rattle.model.specs.declared.Cap.{Cap}
 use Rattle.model.specs.declared.Event.{Event}
 use Rattle.model.specs.declared.Event.the-variants.{Create, Borrow, Read, Write, Drop}
-use Rattle.model.specs.Lists.{first}
-use Rattle.model.specs.Refusals.{place, refusals, judge}
-use Rattle.model.proofs.Lists.{listed, test, clash, and-both}
+use Rattle.model.specs.Lists.{filter, any, all, first}
+use Rattle.model.specs.Table.{liveRows}
+use Rattle.model.specs.Refusals.{disordered, standing, precedence, place, refusals, judge}
+use Rattle.model.specs.Together.{misgrouped, standings, groupRefusals, judgeGroup}
+use Rattle.model.proofs.Lists.{listed, first-none, test, clash, and-both, all-append}
 
 -- ---- checks whose places rise, from above a bound
 
-abbrev risesFrom : ℕ → List (ℕ × Bool) → Bool
+abbrev pub risesFrom : ℕ → List (ℕ × Bool) → Bool
 risesFrom bound [] = true
 risesFrom bound (c ∷ cs) = ltb bound (place (c .0)) && risesFrom (place (c .0)) cs
 
@@ -32,7 +37,7 @@ listed-above (c ∷ cs) bound j h l =
     let b = ltb-true bound (place (c .0)) (p .0) in
     rw (ne-eqb j (c .0) (λ (e : j ≡ c .0). apart (place j) (place (c .0)) (ap place e) (omega arith))) (listed-above cs (place (c .0)) j (p .1) (omega arith))
 
-first-lowest : (cs : List (ℕ × Bool)) (bound j : ℕ) → risesFrom bound cs ≡ true → place j < place (first cs) → listed j cs ≡ false
+pub first-lowest : (cs : List (ℕ × Bool)) (bound j : ℕ) → risesFrom bound cs ≡ true → place j < place (first cs) → listed j cs ≡ false
 first-lowest [] bound j h l = refl
 first-lowest (c ∷ cs) bound j h l = go (test (c .1)) (first-lowest cs (place (c .0)) j (p .1))
   where
@@ -49,10 +54,20 @@ first-lowest (c ∷ cs) bound j h l = go (test (c .1)) (first-lowest cs (place (
         rw (ne-eqb j (c .0) (λ (e : j ≡ c .0). apart (place j) (place (c .0)) (ap place e) below)) (listed-above cs (place (c .0)) j (p .1) (omega arith))
     go (inr f) ih = rw f (skip (eqb j (c .0)) (ih (rw f at l)))
 
+-- some condition listed under the number holds, in any list
+pub first-some : (cs : List (ℕ × Bool)) (k : ℕ) → first cs ≡ suc k → any (λ c. eqb (suc k) (c .0) && c .1) cs ≡ true
+first-some [] k e = absurd (let z : _≡_ {A = ℕ} 0 (suc k) = e in omega arith)
+first-some (c ∷ cs) k e = go (test (c .1)) (first-some cs k)
+  where
+    go : (c .1 ≡ true) ⊎ (c .1 ≡ false) → (first cs ≡ suc k → any (λ c. eqb (suc k) (c .0) && c .1) cs ≡ true)
+        → eqb (suc k) (c .0) && c .1 || any (λ c. eqb (suc k) (c .0) && c .1) cs ≡ true
+    go (inl t) ih = let n : c .0 ≡ suc k = rw t at e in rw (eq-eqb (suc k) (c .0) (sym n), t)
+    go (inr f) ih = rw (ih (rw f at e)) (or-true (eqb (suc k) (c .0) && c .1))
+
 at-most : (i j : ℕ) → i ≡ j → i ≤ j
 at-most i j e = omega arith
 
-first-holds : (cs : List (ℕ × Bool)) (bound k : ℕ) → risesFrom bound cs ≡ true → first cs ≡ suc k → listed (suc k) cs ≡ true
+pub first-holds : (cs : List (ℕ × Bool)) (bound k : ℕ) → risesFrom bound cs ≡ true → first cs ≡ suc k → listed (suc k) cs ≡ true
 first-holds [] bound k h e = absurd (never e)
   where
     never : _≡_ {A = ℕ} 0 (suc k) → ⊥
@@ -69,6 +84,48 @@ first-holds (c ∷ cs) bound k h e = go (test (c .1)) (test (eqb (suc k) (c .0))
     go (inr f) (inl q) ih =
         let n : suc k ≡ c .0 = eqb-true (suc k) (c .0) q in
         clash (ih (rw f at e)) (listed-above cs (place (c .0)) (suc k) (p .1) (at-most (place (suc k)) (place (c .0)) (ap place n)))
+
+-- ---- the same where more checks follow, all of which repeat numbers of the first ones
+
+-- j is the number of one of the checks
+abbrev isNumber : List (ℕ × Bool) → ℕ → Bool
+isNumber cs j = any (λ c. eqb j (c .0)) cs
+
+repeated : (cs ds : List (ℕ × Bool)) (j : ℕ) → all (λ d. isNumber cs (d .0)) ds ≡ true → isNumber cs j ≡ false → listed j ds ≡ false
+repeated cs [] j h n = refl
+repeated cs (d ∷ ds) j h n = go (test (eqb j (d .0))) (repeated cs ds j (p .1) n)
+  where
+    p : (isNumber cs (d .0) ≡ true) × (all (λ d. isNumber cs (d .0)) ds ≡ true)
+    p = and-both (isNumber cs (d .0)) (all (λ d. isNumber cs (d .0)) ds) h
+
+    go : (eqb j (d .0) ≡ true) ⊎ (eqb j (d .0) ≡ false) → listed j ds ≡ false → cond (eqb j (d .0)) (d .1) (listed j ds) ≡ false
+    go (inl e) ih = clash (p .0) (ap (isNumber cs) (sym (eqb-true j (d .0) e)) ∙ n)
+    go (inr e) ih = rw e ih
+
+listed-append : (cs ds : List (ℕ × Bool)) (j : ℕ) → listed j cs ≡ false → (isNumber cs j ≡ false → listed j ds ≡ false) → listed j (cs ++ ds) ≡ false
+listed-append [] ds j h f = f refl
+listed-append (c ∷ cs) ds j h f = go (test (eqb j (c .0))) (listed-append cs ds j)
+  where
+    go : (eqb j (c .0) ≡ true) ⊎ (eqb j (c .0) ≡ false) → (listed j cs ≡ false → (isNumber cs j ≡ false → listed j ds ≡ false) → listed j (cs ++ ds) ≡ false)
+        → cond (eqb j (c .0)) (c .1) (listed j (cs ++ ds)) ≡ false
+    go (inl e) ih = rw e (rw e at h)
+    go (inr e) ih = rw e (ih (rw e at h) (λ (n : isNumber cs j ≡ false). f (rw e n)))
+
+first-append : (cs ds : List (ℕ × Bool)) (k : ℕ) → first cs ≡ suc k → first (cs ++ ds) ≡ first cs
+first-append [] ds k e = absurd (let z : _≡_ {A = ℕ} 0 (suc k) = e in omega arith)
+first-append (c ∷ cs) ds k e = go (test (c .1)) (first-append cs ds k)
+  where
+    go : (c .1 ≡ true) ⊎ (c .1 ≡ false) → (first cs ≡ suc k → first (cs ++ ds) ≡ first cs) → cond (c .1) (c .0) (first (cs ++ ds)) ≡ cond (c .1) (c .0) (first cs)
+    go (inl t) ih = rw t
+    go (inr f) ih = rw f (ih (rw f at e))
+
+pub first-lowest-repeated : (cs ds : List (ℕ × Bool)) (j : ℕ) → risesFrom 0 cs ≡ true → all (λ c. ltb 0 (c .0)) cs ≡ true → all (λ d. isNumber cs (d .0)) ds ≡ true
+    → place j < place (first (cs ++ ds)) → listed j (cs ++ ds) ≡ false
+first-lowest-repeated cs ds j rises some again l = listed-append cs ds j (go (first cs) refl) (repeated cs ds j again)
+  where
+    go : (k : ℕ) → first cs ≡ k → listed j cs ≡ false
+    go zero e = first-none cs some e j
+    go (suc k) e = first-lowest cs 0 j rises (rw (first-append cs ds k e) at l)
 
 -- ---- the refusals of an event
 
@@ -89,3 +146,47 @@ given-holds t i e k h = first-holds (refusals t i e) 0 k (rising t i e) h
 pub given-first : (t : List Cap) (i : ℕ) (e : Event) (j : ℕ) → place j < place (judge t i e) → listed j (refusals t i e) ≡ false
 unfolding judge
 given-first t i e j l = first-lowest (refusals t i e) 0 j (rising t i e) l
+
+-- ---- the refusals of a group
+
+-- Some condition listed under the number holds: 4 and 5 are listed once for each name.
+pub given-holds-group : (t : List Cap) (i : ℕ) (names : List ℕ) (k : ℕ) → judgeGroup t i names ≡ suc k
+    → any (λ c. eqb (suc k) (c .0) && c .1) (groupRefusals t i names) ≡ true
+unfolding judgeGroup
+given-holds-group t i names k h = first-some (groupRefusals t i names) k h
+
+-- the checks of the later names repeat the numbers of the first one's
+standings-repeat : (cs : List (ℕ × Bool)) (rows : List Cap) (i : ℕ) (names : List ℕ) → ((u : Name) → all (λ d. isNumber cs (d .0)) (standing rows i u) ≡ true)
+    → all (λ d. isNumber cs (d .0)) (standings rows i names) ≡ true
+unfolding standings
+standings-repeat cs rows i [] h = refl
+standings-repeat cs rows i (u ∷ names) h =
+    let again : ℕ × Bool → Bool = λ d. isNumber cs (d .0) in
+    all-append again (standing rows i (record { 0 = u })) (standings rows i names)
+    ∙ rw (h (record { 0 = u }), standings-repeat cs rows i names h)
+
+-- No condition that comes before it holds, of 4 and 5 that of the first name; none at all where the group is allowed.
+pub given-first-group : (t : List Cap) (i : ℕ) (names : List ℕ) (j : ℕ) → place j < place (judgeGroup t i names) → listed j (groupRefusals t i names) ≡ false
+unfolding judgeGroup groupRefusals standings
+given-first-group t i [] j l = first-lowest (groupRefusals t i []) 0 j refl l
+given-first-group t i (u ∷ names) j l =
+    let front : List (ℕ × Bool) = (1, disordered t i) ∷ (13, misgrouped (u ∷ names)) ∷ standing (liveRows t) i (record { 0 = u }) in
+    first-lowest-repeated front (standings (liveRows t) i names) j refl refl (standings-repeat front (liveRows t) i names (λ v. refl)) l
+
+-- ---- the order of precedence, worded again
+
+-- "The lowest number that applies is the one given": document 01's eleven numbers stand in rising order.
+pub eleven-rise : filter (λ k. leb k 11) precedence ≡ 1 ∷ 2 ∷ 3 ∷ 4 ∷ 5 ∷ 6 ∷ 7 ∷ 8 ∷ 9 ∷ 10 ∷ 11 ∷ []
+eleven-rise = refl
+
+-- Card 1: 12 is "between 9 and 10".
+pub twelve-between : (place 12 ≡ suc (place 9)) × (place 10 ≡ suc (place 12))
+twelve-between = (refl, refl)
+
+-- Card 5: 13 is "after 1".
+pub thirteen-after : place 13 ≡ suc (place 1)
+thirteen-after = refl
+
+-- There are no more.
+pub thirteen-numbers : length precedence ≡ 13
+thirteen-numbers = refl

@@ -12,5 +12,6 @@ pub mod Counted
 pub mod Answers
 pub mod History
 pub mod Together
+pub mod Given
 pub mod Demand3
 pub mod Traces

@@ -9,12 +9,12 @@ use lib.Dec.{leb}
 use lib.ListN.{length, take}
 use lib.Seq.{sets}
 use Rattle.model.specs.Answers.{number}
-use Rattle.model.specs.Together.{isGroup}
+use Rattle.model.specs.Together.{isGroup, misgrouped}
 use Rattle.text.specs.Result.{Result, value, refused}
 use Rattle.text.specs.Line.{afterSpace}
 use Rattle.text.specs.Decimal.{numberOf}
 use Rattle.text.specs.Event.{line}
-use Rattle.text.specs.Write.{written, stored, Outcome}
+use Rattle.text.specs.Write.{written, stored, Outcome, tooLong}
 use Rattle.text.specs.Read.{same}
 use Rattle.text.specs.declared.group.GroupRead.{GroupRead}
 use Rattle.text.specs.declared.group.GroupRead.the-variants.{Count, Refused}
@@ -62,6 +62,11 @@ writeGroup names out =
     let line : Outcome = record { answer = written true (spellGroup names) out; buffer = stored true (spellGroup names) out } in
     let misgrouped : Outcome = record { answer = refused 13; buffer = out } in
     cond (isGroup names) line misgrouped
+
+-- What a group's writer refuses, in order of precedence: 13 is "after 1", and so before 11. That it is the number that `writeGroup` gives
+-- is proved in proofs/Laws/Precedence.
+unfoldable pub writeGroupRefusals : List ℕ → List ℕ → List (ℕ × Bool)
+writeGroupRefusals names out = (13, misgrouped names) ∷ (11, tooLong (spellGroup names) out) ∷ []
 
 -- The rest is for the functions below the public calls.
 
