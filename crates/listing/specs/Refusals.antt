@@ -9,15 +9,10 @@ use lib.ListN.{length}
 use Rattle.model.specs.declared.Cap.{Cap}
 use Rattle.model.specs.Table.{liveRows}
 use Rattle.model.specs.Refusals.{disordered}
-use Rattle.text.specs.Result.{Result, value, refused}
+use Rattle.text.specs.Write.{tooLong}
 use Rattle.listing.specs.Listing.{listing}
 use Rattle.listing.specs.Forms.{guessIssued}
 use Rattle.listing.specs.ReadListing.{isListing, guessTable}
-
--- the refusal that was given, or 0
-abbrev pub refusal : {A : Type 0} → Result A → ℕ
-refusal (value a) = 0
-refusal (refused k) = k
 
 -- 1, of a reader: "a lent table above 1,024 rows"
 abbrev pub tooManyRows : ℕ → Bool
@@ -35,10 +30,6 @@ tooManyCapabilities s rows = ltb rows (length (liveRows (guessTable s)))
 unfoldable pub readRefusals : List ℕ → ℕ → List (ℕ × Bool)
 readRefusals s rows = (1, tooManyRows rows) ∷ (2, noListing s) ∷ (10, tooManyCapabilities s rows) ∷ []
 
--- 11: "text longer than the output buffer"
-abbrev pub bufferTooShort : List ℕ → List ℕ → Bool
-bufferTooShort s out = ltb (length out) (length s)
-
 -- "Refusals 1, 2 and 11 of a writer": a listing is never misspelt, so 2 is not among them
 unfoldable pub writeRefusals : List Cap → ℕ → List ℕ → List (ℕ × Bool)
-writeRefusals table issued out = (1, disordered table issued) ∷ (11, bufferTooShort (listing table issued) out) ∷ []
+writeRefusals table issued out = (1, disordered table issued) ∷ (11, tooLong (listing table issued) out) ∷ []

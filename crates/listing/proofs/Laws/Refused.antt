@@ -5,17 +5,19 @@ use mathlib.Core.Path.{_≡_, refl, sym, ap, _∙_}
 use mathlib.Core.Logic.{_⊎_, inl, inr}
 use mathlib.Core.Bool.{Bool, true, false, cond, not}
 use mathlib.Core.List.{List}
-use Prim.Native.Nat.{ℕ}
+use Prim.Native.Nat.{ℕ, suc, _<_}
 use native.Mathlib.Omega.{arith}
 use lib.Dec.{leb, ltb}
 use lib.ListN.{length}
 use borrow.Author.Tests.{leb-true, leb-false, ltb-true, lt-ltb, le-ltb, not-true, not-false}
 use Rattle.model.specs.declared.Cap.{Cap}
 use Rattle.model.specs.Lists.{first}
+use Rattle.model.specs.Refusals.{place}
 use Rattle.model.specs.Step.{State}
 use Rattle.model.specs.Table.{liveRows, lentTable, inOrder}
-use Rattle.model.proofs.Lists.{test, clash, unless, and-both}
-use Rattle.text.specs.Result.{Result, value, refused}
+use Rattle.model.proofs.Lists.{listed, test, clash, unless, and-both}
+use Rattle.model.proofs.Precedence.{risesFrom, first-lowest, first-holds}
+use Rattle.text.specs.Result.{Result, value, refused, refusalOf}
 use Rattle.text.specs.Read.{same}
 use Rattle.text.specs.Write.{written}
 use Rattle.listing.specs.Listing.{listing}
@@ -24,7 +26,7 @@ use Rattle.listing.specs.ReadListing.{isListing, guessTable, Listed, rea
 use Rattle.listing.specs.WriteListing.{listingWritten}
 use Rattle.listing.specs.ReadInto.{readTable, issuedRead, answerInto}
 use Rattle.listing.specs.Listable.{ListingOf, Overfull}
-use Rattle.listing.specs.Refusals.{refusal, noListing, tooManyCapabilities, readRefusals, writeRefusals}
+use Rattle.listing.specs.Refusals.{noListing, tooManyCapabilities, readRefusals, writeRefusals}
 use Rattle.text.proofs.Laws.Read.{same-true}
 use Rattle.listing.proofs.Laws.Guess.{guess-small}
 use Rattle.listing.proofs.Laws.Theorems.{is-listing, live-back, read-full}
@@ -39,7 +41,7 @@ over a b = go (test (leb a b))
 
 -- ---- the number given
 
-pub read-first : (s : List ℕ) (rows : ℕ) → refusal (readTable s rows) ≡ first (readRefusals s rows)
+pub read-first : (s : List ℕ) (rows : ℕ) → refusalOf (readTable s rows) ≡ first (readRefusals s rows)
 unfolding readTable readListing readRefusals
 read-first s rows =
     rw (over rows 1024, over (length (liveRows (guessTable s))) rows)
@@ -48,21 +50,21 @@ read-first s rows =
     l : Listed
     l = record { table = lentTable rows (liveRows (guessTable s)); issued = guessIssued s }
 
-    go : (few is fits : Bool) → refusal (cond few (cond is (cond fits (value l) (refused 10)) (refused 2)) (refused 1)) ≡ cond (not few) 1 (cond (not is) 2 (cond (not fits) 10 0))
+    go : (few is fits : Bool) → refusalOf (cond few (cond is (cond fits (value l) (refused 10)) (refused 2)) (refused 1)) ≡ cond (not few) 1 (cond (not is) 2 (cond (not fits) 10 0))
     go true true true = refl
     go true true false = refl
     go true false fits = refl
     go false is fits = refl
 
 -- the answer to a caller has that refusal
-pub answer-first : (s : List ℕ) (h : State) → refusal (answerInto s h) ≡ first (readRefusals s (length (h .table)))
-answer-first s h = same-refusal (readTable s (length (h .table))) ∙ read-first s (length (h .table))
+pub answer-first : (s : List ℕ) (h : State) → refusalOf (answerInto s h) ≡ first (readRefusals s (length (h .table)))
+answer-first s h = same-refusalOf (readTable s (length (h .table))) ∙ read-first s (length (h .table))
   where
-    same-refusal : (r : Result Listed) → refusal (issuedRead r) ≡ refusal r
-    same-refusal (value l) = refl
-    same-refusal (refused k) = refl
+    same-refusal : (r : Result Listed) → refusalOf (issuedRead r) ≡ refusal r
+    same-refusalOf (value l) = refl
+    same-refusalOf (refused k) = refl
 
-pub write-first : (table : List Cap) (issued : ℕ) (out : List ℕ) → refusal (listingWritten table issued out) ≡ first (writeRefusals table issued out)
+pub write-first : (table : List Cap) (issued : ℕ) (out : List ℕ) → refusalOf (listingWritten table issued out) ≡ first (writeRefusals table issued out)
 unfolding listingWritten written writeRefusals
 write-first table issued out =
     rw (over (length (listing table issued)) (length out)) (go (inOrder table issued) (leb (length (listing table issued)) (length out)))
@@ -70,10 +72,34 @@ write-first table issued out =
     n : ℕ
     n = length (listing table issued)
 
-    go : (ordered fits : Bool) → refusal (cond ordered (cond fits (value n) (refused 11)) (refused 1)) ≡ cond (not ordered) 1 (cond (not fits) 11 0)
+    go : (ordered fits : Bool) → refusalOf (cond ordered (cond fits (value n) (refused 11)) (refused 1)) ≡ cond (not ordered) 1 (cond (not fits) 11 0)
     go true true = refl
     go true false = refl
     go false fits = refl
+
+-- ---- the numbers stand in order of precedence, so that the first that holds is the one to be given
+
+module _ (s : List ℕ) (rows : ℕ) where
+  read-rising : risesFrom 0 (readRefusals s rows) ≡ true
+  unfolding readRefusals
+  read-rising = refl
+
+  pub read-given-holds : (j : ℕ) → refusalOf (readTable s rows) ≡ suc j → listed (suc j) (readRefusals s rows) ≡ true
+  read-given-holds j h = first-holds (readRefusals s rows) 0 j read-rising (rw (read-first s rows) at h)
+
+  pub read-given-first : (j : ℕ) → place j < place (refusalOf (readTable s rows)) → listed j (readRefusals s rows) ≡ false
+  read-given-first j l = first-lowest (readRefusals s rows) 0 j read-rising (rw (read-first s rows) at l)
+
+module _ (table : List Cap) (issued : ℕ) (out : List ℕ) where
+  write-rising : risesFrom 0 (writeRefusals table issued out) ≡ true
+  unfolding writeRefusals
+  write-rising = refl
+
+  pub write-given-holds : (j : ℕ) → refusalOf (listingWritten table issued out) ≡ suc j → listed (suc j) (writeRefusals table issued out) ≡ true
+  write-given-holds j h = first-holds (writeRefusals table issued out) 0 j write-rising (rw (write-first table issued out) at h)
+
+  pub write-given-first : (j : ℕ) → place j < place (refusalOf (listingWritten table issued out)) → listed j (writeRefusals table issued out) ≡ false
+  write-given-first j l = first-lowest (writeRefusals table issued out) 0 j write-rising (rw (write-first table issued out) at l)
 
 -- ---- what the conditions of 2 and 10 say
 
