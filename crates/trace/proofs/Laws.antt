@@ -6,4 +6,5 @@ pub mod Order
 pub mod History
 pub mod Spellings
 pub mod Report
+pub mod Fits
 pub mod CheckExamples

@@ -21,7 +21,7 @@ abbrev Ordered : State → Type 0
 Ordered h = inOrder (h .table) (h .tally .issued) ≡ true
 
 -- a turn of a run, for what holds of the rest of it and of an end at this line
-turned : {S : Type 0} (P : Ran S → Type 0) (t : Bool) (rest end : Ran S) → P rest → P end → P (cond t rest end)
+pub turned : {S : Type 0} (P : Ran S → Type 0) (t : Bool) (rest end : Ran S) → P rest → P end → P (cond t rest end)
 turned P true rest end p q = p
 turned P false rest end p q = q
 
@@ -33,7 +33,7 @@ order-lines k before h (l ∷ ls) o =
     turned (λ (r : Ran State). Ordered (r .state)) (eqb (t .refusal) 0) (runLines lent k (before + 1) (t .state) ls) (record { refusal = t .refusal; number = before + 1; state = t .state }) (order-lines k (before + 1) (t .state) ls (line-order k h l o)) (line-order k h l o)
 
 -- what holds of the lines in either spelling holds of a trace
-of-trace : (P : Ran State → Type 0) (h : State) (ls : List (List ℕ)) → P (runLines lent Plain 0 h ls) → ((line : List ℕ) (rest : List (List ℕ)) → ls ≡ line ∷ rest → P (runLines lent Named 1 h rest))
+pub of-trace : (P : Ran State → Type 0) (h : State) (ls : List (List ℕ)) → P (runLines lent Plain 0 h ls) → ((line : List ℕ) (rest : List (List ℕ)) → ls ≡ line ∷ rest → P (runLines lent Named 1 h rest))
     → P (runTrace lent h ls)
 unfolding runTrace
 of-trace P h [] p q = p
