@@ -1,13 +1,13 @@
 -- How long what `capcheck` prints can be.
 -- Assumes nothing.
-use mathlib.Core.Path.{_≡_, refl, ap}
+use mathlib.Core.Path.{_≡_, refl, ap, _∙_}
 use mathlib.Core.Bool.{Bool, true, false, cond}
-use mathlib.Core.List.{List, [], _∷_}
+use mathlib.Core.List.{List, [], _∷_, _++_}
 use Prim.Native.Nat.{ℕ, zero, suc, _+_, _≤_}
 use native.Mathlib.Omega.{arith}
 use lib.Dec.{eqb, leb}
-use lib.ListN.{length, length-append}
-use borrow.Author.Tests.{leb-true, leb-false}
+use lib.ListN.{length, replicate, drop, length-append, length-replicate, length-drop}
+use borrow.Author.Tests.{leb-true, leb-false, le-leb}
 use Rattle.model.specs.declared.Cap.{Cap}
 use Rattle.model.specs.declared.Event.{Event}
 use Rattle.model.specs.declared.Event.the-variants.{Create, Borrow, Read, Write, Drop}
@@ -22,6 +22,8 @@ use Rattle.text.specs.Line.{linesOf}
 use Rattle.text.specs.Result.{Result, value, refused}
 use Rattle.text.specs.Read.{readEvent}
 use Rattle.text.specs.Group.{readGroup}
+use Rattle.text.specs.Write.{stored, Writes}
+use Rattle.text.specs.declared.write.Written.{Written}
 use Rattle.text.specs.declared.spelling.Spelling.{Spelling}
 use Rattle.text.specs.declared.spelling.Spelling.the-variants.{Plain, Named}
 use Rattle.text.proofs.Laws.Digits.{decimal-under}
@@ -117,3 +119,20 @@ check-fits input = go (leb (length input) 65536) refl
         let second = listing-fits (r .state .table) (r .state .tally .issued) (ran-order input r refl) in
         omega (arith, ap length (ran-report input r refl few), length-append (answerLine (r .refusal) (r .number)) (listing (r .state .table) (r .state .tally .issued)))
     go false e = omega (arith, ap length (long-text input (leb-false (length input) 65536 e)))
+
+-- ---- a buffer of 34,853 bytes
+
+abbrev buffer : List ℕ
+buffer = replicate 34853 0
+
+module _ (input : List ℕ) where
+  -- has room for it
+  pub room : length (checkText input) ≤ length buffer
+  room = rw (length-replicate {A = ℕ} 34853 0) (check-fits input)
+
+  -- and keeps its length
+  pub kept : {after : List ℕ} {r : Written} → Writes true (checkText input) buffer after r → length after ≡ 34853
+  unfolding stored
+  kept {after} w =
+      let all : after ≡ checkText input ++ drop (length (checkText input)) buffer = w .buffer ∙ rw (le-leb (length (checkText input)) (length buffer) room) in
+      rw all (simp (length-append, length-drop) (omega (arith, room, length-replicate {A = ℕ} 34853 0)))
