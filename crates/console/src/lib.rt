@@ -1,23 +1,61 @@
 // Standard input and output, for the programs that run traces. No contract can say what is read or written; what is printed is what
-// `trace::check` is proved to write.
+// `trace::check_text` is proved to give.
+use libc::STDERR_FILENO;
 use libc::STDIN_FILENO;
 use libc::STDOUT_FILENO;
-use text::write::Written;
+ghost use Rattle.console.specs.Read.{ReadInto};
 
-// Prints what `capcheck` prints of an input, and nothing else.
+// What came of reading an input: so many bytes, or a read that failed.
+enum Input {
+    Read(usize),
+    Failed,
+}
+
+// Prints what `capcheck` prints of an input, or says on standard error that it could not.
 pub fn print_check(input: &[u8]) {
-    // Room for the line of an answer, of at most 43 bytes, and a listing, of at most 39,936.
-    let mut out = [0u8; 39979];
-    let written = trace::check(input, &mut out);
-    if let Written::Length(length) = written {
-        io::write_all(STDOUT_FILENO, &out[..length]);
+    let printed = trace::check_text(input);
+    let bytes = printed.bytes;
+    let length = printed.length;
+    if !io::write_all(STDOUT_FILENO, &bytes[..length]) {
+        io::write_all(
+            STDERR_FILENO,
+            b"capcheck: the output could not be written\n",
+        );
     }
 }
 
-// The same of standard input, which is read to its end, or as far as tells that it is too long.
+// Reads until the buffer is full or the input ends. A read that a signal interrupts before it moves a byte counts as one that failed.
+fn read_input(fd: i32, buf: &mut [u8]) -> Input
+    ensures { λ r. ⌜ ReadInto r (now (buf .exit)) ⌝ }
+{
+    let mut done = 0;
+    while done < buf.len() {
+        let got = libc::read(fd, &mut buf[done..]);
+        if got < 0 {
+            return Input::Failed;
+        }
+        let more = io::count(got, &buf[done..]);
+        if more == 0 {
+            break;
+        }
+        done += more;
+    }
+    Input::Read(done)
+}
+
+// Prints what `capcheck` prints of standard input, which is read to its end, or as far as tells that it is too long. Of an input that
+// could not be read so far nothing is printed: what would be is not the answer to it.
 pub fn check_input() {
     // One byte more than the longest input, so that a longer one is seen to be longer.
     let mut input = [0u8; 65537];
-    let read = io::read_full(STDIN_FILENO, &mut input);
-    print_check(&input[..read]);
+    let read = read_input(STDIN_FILENO, &mut input);
+    match read {
+        Input::Read(length) => print_check(&input[..length]),
+        Input::Failed => {
+            io::write_all(
+                STDERR_FILENO,
+                b"capcheck: the input could not be read to its end\n",
+            );
+        }
+    }
 }

@@ -9,6 +9,7 @@ pub mod Reading
 pub mod Roots
 pub mod Merging
 pub mod Front
+pub mod Fits
 pub mod Lent
 pub mod Padded
 pub mod ReadListing

@@ -7,4 +7,5 @@ pub mod History
 pub mod Spellings
 pub mod Report
 pub mod Stops
+pub mod Fits
 pub mod CheckExamples

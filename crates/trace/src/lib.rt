@@ -3,5 +3,7 @@ pub mod records;
 mod report;
 pub mod run;
 
+pub use report::Printed;
 pub use report::check;
+pub use report::check_text;
 pub use report::number_of;

@@ -10,7 +10,7 @@ ghost use mathlib.Core.Path.{_≡_};
 ghost use mathlib.Core.Bool.{true};
 ghost use mathlib.Core.List.{_++_};
 ghost use Prim.Native.Nat.{_≤_};
-ghost use lib.ListN.{length};
+ghost use lib.ListN.{length, take};
 ghost use Rattle.model.specs.Answers.{number};
 ghost use Rattle.model.specs.Table.{inOrder};
 ghost use Rattle.table.specs.Words.{rowsOf};
@@ -143,5 +143,24 @@ pub fn check(input: &[u8], out: &mut [u8]) -> Written
             line as u32,
             out,
         ),
+    }
+}
+
+// What `capcheck` prints: its length, and an array that begins with it.
+pub struct Printed {
+    pub bytes: [u8; 34853],
+    pub length: usize,
+}
+
+// Runs an input on 1,024 empty rows, and answers with what `capcheck` prints of it. No input has more to print than the array holds, so
+// this refuses none.
+pub fn check_text(input: &[u8]) -> Printed
+    ensures { λ r. ⌜ (take (r .length) (r .bytes) ≡ checkText (now (input .entry))) × (r .length ≤ 34853) × (length (r .bytes) ≡ 34853) ⌝ }
+{
+    let mut bytes = [0u8; 34853];
+    let written = check(input, &mut bytes);
+    match written {
+        Written::Length(length) => Printed { bytes, length },
+        Written::Refused(_) => Printed { bytes, length: 0 },
     }
 }

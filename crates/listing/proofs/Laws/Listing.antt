@@ -33,7 +33,7 @@ pub length-form : (c : Cap) (inner : List ℕ) → length (form c inner) + 1 ≡
 unfolding form formLength
 length-form c inner = simp length-append (omega arith)
 
-forms-append : (a b : List Cap) → formsLength (a ++ b) ≡ formsLength a + formsLength b
+pub forms-append : (a b : List Cap) → formsLength (a ++ b) ≡ formsLength a + formsLength b
 unfolding total
 forms-append [] b = omega arith
 forms-append (c ∷ a) b = omega (arith, forms-append a b)

@@ -1,0 +1,138 @@
+-- How long what `capcheck` prints can be.
+-- Assumes nothing.
+use mathlib.Core.Path.{_≡_, refl, ap, _∙_}
+use mathlib.Core.Bool.{Bool, true, false, cond}
+use mathlib.Core.List.{List, [], _∷_, _++_}
+use Prim.Native.Nat.{ℕ, zero, suc, _+_, _≤_}
+use native.Mathlib.Omega.{arith}
+use lib.Dec.{eqb, leb}
+use lib.ListN.{length, replicate, drop, length-append, length-replicate, length-drop}
+use borrow.Author.Tests.{leb-true, leb-false, le-leb}
+use Rattle.model.specs.declared.Cap.{Cap}
+use Rattle.model.specs.declared.Event.{Event}
+use Rattle.model.specs.declared.Event.the-variants.{Create, Borrow, Read, Write, Drop}
+use Rattle.model.specs.Lists.{all, first}
+use Rattle.model.specs.Table.{liveRows, inOrder}
+use Rattle.model.specs.Refusals.{refusals, judge}
+use Rattle.model.specs.Step.{State, initial, answer}
+use Rattle.model.specs.Together.{standings, groupRefusals, judgeGroup, answerRequest}
+use Rattle.model.proofs.Lists.{and-both}
+use Rattle.text.specs.Event.{spaced}
+use Rattle.text.specs.Line.{linesOf}
+use Rattle.text.specs.Result.{Result, value, refused}
+use Rattle.text.specs.Read.{readEvent}
+use Rattle.text.specs.Group.{readGroup}
+use Rattle.text.specs.Write.{stored, Writes}
+use Rattle.text.specs.declared.write.Written.{Written}
+use Rattle.text.specs.declared.spelling.Spelling.{Spelling}
+use Rattle.text.specs.declared.spelling.Spelling.the-variants.{Plain, Named}
+use Rattle.text.proofs.Laws.Digits.{decimal-under}
+use Rattle.text.proofs.Laws.GroupLine.{refused-group-is-2}
+use Rattle.listing.specs.Listing.{listing}
+use Rattle.listing.proofs.Laws.Fits.{listing-fits}
+use Rattle.trace.specs.Run.{Ran, groupOf, requestOf, takeRead, takeLine, runLines, runTrace, runFrom, lent, run}
+use Rattle.trace.specs.Check.{answerLine, noCounts, checkText}
+use Rattle.trace.proofs.Laws.Order.{turned, of-trace, number-run}
+use Rattle.trace.proofs.Laws.Report.{answer-allowed, answer-refused, long-text, ran-order, ran-report}
+
+-- ---- no refusal has a number above 13
+
+abbrev upTo13 : List (ℕ × Bool) → Bool
+upTo13 cs = all (λ c. leb (c .0) 13) cs
+
+first-most : (cs : List (ℕ × Bool)) → upTo13 cs ≡ true → first cs ≤ 13
+first-most [] h = omega arith
+first-most (c ∷ cs) h =
+    let p = and-both (leb (c .0) 13) (upTo13 cs) h in
+    go (c .1) (leb-true (c .0) 13 (p .0)) (first-most cs (p .1))
+  where
+    go : (t : Bool) → c .0 ≤ 13 → first cs ≤ 13 → cond t (c .0) (first cs) ≤ 13
+    go true l ih = l
+    go false l ih = ih
+
+refusals-most : (t : List Cap) (i : ℕ) (e : Event) → upTo13 (refusals t i e) ≡ true
+unfolding refusals
+refusals-most t i (Create w s r) = refl
+refusals-most t i (Borrow w u s r) = refl
+refusals-most t i (Read u s) = refl
+refusals-most t i (Write u s) = refl
+refusals-most t i (Drop u) = refl
+
+standings-most : (rows : List Cap) (i : ℕ) (names : List ℕ) → upTo13 (standings rows i names) ≡ true
+unfolding standings
+standings-most rows i [] = refl
+standings-most rows i (u ∷ names) = standings-most rows i names
+
+judge-most : (t : List Cap) (i : ℕ) (e : Event) → judge t i e ≤ 13
+unfolding judge
+judge-most t i e = first-most (refusals t i e) (refusals-most t i e)
+
+group-most : (t : List Cap) (i : ℕ) (names : List ℕ) → judgeGroup t i names ≤ 13
+unfolding judgeGroup groupRefusals
+group-most t i names = first-most (groupRefusals t i names) (standings-most (liveRows t) i names)
+
+line-most : (k : Spelling) (h : State) (l : List ℕ) → takeLine lent k h l .refusal ≤ 13
+unfolding answerRequest answer
+line-most k h l = event (readEvent k l)
+  where
+    group : (r : Result (List ℕ)) → ((n : ℕ) → r ≡ refused n → n ≡ 2) → takeRead lent h (groupOf r) .refusal ≤ 13
+    group (value names) two = group-most (h .table) (h .tally .issued) names
+    group (refused n) two = omega (arith, two n refl)
+
+    event : (r : Result Event) → takeRead lent h (requestOf l r) .refusal ≤ 13
+    event (value e) = judge-most (h .table) (h .tally .issued) e
+    event (refused n) = group (readGroup l) (refused-group-is-2 l)
+
+lines-most : (k : Spelling) (before : ℕ) (h : State) (ls : List (List ℕ)) → runLines lent k before h ls .refusal ≤ 13
+unfolding runLines
+lines-most k before h [] = omega arith
+lines-most k before h (l ∷ ls) =
+    let t = takeLine lent k h l in
+    turned (λ (r : Ran State). r .refusal ≤ 13) (eqb (t .refusal) 0) (runLines lent k (before + 1) (t .state) ls) (record { refusal = t .refusal; number = before + 1; state = t .state })
+    (lines-most k (before + 1) (t .state) ls) (line-most k h l)
+
+pub refusal-run : (h : State) (text : List ℕ) → run h text .refusal ≤ 13
+unfolding runFrom
+refusal-run h text =
+    turned (λ (r : Ran State). r .refusal ≤ 13) (inOrder (h .table) (h .tally .issued)) (runTrace lent h (linesOf text)) (record { refusal = 1; number = 0; state = h })
+    (of-trace (λ (r : Ran State). r .refusal ≤ 13) h (linesOf text) (lines-most Plain 0 h (linesOf text)) (λ line rest e. lines-most Named 1 h rest))
+    (omega arith)
+
+-- ---- the line of an answer, and all that is printed
+
+-- at most `(refused 13 65536)` and a newline
+answer-fits : (r n : ℕ) → r ≤ 13 → n ≤ 65536 → length (answerLine r n) ≤ 19
+unfolding spaced
+answer-fits zero n few lines = rw (answer-allowed 0 n refl) (simp length-append (omega (arith, decimal-under n 4 (omega arith))))
+answer-fits (suc r) n few lines =
+    rw (answer-refused (suc r) n (λ (e : suc r ≡ 0). omega arith)) (simp length-append (omega (arith, decimal-under (suc r) 1 (omega arith), decimal-under n 4 (omega arith))))
+
+-- What `capcheck` prints has at most 34,853 bytes.
+pub check-fits : (input : List ℕ) → length (checkText input) ≤ 34853
+check-fits input = go (leb (length input) 65536) refl
+  where
+    go : (t : Bool) → leb (length input) 65536 ≡ t → length (checkText input) ≤ 34853
+    go true e =
+        let r = run (initial 1024 noCounts) input in
+        let few = leb-true (length input) 65536 e in
+        let first = answer-fits (r .refusal) (r .number) (refusal-run (initial 1024 noCounts) input) (omega (arith, number-run (initial 1024 noCounts) input)) in
+        let second = listing-fits (r .state .table) (r .state .tally .issued) (ran-order input r refl) in
+        omega (arith, ap length (ran-report input r refl few), length-append (answerLine (r .refusal) (r .number)) (listing (r .state .table) (r .state .tally .issued)))
+    go false e = omega (arith, ap length (long-text input (leb-false (length input) 65536 e)))
+
+-- ---- a buffer of 34,853 bytes
+
+abbrev buffer : List ℕ
+buffer = replicate 34853 0
+
+module _ (input : List ℕ) where
+  -- has room for it
+  pub room : length (checkText input) ≤ length buffer
+  room = rw (length-replicate {A = ℕ} 34853 0) (check-fits input)
+
+  -- and keeps its length
+  pub kept : {after : List ℕ} {r : Written} → Writes true (checkText input) buffer after r → length after ≡ 34853
+  unfolding stored
+  kept {after} w =
+      let all : after ≡ checkText input ++ drop (length (checkText input)) buffer = w .buffer ∙ rw (le-leb (length (checkText input)) (length buffer) room) in
+      rw all (simp (length-append, length-drop) (omega (arith, room, length-replicate {A = ℕ} 34853 0)))
