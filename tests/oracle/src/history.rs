@@ -1,8 +1,9 @@
 //! The history: notes, and all that follows from them, worked out from the notes each time.
 
-use crate::table::{Row, refusal};
+use crate::span::Span;
+use crate::table::refusal;
 use crate::together::group_refusal;
-use crate::values::{Event, READ_ONLY, READ_WRITE, Refused, Span};
+use crate::values::{Event, READ_ONLY, READ_WRITE, Refused, Row};
 
 /// An allowed event. A create or borrow is noted with the name that it made, the others with 0.
 #[derive(Clone, Copy, Debug, PartialEq)]

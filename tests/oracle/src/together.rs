@@ -1,7 +1,7 @@
 //! Card 5: capabilities that are dropped together.
 
-use crate::table::{Row, Tally, has_ended, in_order, is_issued, live_rows, subtrees, without};
-use crate::values::{MAX_GROUP, Refused};
+use crate::table::{has_ended, in_order, is_issued, live_rows, subtrees, without};
+use crate::values::{MAX_GROUP, Refused, Row, Tally};
 
 /// Whether there are 1 to 64 names, strictly rising.
 pub fn is_group(names: &[u32]) -> bool {
