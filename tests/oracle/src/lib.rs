@@ -2,7 +2,7 @@
 //!
 //! It shares no code and no plan with what it judges: the history derives everything from its notes
 //! each time it is asked, the rows of a lent table are searched from end to end, and text is taken
-//! apart strictly as it is read.
+//! apart strictly as it is read. The history and the lent table share values and spans, and no rule.
 
 mod history;
 mod lines;

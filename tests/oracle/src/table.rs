@@ -56,7 +56,7 @@ fn ancestry<'a>(live: &'a [Row], row: &'a Row) -> Vec<&'a Row> {
 
 /// The number that an event is refused with: the first, in the order of the papers, whose condition
 /// holds. Card 1 puts 12 between 9 and 10.
-pub fn refusal(rows: &[Row], issued: u32, event: Event) -> Option<Refused> {
+fn refusal(rows: &[Row], issued: u32, event: Event) -> Option<Refused> {
     if !in_order(rows, issued) {
         return Some(1);
     }
@@ -209,7 +209,7 @@ fn reclaimed(live: &[Row], span: Span) -> Vec<u32> {
 }
 
 /// What an allowed event adds to the tally.
-pub fn count_allowed(tally: &mut Tally, event: Event) {
+fn count_allowed(tally: &mut Tally, event: Event) {
     if event.makes() {
         tally.issued += 1;
     }

@@ -10,7 +10,7 @@ pub fn is_group(names: &[u32]) -> bool {
 
 /// The number that a group is refused with: 13 stands after 1, and then the first name that cannot be
 /// dropped from this table decides.
-pub fn group_refusal(rows: &[Row], issued: u32, names: &[u32]) -> Option<Refused> {
+fn group_refusal(rows: &[Row], issued: u32, names: &[u32]) -> Option<Refused> {
     if !in_order(rows, issued) {
         return Some(1);
     }
