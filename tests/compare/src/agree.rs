@@ -43,7 +43,7 @@ pub fn packed_run(answer: oracle::Run) -> u64 {
     }
 }
 
-fn span_of(event: Event) -> Span {
+pub fn span_of(event: Event) -> Span {
     Span {
         start: event.start,
         length: event.length,

@@ -5,10 +5,12 @@
 //! names are run. The exit status is 0 when every group passed.
 
 mod agree;
+mod edges;
 mod events;
 mod examples;
 mod generate;
 mod grouped_text;
+mod histories;
 mod lines;
 mod listings;
 mod random;
@@ -67,6 +69,8 @@ fn main() -> ExitCode {
     let mut report = Report::new(seed, wanted);
     examples::groups(&mut report, subject);
     events::groups(&mut report, subject);
+    histories::groups(&mut report, subject);
+    edges::groups(&mut report, subject);
     lines::groups(&mut report, subject);
     listings::groups(&mut report, subject);
     runs::groups(&mut report, subject);

@@ -1,13 +1,13 @@
-//! Names dropped together: on lent tables, beside single drops, and beside the history.
+//! Names dropped together: on lent tables, and beside single drops.
 
 use std::sync::atomic::{AtomicU64, Ordering};
 
 use interface::Event;
-use oracle::{History, MAX_GROUP, MAX_ROWS, Row, Span, Spelling};
+use oracle::{MAX_GROUP, MAX_ROWS, Row};
 
-use crate::agree::{self, Agreed, Lent, Subject, oracle_event, packed, same, same_answer};
-use crate::events::{Lost, TABLES, Tables, chain, demand_three, empty_table, roots};
-use crate::generate::{self, Request, Shape};
+use crate::agree::{self, Lent, Subject, same, same_answer};
+use crate::events::{TABLES, Tables, chain, roots};
+use crate::generate::{self, Shape};
 use crate::random::Random;
 use crate::report::{Checked, Report, shrink};
 
@@ -22,16 +22,6 @@ pub fn groups(report: &mut Report, subject: Subject) {
     report.group("names dropped together beside single drops", |random| {
         beside_single_drops(random, subject)
     });
-    for (name, lists, length, spelling) in [
-        ("lists", 1_200, 20, Spelling::Plain),
-        ("long lists", 30, 80, Spelling::Plain),
-        ("named lists", 1_200, 20, Spelling::Named),
-    ] {
-        let name = format!("{name} with names dropped together and their history");
-        report.group(&name, |random| {
-            histories(random, subject, lists, length, spelling)
-        });
-    }
     report.group("every sort of names dropped together was met", |_| {
         every_sort_met()
     });
@@ -104,7 +94,8 @@ fn every_sort_met() -> Checked {
     }
 }
 
-fn drop_all(subject: Subject, lent: &mut Lent, names: &[u32]) -> Result<u64, String> {
+/// Names dropped together, as [`agree::drop_all`], and counted for what they meet.
+pub fn drop_all(subject: Subject, lent: &mut Lent, names: &[u32]) -> Result<u64, String> {
     let before = lent.clone();
     let answer = agree::drop_all(subject, lent, names)?;
     count_sorts(&before, names, answer);
@@ -198,7 +189,7 @@ fn tree(rows: u32) -> Vec<Row> {
     };
     let row = |name: u32| match name {
         1 => chain(1, 1)[0],
-        _ if name % 2 == 0 => below(name, 1, 2),
+        _ if name.is_multiple_of(2) => below(name, 1, 2),
         _ => below(name, name - 1, 3),
     };
     (1..=rows).map(row).collect()
@@ -268,69 +259,4 @@ fn as_single_drops(subject: Subject, lent: &Lent, names: &[u32]) -> Checked {
     singly.tally.drops = once;
     same("what is lent", &together, &singly)?;
     Ok(1)
-}
-
-/// Lists of requests from empty tables, beside the history.
-fn histories(
-    random: &mut Random,
-    subject: Subject,
-    lists: u64,
-    length: usize,
-    spelling: Spelling,
-) -> Checked {
-    for _ in 0..lists {
-        let lent = empty_table(random);
-        let requests = generate::requests(random, lent.clone(), length, spelling);
-        follow_history(subject, lent.clone(), &requests).map_err(|_| {
-            let outcome = |requests: &[Request]| follow_history(subject, lent.clone(), requests);
-            let fewer = shrink(&requests, |fewer| outcome(fewer).is_err());
-            let why = outcome(&fewer).expect_err("a smaller case fails too");
-            let rows = lent.rows.len();
-            format!("{why}\n  {rows} empty rows\n  requests {fewer:?}")
-        })?;
-    }
-    Ok(lists * length as u64)
-}
-
-fn follow_history(subject: Subject, mut lent: Lent, requests: &[Request]) -> Agreed {
-    let mut history = History::new(lent.rows.len());
-    let mut lost = Lost::default();
-    let mut spans = Vec::new();
-    for request in requests {
-        let (expected, answer) = match request {
-            Request::Single(event) => {
-                spans.push(Span {
-                    start: event.start,
-                    length: event.length,
-                });
-                let expected = history.answer(oracle_event(*event));
-                (expected, agree::apply(subject, &mut lent, *event)?)
-            }
-            Request::Group(names) => {
-                let expected = answer_all(&mut history, names)?;
-                (expected, drop_all(subject, &mut lent, names)?)
-            }
-        };
-        same_answer(packed(expected), answer).map_err(|why| format!("history: {why}"))?;
-        if history.table() != lent.rows || history.count() != lent.tally.issued {
-            return Err(format!("history: another table, {:?}", history.table()));
-        }
-        lost.check(&lent)?;
-    }
-    demand_three(subject, &lent, &history, spans.into_iter().rev().take(4))
-}
-
-/// The history's answer to a group. Where that is allowed so are single drops in falling order, and
-/// they leave the same notes.
-fn answer_all(history: &mut History, names: &[u32]) -> Result<Result<u32, u8>, String> {
-    let mut singly = history.clone();
-    let expected = history.answer_all(names);
-    if expected.is_ok() {
-        for name in names.iter().rev() {
-            let answer = singly.answer(oracle::Event::Drop { name: *name });
-            same("history, singly", Ok(0), answer)?;
-        }
-    }
-    same("notes", &*history, &singly)?;
-    Ok(expected)
 }
