@@ -7,7 +7,7 @@ use crate::generate::{self, Request, Shape};
 use crate::lines::{NUMBERS, check_text, each_byte};
 use crate::random::Random;
 use crate::report::{Checked, Report, shrink};
-use crate::spellings::{rightly_named, with_header};
+use crate::spellings::{rightly_named, same_verdicts, with_header};
 
 const SAMPLES: [&str; 10] = [
     "(drop 2 5 9)\n",
@@ -453,7 +453,12 @@ fn both_spellings(random: &mut Random, subject: Subject) -> Checked {
         let shape = Shape::partly_full(random, 12);
         let lent = generate::ordered(random, &shape);
         let requests = generate::requests(random, lent.clone(), 12, Spelling::Plain);
-        let outcome = |requests: &[Request]| same_verdicts(subject, &lent, requests);
+        let outcome = |requests: &[Request]| {
+            let plain = generate::requests_text(requests, Spelling::Plain);
+            let named = rightly_named_requests(&lent, requests);
+            let named = generate::requests_text(&named, Spelling::Named);
+            same_verdicts(subject, &lent, &plain, &named)
+        };
         outcome(&requests).map_err(|_| {
             let fewer = shrink(&requests, |fewer| outcome(fewer).is_err());
             let why = outcome(&fewer).expect_err("a smaller case fails too");
@@ -463,26 +468,19 @@ fn both_spellings(random: &mut Random, subject: Subject) -> Checked {
     Ok(runs)
 }
 
-fn same_verdicts(subject: Subject, lent: &Lent, requests: &[Request]) -> Agreed {
-    let mut issuing = lent.clone();
+/// The requests with their right names, as long as each is allowed; no later one is looked at.
+fn rightly_named_requests(lent: &Lent, requests: &[Request]) -> Vec<Request> {
+    let mut lent = lent.clone();
     let mut name = |request: &Request| match request {
         Request::Single(event) => {
-            let named = rightly_named(&issuing, *event);
-            let _ = agree::oracle_apply(&mut issuing, *event);
+            let named = rightly_named(&lent, *event);
+            let _ = agree::oracle_apply(&mut lent, *event);
             Request::Single(named)
         }
         Request::Group(names) => {
-            let _ = agree::oracle_drop_all(&mut issuing, names);
+            let _ = agree::oracle_drop_all(&mut lent, names);
             request.clone()
         }
     };
-    let named: Vec<Request> = requests.iter().map(&mut name).collect();
-    let plain = generate::requests_text(requests, Spelling::Plain);
-    let named = generate::requests_text(&named, Spelling::Named);
-    let mut after_plain = lent.clone();
-    let mut after_named = lent.clone();
-    let answer = agree::run(subject, &mut after_plain, &plain)?;
-    let with_names = agree::run(subject, &mut after_named, &named)?;
-    same_answer(with_header(answer), with_names)?;
-    same("what is lent", after_plain, after_named)
+    requests.iter().map(&mut name).collect()
 }

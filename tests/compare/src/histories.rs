@@ -8,7 +8,7 @@ use oracle::{History, MAX_ROWS, Span, Spelling};
 use crate::agree::{self, Agreed, Lent, Subject, oracle_event, packed, same, same_answer, span_of};
 use crate::generate::{self, Request};
 use crate::random::Random;
-use crate::report::{Checked, Report, shrink};
+use crate::report::{Checked, Met, MetAnswers, Report, shrink};
 use crate::together;
 
 /// Lists of one sort: how many of them, how many requests in each, and how one is made.
@@ -110,6 +110,16 @@ fn empty_table(random: &mut Random) -> Lent {
     lent
 }
 
+/// The answers that the history gave.
+static MET: MetAnswers = Met::none();
+
+/// Whether the history gave every answer that it can in lists of some length, and how often: no list
+/// is so long that the names are spent.
+pub fn every_answer_met() -> Checked {
+    let names_spent = 9;
+    MET.every_answer_but(&[names_spent, agree::BUFFER_TOO_SHORT])
+}
+
 /// Checks a list; on failure gives a short list that still fails.
 pub fn check_list(subject: Subject, lent: &Lent, requests: &[Request]) -> Agreed {
     let outcome = |requests: &[Request]| follow(subject, lent.clone(), requests);
@@ -138,6 +148,7 @@ fn follow(subject: Subject, mut lent: Lent, requests: &[Request]) -> Agreed {
                 (expected, together::drop_all(subject, &mut lent, names)?)
             }
         };
+        MET.count_answer(expected);
         same_answer(packed(expected), answer).map_err(|why| format!("history: {why}"))?;
         if history.table() != lent.rows || history.count() != lent.tally.issued {
             return Err(format!("history: another table, {:?}", history.table()));

@@ -80,6 +80,9 @@ fn main() -> ExitCode {
     report.group("every answer of an event was met", |_| {
         agree::every_answer_met()
     });
+    report.group("every answer of the history was met", |_| {
+        histories::every_answer_met()
+    });
     report.group("every sort of create was met", |_| {
         agree::every_create_met()
     });

@@ -1,5 +1,10 @@
 //! Groups of cases, each printed as one test.
 
+use std::array;
+use std::sync::atomic::{AtomicU64, Ordering};
+
+use oracle::Refused;
+
 use crate::random::Random;
 
 /// How many cases a group went through, or what failed.
@@ -47,6 +52,55 @@ impl Report {
     pub fn finish(self) -> bool {
         println!("{} passed, {} failed", self.passed, self.failed);
         self.failed == 0 && self.passed > 0
+    }
+}
+
+/// How often cases of each of some sorts were met.
+pub struct Met<const SORTS: usize>([AtomicU64; SORTS]);
+
+impl<const SORTS: usize> Met<SORTS> {
+    pub const fn none() -> Met<SORTS> {
+        Met([const { AtomicU64::new(0) }; SORTS])
+    }
+
+    /// Counts a case for each sort that it is of.
+    pub fn count(&self, is_of_sort: [bool; SORTS]) {
+        for (met, is_of_sort) in self.0.iter().zip(is_of_sort) {
+            met.fetch_add(is_of_sort.into(), Ordering::Relaxed);
+        }
+    }
+
+    fn counts(&self) -> [u64; SORTS] {
+        self.0.each_ref().map(|met| met.load(Ordering::Relaxed))
+    }
+
+    /// Whether cases were of every sort, each often enough that no accident decides.
+    pub fn every_sort(&self, names: &[&str; SORTS], least: u64) -> Checked {
+        let met = self.counts();
+        match met.iter().all(|count| *count >= least) {
+            true => Ok(met.iter().sum()),
+            false => Err(format!("sorts: {:?}", names.iter().zip(met))),
+        }
+    }
+}
+
+/// How often requests were allowed, and refused by each number.
+pub type MetAnswers = Met<14>;
+
+impl MetAnswers {
+    pub fn count_answer(&self, answer: Result<u32, Refused>) {
+        let number = usize::from(answer.err().unwrap_or(0));
+        self.count(array::from_fn(|sort| sort == number));
+    }
+
+    /// Whether every answer was met, but for those that cannot be, and how often.
+    pub fn every_answer_but(&self, never: &[usize]) -> Checked {
+        let met = self.counts();
+        let as_due = |number: usize| (met[number] > 0) != never.contains(&number);
+        match (0..met.len()).all(as_due) {
+            true => Ok(met.iter().sum()),
+            false => Err(format!("allowed and refusals 1 to 13: {met:?}")),
+        }
     }
 }
 

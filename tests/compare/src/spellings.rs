@@ -122,7 +122,10 @@ fn both_runs(
         let mut lent = generate::ordered(random, &shape);
         let lines = lines(random, &lent, 24);
         change(random, &mut lent);
-        check_lines(&lines, &lent, |lines| same_verdicts(subject, &lent, lines))?;
+        check_lines(&lines, &lent, |lines| {
+            let [plain, named] = both_texts(&lent, lines);
+            same_verdicts(subject, &lent, &plain, &named)
+        })?;
     }
     Ok(runs)
 }
@@ -147,12 +150,12 @@ pub fn with_header(answer: u64) -> u64 {
     }
 }
 
-fn same_verdicts(subject: Subject, lent: &Lent, lines: &[Line]) -> Agreed {
-    let [plain, named] = both_texts(lent, lines);
+/// A plain text and the named one of the same lines, each run on what is lent.
+pub fn same_verdicts(subject: Subject, lent: &Lent, plain: &[u8], named: &[u8]) -> Agreed {
     let mut after_plain = lent.clone();
     let mut after_named = lent.clone();
-    let answer = agree::run(subject, &mut after_plain, &plain)?;
-    let with_names = agree::run(subject, &mut after_named, &named)?;
+    let answer = agree::run(subject, &mut after_plain, plain)?;
+    let with_names = agree::run(subject, &mut after_named, named)?;
     same_answer(with_header(answer), with_names)?;
     same("what is lent", after_plain, after_named)
 }

@@ -1,7 +1,5 @@
 //! Names dropped together: on lent tables, and beside single drops.
 
-use std::sync::atomic::{AtomicU64, Ordering};
-
 use interface::Event;
 use oracle::{MAX_GROUP, MAX_ROWS, Row};
 
@@ -9,7 +7,7 @@ use crate::agree::{self, Lent, Subject, same, same_answer};
 use crate::events::{TABLES, Tables, chain, roots};
 use crate::generate::{self, Shape};
 use crate::random::Random;
-use crate::report::{Checked, Report, shrink};
+use crate::report::{Checked, Met, Report, shrink};
 
 pub fn groups(report: &mut Report, subject: Subject) {
     for tables in &TABLES {
@@ -23,7 +21,7 @@ pub fn groups(report: &mut Report, subject: Subject) {
         beside_single_drops(random, subject)
     });
     report.group("every sort of names dropped together was met", |_| {
-        every_sort_met()
+        SORTS_MET.every_sort(&SORTS, 50)
     });
 }
 
@@ -46,7 +44,7 @@ const SORTS: [&str; 14] = [
 ];
 
 /// How often calls were of each sort.
-static SORTS_MET: [AtomicU64; 14] = [const { AtomicU64::new(0) }; 14];
+static SORTS_MET: Met<14> = Met::none();
 
 fn count_sorts(lent: &Lent, names: &[u32], answer: u64) {
     let (allowed, number) = (answer >> 32 == 0, answer >> 32);
@@ -64,7 +62,7 @@ fn count_sorts(lent: &Lent, names: &[u32], answer: u64) {
     let root = |row: &Row| row.parent == 0;
     let rising = names.windows(2).all(|pair| pair[0] < pair[1]);
     let roots = lent.rows.iter().filter(|row| row.name != 0 && root(row));
-    let sorts = [
+    SORTS_MET.count([
         allowed && names.len() == 1,
         allowed && pairs(&|one, other| other.parent == one.name),
         allowed && pairs(&|one, other| other.parent == one.parent && !root(one)),
@@ -79,19 +77,7 @@ fn count_sorts(lent: &Lent, names: &[u32], answer: u64) {
         number == 13 && names.len() > MAX_GROUP && rising,
         number == 13 && live.contains(&true),
         number == 13 && !refused_at.is_empty(),
-    ];
-    for (met, is_of_sort) in SORTS_MET.iter().zip(sorts) {
-        met.fetch_add(is_of_sort.into(), Ordering::Relaxed);
-    }
-}
-
-/// Whether calls were of every sort, each often enough that no accident decides.
-fn every_sort_met() -> Checked {
-    let met = SORTS_MET.each_ref().map(|met| met.load(Ordering::Relaxed));
-    match met.iter().all(|count| *count >= 50) {
-        true => Ok(met.iter().sum()),
-        false => Err(format!("sorts: {:?}", SORTS.iter().zip(met))),
-    }
+    ]);
 }
 
 /// Names dropped together, as [`agree::drop_all`], and counted for what they meet.
