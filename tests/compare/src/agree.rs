@@ -5,7 +5,7 @@ use std::fmt::Debug;
 use interface::{Cap, Event, Interface, MAX_GROUP};
 use oracle::{Refused, Row, Span, Spelling, Tally};
 
-use crate::report::{Checked, Met, MetAnswers};
+use crate::report::{Checked, Met, MetAnswers, check_few};
 
 /// The implementation under test.
 pub type Subject = &'static dyn Interface;
@@ -207,6 +207,17 @@ pub fn apply_all(subject: Subject, mut lent: Lent, events: &[Event]) -> Agreed {
         apply(subject, &mut lent, *event)?;
     }
     Ok(())
+}
+
+/// Checks what is lent; on failure gives few rows that still fail.
+pub fn check_rows(lent: &Lent, check: impl Fn(Lent) -> Agreed) -> Agreed {
+    let tally = lent.tally;
+    let with_rows = |rows: &[Row]| {
+        let rows = rows.to_vec();
+        check(Lent { rows, tally })
+    };
+    check_few(&lent.rows, with_rows)
+        .map_err(|(why, rows)| format!("{why}\n  rows {rows:?}\n  tally {tally:?}"))
 }
 
 /// Names dropped together by the oracle alone.

@@ -6,7 +6,7 @@ use oracle::{MAX_DEPTH, MAX_NAME, MAX_ROWS, Row, Spelling};
 use crate::agree::{self, Lent, Subject, same_answer};
 use crate::generate::{self, Shape};
 use crate::random::Random;
-use crate::report::{Checked, Report, shrink};
+use crate::report::{Checked, Report, check_few};
 
 /// Tables of one sort: how many of them, how many events on each, and how one is made.
 pub struct Tables {
@@ -219,23 +219,10 @@ fn on_table(
     spelling: Spelling,
 ) -> Checked {
     let events = generate::events(random, lent.clone(), count, spelling);
-    agree::apply_all(subject, lent.clone(), &events)
-        .map_err(|_| smallest_table(subject, lent, &events))?;
+    let check =
+        |events: &[Event]| agree::check_rows(lent, |lent| agree::apply_all(subject, lent, events));
+    check_few(&events, check).map_err(|(why, events)| format!("{why}\n  events {events:?}"))?;
     Ok(count as u64)
-}
-
-/// A small table and few events that still fail.
-fn smallest_table(subject: Subject, lent: &Lent, events: &[Event]) -> String {
-    let outcome = |rows: &[Row], events: &[Event]| {
-        let tally = lent.tally;
-        let rows = rows.to_vec();
-        agree::apply_all(subject, Lent { rows, tally }, events)
-    };
-    let events = shrink(events, |fewer| outcome(&lent.rows, fewer).is_err());
-    let rows = shrink(&lent.rows, |fewer| outcome(fewer, &events).is_err());
-    let why = outcome(&rows, &events).expect_err("a smaller case fails too");
-    let tally = lent.tally;
-    format!("{why}\n  rows {rows:?}\n  tally {tally:?}\n  events {events:?}")
 }
 
 /// Creates on tables in order. Refused ones are not counted.

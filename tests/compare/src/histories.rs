@@ -8,7 +8,7 @@ use oracle::{History, MAX_ROWS, Span, Spelling};
 use crate::agree::{self, Agreed, Lent, Subject, oracle_event, packed, same, same_answer, span_of};
 use crate::generate::{self, Request};
 use crate::random::Random;
-use crate::report::{Checked, Met, MetAnswers, Report, shrink};
+use crate::report::{Checked, Met, MetAnswers, Report, check_few};
 use crate::together;
 
 /// Lists of one sort: how many of them, how many requests in each, and how one is made.
@@ -122,13 +122,11 @@ pub fn every_answer_met() -> Checked {
 
 /// Checks a list; on failure gives a short list that still fails.
 pub fn check_list(subject: Subject, lent: &Lent, requests: &[Request]) -> Agreed {
-    let outcome = |requests: &[Request]| follow(subject, lent.clone(), requests);
-    outcome(requests).map_err(|_| {
-        let fewer = shrink(requests, |fewer| outcome(fewer).is_err());
-        let why = outcome(&fewer).expect_err("a smaller case fails too");
+    let check = |requests: &[Request]| follow(subject, lent.clone(), requests);
+    check_few(requests, check).map_err(|(why, requests)| {
         let rows = lent.rows.len();
         let tally = lent.tally;
-        format!("{why}\n  {rows} empty rows\n  tally {tally:?}\n  requests {fewer:?}")
+        format!("{why}\n  {rows} empty rows\n  tally {tally:?}\n  requests {requests:?}")
     })
 }
 

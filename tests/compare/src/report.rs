@@ -104,8 +104,21 @@ impl MetAnswers {
     }
 }
 
+/// Checks items; on failure gives why, and few items that still fail.
+pub fn check_few<T: Clone>(
+    items: &[T],
+    check: impl Fn(&[T]) -> Result<(), String>,
+) -> Result<(), (String, Vec<T>)> {
+    if check(items).is_ok() {
+        return Ok(());
+    }
+    let fewer = shrink(items, |fewer| check(fewer).is_err());
+    let why = check(&fewer).expect_err("a smaller case fails too");
+    Err((why, fewer))
+}
+
 /// Takes out of a failing case whatever it fails without.
-pub fn shrink<T: Clone>(items: &[T], fails: impl Fn(&[T]) -> bool) -> Vec<T> {
+fn shrink<T: Clone>(items: &[T], fails: impl Fn(&[T]) -> bool) -> Vec<T> {
     let mut kept = items.to_vec();
     let mut size = kept.len();
     while size > 0 {

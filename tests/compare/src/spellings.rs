@@ -8,7 +8,7 @@ use crate::agree::{self, Agreed, Lent, Subject, packed_run, same, same_answer};
 use crate::generate::{self, Shape};
 use crate::lines::{check_text, each_byte};
 use crate::random::Random;
-use crate::report::{Checked, Report, shrink};
+use crate::report::{Checked, Report, check_few};
 
 pub fn groups(report: &mut Report, subject: Subject) {
     report.group("plain and named runs of the same events", |random| {
@@ -132,12 +132,7 @@ fn both_runs(
 
 /// Checks lines; on failure gives few lines that still fail.
 fn check_lines(lines: &[Line], lent: &Lent, check: impl Fn(&[Line]) -> Agreed) -> Agreed {
-    if check(lines).is_ok() {
-        return Ok(());
-    }
-    let fewer = shrink(lines, |fewer| check(fewer).is_err());
-    let why = check(&fewer).expect_err("a smaller case fails too");
-    Err(format!("{why}\n  {lent:?}\n  lines {fewer:?}"))
+    check_few(lines, check).map_err(|(why, lines)| format!("{why}\n  {lent:?}\n  lines {lines:?}"))
 }
 
 /// The answer to the named text whose plain text has this one: the lines allowed, or the line

@@ -3,11 +3,11 @@
 use interface::Event;
 use oracle::{MAX_GROUP, MAX_ROWS, Row};
 
-use crate::agree::{self, Lent, Subject, same, same_answer};
+use crate::agree::{self, Agreed, Lent, Subject, same, same_answer};
 use crate::events::{TABLES, Tables, chain, roots};
 use crate::generate::{self, Shape};
 use crate::random::Random;
-use crate::report::{Checked, Met, Report, shrink};
+use crate::report::{Checked, Met, Report, check_few};
 
 pub fn groups(report: &mut Report, subject: Subject) {
     for tables in &TABLES {
@@ -88,6 +88,21 @@ pub fn drop_all(subject: Subject, lent: &mut Lent, names: &[u32]) -> Result<u64,
     Ok(answer)
 }
 
+/// The same; on failure gives few names and few rows that still fail.
+fn check_names(subject: Subject, lent: &mut Lent, names: &[u32]) -> Agreed {
+    let before = lent.clone();
+    let Err(why) = drop_all(subject, lent, names) else {
+        return Ok(());
+    };
+    let again = |names: &[u32]| {
+        agree::check_rows(&before, |mut lent| {
+            agree::drop_all(subject, &mut lent, names).map(|_| ())
+        })
+    };
+    check_few(names, again).map_err(|(why, names)| format!("{why}\n  names {names:?}"))?;
+    Err(why)
+}
+
 /// Some names, one list after the other, on each of many tables.
 fn on_tables(random: &mut Random, subject: Subject, tables: &Tables) -> Checked {
     let mut cases = 0;
@@ -98,26 +113,11 @@ fn on_tables(random: &mut Random, subject: Subject, tables: &Tables) -> Checked 
                 true => generate::bad_group(random, &lent),
                 false => generate::group(random, &lent),
             };
-            let before = lent.clone();
-            drop_all(subject, &mut lent, &names).map_err(|_| smallest(subject, &before, &names))?;
+            check_names(subject, &mut lent, &names)?;
             cases += 1;
         }
     }
     Ok(cases)
-}
-
-/// A small table and few names that still fail.
-fn smallest(subject: Subject, lent: &Lent, names: &[u32]) -> String {
-    let outcome = |rows: &[Row], names: &[u32]| {
-        let tally = lent.tally;
-        let rows = rows.to_vec();
-        agree::drop_all(subject, &mut Lent { rows, tally }, names)
-    };
-    let names = shrink(names, |fewer| outcome(&lent.rows, fewer).is_err());
-    let rows = shrink(&lent.rows, |fewer| outcome(fewer, &names).is_err());
-    let why = outcome(&rows, &names).expect_err("a smaller case fails too");
-    let tally = lent.tally;
-    format!("{why}\n  rows {rows:?}\n  tally {tally:?}\n  names {names:?}")
 }
 
 /// Lists of all lengths around the limits, from tables with room for them, whole and with one name
@@ -129,8 +129,7 @@ fn at_every_place(random: &mut Random, subject: Subject) -> Checked {
             let lent = with_gaps(random, rows);
             let live = oracle::live_rows(&lent.rows);
             let whole: Vec<u32> = live.iter().map(|row| row.name).take(count).collect();
-            drop_all(subject, &mut lent.clone(), &whole)
-                .map_err(|_| smallest(subject, &lent, &whole))?;
+            check_names(subject, &mut lent.clone(), &whole)?;
             cases += 1 + with_one_changed(random, subject, &lent, &whole)?;
         }
     }
@@ -158,8 +157,7 @@ fn with_one_changed(random: &mut Random, subject: Subject, lent: &Lent, whole: &
         ] {
             let mut names = whole.to_vec();
             names[*at] = other;
-            drop_all(subject, &mut lent.clone(), &names)
-                .map_err(|_| smallest(subject, lent, &names))?;
+            check_names(subject, &mut lent.clone(), &names)?;
         }
     }
     Ok(places.len() as u64 * 7)
