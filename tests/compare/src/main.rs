@@ -77,15 +77,12 @@ fn main() -> ExitCode {
     spellings::groups(&mut report, subject);
     together::groups(&mut report, subject);
     grouped_text::groups(&mut report, subject);
-    report.group("every answer of an event was met", |_| {
-        agree::every_answer_met()
-    });
-    report.group("every answer of the history was met", |_| {
-        histories::every_answer_met()
-    });
-    report.group("every sort of create was met", |_| {
-        agree::every_create_met()
-    });
+    report.met("every answer of an event was met", agree::every_answer_met);
+    report.met(
+        "every answer of the history was met",
+        histories::every_answer_met,
+    );
+    report.met("every sort of create was met", agree::every_create_met);
     match report.finish() {
         true => ExitCode::SUCCESS,
         false => ExitCode::FAILURE,

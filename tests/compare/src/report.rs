@@ -48,6 +48,13 @@ impl Report {
         }
     }
 
+    /// Judges what the groups before it have met together, so that it needs all of them.
+    pub fn met(&mut self, name: &str, check: impl FnOnce() -> Checked) {
+        if self.wanted.is_empty() {
+            self.group(name, |_| check());
+        }
+    }
+
     /// Prints the last line and says whether there were groups and every one passed.
     pub fn finish(self) -> bool {
         println!("{} passed, {} failed", self.passed, self.failed);
