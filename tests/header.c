@@ -1,7 +1,7 @@
 /*
  * The header as C and as C++: the layout of the records, each helper, each call, and pointers that
  * are NULL where their length is 0. Prints each check that fails; the exit status is 0 when none
- * does.
+ * does. Tables and tallies are static, so that they begin as zeros.
  */
 #include <stdio.h>
 #include <string.h>
@@ -28,16 +28,34 @@ static void check_layout(void) {
     CHECK(sizeof(kz_tally) == 28);
     CHECK(offsetof(kz_cap, depth) == 20);
     CHECK(offsetof(kz_tally, refused) == 24);
-    CHECK(kz_number(refused(KZ_BUFFER_TOO_SHORT, 7)) == 11);
-    CHECK(kz_value(refused(KZ_BUFFER_TOO_SHORT, 7)) == 7);
-    CHECK(kz_value(refused(KZ_DISORDERED, 4294967295u)) == 4294967295u);
+}
+
+/* Answers come apart also where the value is as large as can be, and where it is 0. */
+static void check_answers(void) {
+    static const struct {
+        uint64_t answer;
+        uint32_t number, value;
+    } cases[] = {
+        {0, 0, 0},
+        {0x00000000fffffffeu, 0, 4294967294u},
+        {0x00000000ffffffffu, 0, 4294967295u},
+        {0x0000000100000000u, KZ_DISORDERED, 0},
+        {0x00000005ffffffffu, KZ_ENDED, 4294967295u},
+        {0x0000000b00000007u, KZ_BUFFER_TOO_SHORT, 7},
+        {0x0000000d00000000u, KZ_MISGROUPED, 0},
+        {0x0000000dffffffffu, KZ_MISGROUPED, 4294967295u},
+    };
+    size_t i;
+    for (i = 0; i < sizeof cases / sizeof cases[0]; i++) {
+        CHECK(kz_number(cases[i].answer) == cases[i].number);
+        CHECK(kz_value(cases[i].answer) == cases[i].value);
+        CHECK(((uint64_t)cases[i].number << 32) + cases[i].value == cases[i].answer);
+    }
 }
 
 static void check_events(void) {
-    kz_cap table[3];
-    kz_tally tally;
-    memset(table, 0, sizeof table);
-    memset(&tally, 0, sizeof tally);
+    static kz_cap table[3];
+    static kz_tally tally;
     CHECK(kz_create(table, 3, &tally, 0, 64, KZ_RW) == 1);
     CHECK(kz_borrow(table, 3, &tally, 1, 0, 16, KZ_RW) == 2);
     CHECK(kz_borrow(table, 3, &tally, 1, 0, 16, KZ_RO) == 3);
@@ -55,10 +73,8 @@ static void check_events(void) {
 }
 
 static void check_reused_memory(void) {
-    kz_cap table[3];
-    kz_tally tally;
-    memset(table, 0, sizeof table);
-    memset(&tally, 0, sizeof tally);
+    static kz_cap table[3];
+    static kz_tally tally;
     CHECK(kz_create(table, 3, &tally, 0, 64, KZ_RW) == 1);
     CHECK(kz_borrow(table, 3, &tally, 1, 0, 16, KZ_RW) == 2);
     CHECK(kz_create(table, 3, &tally, 8, 0, KZ_RW) == 3);
@@ -74,10 +90,8 @@ static void check_reused_memory(void) {
 }
 
 static void check_named_events(void) {
-    kz_cap table[2];
-    kz_tally tally;
-    memset(table, 0, sizeof table);
-    memset(&tally, 0, sizeof tally);
+    static kz_cap table[2];
+    static kz_tally tally;
     CHECK(kz_create_named(table, 2, &tally, 0, 0, 64, KZ_RW) == refused(KZ_MISNAMED, 0));
     CHECK(kz_create_named(table, 2, &tally, 2, 0, 64, KZ_RW) == refused(KZ_MISNAMED, 0));
     CHECK(kz_create_named(table, 2, &tally, 1, 0, 64, KZ_RW) == 1);
@@ -100,11 +114,9 @@ static void check_grouped_events(void) {
     static const uint32_t falling[] = {3, 1};
     static const uint32_t last[] = {1, 3};
     uint32_t many[KZ_MAX_GROUP + 1];
-    kz_cap table[5];
-    kz_tally tally;
+    static kz_cap table[5];
+    static kz_tally tally;
     uint32_t i;
-    memset(table, 0, sizeof table);
-    memset(&tally, 0, sizeof tally);
     for (i = 0; i <= KZ_MAX_GROUP; i++) many[i] = i + 1;
     for (i = 1; i <= 3; i++) CHECK(kz_create(table, 5, &tally, 8 * i, 8, KZ_RW) == i);
     CHECK(kz_borrow(table, 5, &tally, 2, 16, 4, KZ_RW) == 4);
@@ -131,10 +143,8 @@ static void check_text(void) {
     const size_t length = sizeof trace - 1;
     uint32_t fields[5];
     uint8_t out[64];
-    kz_cap table[2];
-    kz_tally tally;
-    memset(table, 0, sizeof table);
-    memset(&tally, 0, sizeof tally);
+    static kz_cap table[2];
+    static kz_tally tally;
     CHECK(kz_read_event(trace, 16, fields) == 0);
     CHECK(fields[0] == KZ_CREATE && fields[3] == 8 && fields[4] == KZ_RW);
     CHECK(kz_write_event(KZ_CREATE, 0, 0, 8, KZ_RW, out, sizeof out) == 16);
@@ -156,10 +166,8 @@ static void check_named_text(void) {
     const size_t borrow_length = sizeof borrow - 1;
     uint32_t fields[6];
     uint8_t out[64];
-    kz_cap table[2];
-    kz_tally tally;
-    memset(table, 0, sizeof table);
-    memset(&tally, 0, sizeof tally);
+    static kz_cap table[2];
+    static kz_tally tally;
     CHECK(kz_read_named(borrow, borrow_length, fields) == 0);
     CHECK(fields[0] == KZ_BORROW && fields[1] == 3 && fields[2] == 1 && fields[3] == 0);
     CHECK(fields[4] == 4 && fields[5] == KZ_RO);
@@ -185,10 +193,8 @@ static void check_grouped_text(void) {
     uint32_t names[KZ_MAX_GROUP];
     uint32_t fields[6];
     uint8_t out[64];
-    kz_cap table[2];
-    kz_tally tally;
-    memset(table, 0, sizeof table);
-    memset(&tally, 0, sizeof tally);
+    static kz_cap table[2];
+    static kz_tally tally;
     memset(names, 255, sizeof names);
     CHECK(kz_read_drop(line, length, names) == 3);
     CHECK(names[0] == 2 && names[1] == 5 && names[2] == 9 && names[3] == 4294967295u);
@@ -218,8 +224,7 @@ static void check_null(void) {
     uint32_t fields[6];
     uint32_t names[KZ_MAX_GROUP];
     uint8_t out[64];
-    kz_tally tally;
-    memset(&tally, 0, sizeof tally);
+    static kz_tally tally;
     CHECK(kz_create(NULL, 0, &tally, 0, 64, KZ_RW) == refused(KZ_TABLE_FULL, 0));
     CHECK(kz_run(NULL, 0, &tally, NULL, 0) == 0);
     CHECK(kz_write_event(KZ_DROP, 1, 0, 0, 0, NULL, 0) == refused(KZ_BUFFER_TOO_SHORT, 0));
@@ -267,6 +272,7 @@ static void check_longest(void) {
 
 int main(void) {
     check_layout();
+    check_answers();
     check_events();
     check_reused_memory();
     check_named_events();

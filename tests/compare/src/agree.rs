@@ -1,10 +1,11 @@
 //! One call of the implementation beside the oracle: the answer and everything lent must be equal.
 
 use std::fmt::Debug;
-use std::sync::atomic::{AtomicU64, Ordering};
 
 use interface::{Cap, Event, Interface, MAX_GROUP};
 use oracle::{Refused, Row, Span, Spelling, Tally};
+
+use crate::report::{Checked, Met, MetAnswers, check_few};
 
 /// The implementation under test.
 pub type Subject = &'static dyn Interface;
@@ -43,7 +44,7 @@ pub fn packed_run(answer: oracle::Run) -> u64 {
     }
 }
 
-fn span_of(event: Event) -> Span {
+pub fn span_of(event: Event) -> Span {
     Span {
         start: event.start,
         length: event.length,
@@ -135,20 +136,15 @@ fn lend(
     Ok((answer, Found { table, tally }))
 }
 
-/// How often events, names dropped together among them, were allowed, and refused by each number.
-static MET: [AtomicU64; 14] = [const { AtomicU64::new(0) }; 14];
+/// The answers to events, names dropped together among them.
+static MET: MetAnswers = Met::none();
 
 /// The refusal that only a writer gives.
-const BUFFER_TOO_SHORT: usize = 11;
+pub const BUFFER_TOO_SHORT: usize = 11;
 
 /// Whether events have met every answer that an event can meet, and how often.
-pub fn every_answer_met() -> Result<u64, String> {
-    let met = MET.each_ref().map(|count| count.load(Ordering::Relaxed));
-    let as_due = |number: usize| (met[number] > 0) == (number != BUFFER_TOO_SHORT);
-    match (0..met.len()).all(as_due) {
-        true => Ok(met.iter().sum()),
-        false => Err(format!("allowed and refusals 1 to 13: {met:?}")),
-    }
+pub fn every_answer_met() -> Checked {
+    MET.every_answer_but(&[BUFFER_TOO_SHORT])
 }
 
 /// Sorts of creates, for what they meet.
@@ -162,7 +158,7 @@ const CREATES: [&str; 6] = [
 ];
 
 /// How often events were creates of each sort.
-static CREATES_MET: [AtomicU64; 6] = [const { AtomicU64::new(0) }; 6];
+static CREATES_MET: Met<6> = Met::none();
 
 /// Counts a create for the rows before it and after.
 fn count_create(before: &[Row], lent: &Lent, event: Event, verdict: Result<u32, Refused>) {
@@ -173,28 +169,18 @@ fn count_create(before: &[Row], lent: &Lent, event: Event, verdict: Result<u32, 
     let live = oracle::live_rows(before);
     let left = live.iter().filter(|row| is_left(row)).count();
     let around = |row: &Row| row.start < start && u64::from(start) < row.span().end();
-    let sorts = [
+    CREATES_MET.count([
         allowed && left == live.len() && left > 0,
         allowed && left < live.len() && left > 0,
         allowed && left == 0 && live.len() > 1,
         allowed && live.iter().any(|row| !touched(row) && !is_left(row)),
         allowed && length == 0 && live.iter().any(around),
         verdict == Err(10) && live.iter().any(touched),
-    ];
-    for (met, is_of_sort) in CREATES_MET.iter().zip(sorts) {
-        met.fetch_add(is_of_sort.into(), Ordering::Relaxed);
-    }
+    ]);
 }
 
-/// Whether events were creates of every sort, each often enough that no accident decides.
-pub fn every_create_met() -> Result<u64, String> {
-    let met = CREATES_MET
-        .each_ref()
-        .map(|met| met.load(Ordering::Relaxed));
-    match met.iter().all(|count| *count >= 200) {
-        true => Ok(met.iter().sum()),
-        false => Err(format!("creates: {:?}", CREATES.iter().zip(met))),
-    }
+pub fn every_create_met() -> Checked {
+    CREATES_MET.every_sort(&CREATES, 200)
 }
 
 /// One event by the oracle alone.
@@ -210,7 +196,7 @@ pub fn apply(subject: Subject, lent: &mut Lent, event: Event) -> Result<u64, Str
     if let Some(before) = before {
         count_create(&before, lent, event, verdict);
     }
-    MET[usize::from(verdict.err().unwrap_or(0))].fetch_add(1, Ordering::Relaxed);
+    MET.count_answer(verdict);
     same_answer(packed(verdict), answer)?;
     same_lent(lent, &found)?;
     Ok(answer)
@@ -223,6 +209,17 @@ pub fn apply_all(subject: Subject, mut lent: Lent, events: &[Event]) -> Agreed {
     Ok(())
 }
 
+/// Checks what is lent; on failure gives few rows that still fail.
+pub fn check_rows(lent: &Lent, check: impl Fn(Lent) -> Agreed) -> Agreed {
+    let tally = lent.tally;
+    let with_rows = |rows: &[Row]| {
+        let rows = rows.to_vec();
+        check(Lent { rows, tally })
+    };
+    check_few(&lent.rows, with_rows)
+        .map_err(|(why, rows)| format!("{why}\n  rows {rows:?}\n  tally {tally:?}"))
+}
+
 /// Names dropped together by the oracle alone.
 pub fn oracle_drop_all(lent: &mut Lent, names: &[u32]) -> Result<u32, Refused> {
     oracle::drop_all(&mut lent.rows, &mut lent.tally, names)
@@ -232,7 +229,7 @@ pub fn oracle_drop_all(lent: &mut Lent, names: &[u32]) -> Result<u32, Refused> {
 pub fn drop_all(subject: Subject, lent: &mut Lent, names: &[u32]) -> Result<u64, String> {
     let (answer, found) = lend(lent, |table, tally| subject.drop_all(table, tally, names))?;
     let verdict = oracle_drop_all(lent, names);
-    MET[usize::from(verdict.err().unwrap_or(0))].fetch_add(1, Ordering::Relaxed);
+    MET.count_answer(verdict);
     same_answer(packed(verdict), answer)?;
     same_lent(lent, &found)?;
     Ok(answer)
@@ -252,22 +249,29 @@ const UNTOUCHED: u32 = 0xA5A5_A5A5;
 
 /// A line in the plain spelling.
 pub fn read_event(subject: Subject, line: &[u8]) -> Agreed {
-    let mut fields = [UNTOUCHED; 5];
-    let answer = subject.read_event(line, &mut fields);
     let read = oracle::read_event_line(line, Spelling::Plain);
-    same_answer(packed(read.map(|_| 0).ok_or(2)), answer)?;
-    let expected = read.map_or([UNTOUCHED; 5], oracle::Event::fields);
-    same("fields", expected, fields)
+    same_fields(read.map(oracle::Event::fields), |fields| {
+        subject.read_event(line, fields)
+    })
 }
 
 /// A line in the named spelling.
 pub fn read_named(subject: Subject, line: &[u8]) -> Agreed {
-    let mut fields = [UNTOUCHED; 6];
-    let answer = subject.read_named(line, &mut fields);
     let read = oracle::read_event_line(line, Spelling::Named);
-    same_answer(packed(read.map(|_| 0).ok_or(2)), answer)?;
-    let expected = read.map_or([UNTOUCHED; 6], oracle::Event::named_fields);
-    same("fields", expected, fields)
+    same_fields(read.map(oracle::Event::named_fields), |fields| {
+        subject.read_named(line, fields)
+    })
+}
+
+/// The fields that a reader should give, if it should give any, and those that it gives.
+fn same_fields<const COUNT: usize>(
+    expected: Option<[u32; COUNT]>,
+    call: impl FnOnce(&mut [u32; COUNT]) -> u64,
+) -> Agreed {
+    let mut fields = [UNTOUCHED; COUNT];
+    let answer = call(&mut fields);
+    same_answer(packed(expected.map(|_| 0).ok_or(2)), answer)?;
+    same("fields", expected.unwrap_or([UNTOUCHED; COUNT]), fields)
 }
 
 /// A line in the given spelling.

@@ -1,14 +1,12 @@
-//! Random events on lent tables, and lists of events beside their history.
-
-use std::collections::BTreeSet;
+//! Random events on lent tables.
 
 use interface::Event;
-use oracle::{History, MAX_DEPTH, MAX_NAME, MAX_ROWS, Row, Span, Spelling};
+use oracle::{MAX_DEPTH, MAX_NAME, MAX_ROWS, Row, Spelling};
 
-use crate::agree::{self, Agreed, Lent, Subject, oracle_event, packed, same_answer};
+use crate::agree::{self, Lent, Subject, same_answer};
 use crate::generate::{self, Shape};
 use crate::random::Random;
-use crate::report::{Checked, Report, shrink};
+use crate::report::{Checked, Report, check_few};
 
 /// Tables of one sort: how many of them, how many events on each, and how one is made.
 pub struct Tables {
@@ -129,18 +127,6 @@ pub fn groups(report: &mut Report, subject: Subject) {
     report.group("creates beside writes through what they made", |random| {
         creates_as_writes(random, subject)
     });
-    report.group("lists of events and their history", |random| {
-        histories(random, subject, 1_600, 24, Spelling::Plain)
-    });
-    report.group("long lists of events and their history", |random| {
-        histories(random, subject, 40, 90, Spelling::Plain)
-    });
-    report.group("lists of named events and their history", |random| {
-        histories(random, subject, 1_600, 24, Spelling::Named)
-    });
-    report.group("long lists of named events and their history", |random| {
-        histories(random, subject, 40, 90, Spelling::Named)
-    });
 }
 
 fn noise(random: &mut Random) -> Lent {
@@ -233,23 +219,10 @@ fn on_table(
     spelling: Spelling,
 ) -> Checked {
     let events = generate::events(random, lent.clone(), count, spelling);
-    agree::apply_all(subject, lent.clone(), &events)
-        .map_err(|_| smallest_table(subject, lent, &events))?;
+    let check =
+        |events: &[Event]| agree::check_rows(lent, |lent| agree::apply_all(subject, lent, events));
+    check_few(&events, check).map_err(|(why, events)| format!("{why}\n  events {events:?}"))?;
     Ok(count as u64)
-}
-
-/// A small table and few events that still fail.
-fn smallest_table(subject: Subject, lent: &Lent, events: &[Event]) -> String {
-    let outcome = |rows: &[Row], events: &[Event]| {
-        let tally = lent.tally;
-        let rows = rows.to_vec();
-        agree::apply_all(subject, Lent { rows, tally }, events)
-    };
-    let events = shrink(events, |fewer| outcome(&lent.rows, fewer).is_err());
-    let rows = shrink(&lent.rows, |fewer| outcome(fewer, &events).is_err());
-    let why = outcome(&rows, &events).expect_err("a smaller case fails too");
-    let tally = lent.tally;
-    format!("{why}\n  rows {rows:?}\n  tally {tally:?}\n  events {events:?}")
 }
 
 /// Creates on tables in order. Refused ones are not counted.
@@ -300,122 +273,4 @@ fn create_as_write(subject: Subject, lent: &Lent, create: Event) -> Checked {
     same_answer(0, agree::apply(subject, &mut written, write)?)?;
     agree::same("rows", &created.rows, &written.rows)?;
     Ok(1)
-}
-
-/// Lists of events from empty tables, beside the history of document 01. In the named spelling some
-/// events write no name all the same.
-fn histories(
-    random: &mut Random,
-    subject: Subject,
-    lists: u64,
-    length: usize,
-    spelling: Spelling,
-) -> Checked {
-    for _ in 0..lists {
-        let lent = empty_table(random);
-        let mut events = generate::events(random, lent.clone(), length, spelling);
-        for event in &mut events {
-            event.written = event.written.filter(|_| !random.one_in(4));
-        }
-        follow_history(subject, lent.clone(), &events)
-            .map_err(|_| smallest_list(subject, &lent, &events))?;
-    }
-    Ok(lists * length as u64)
-}
-
-/// An empty table with no name issued.
-pub fn empty_table(random: &mut Random) -> Lent {
-    let mut lent = Lent::empty(match random.below(20) {
-        0 => MAX_ROWS,
-        1 => MAX_ROWS + 1,
-        _ => random.between(0, 14),
-    });
-    lent.tally = generate::tally(random);
-    lent
-}
-
-fn smallest_list(subject: Subject, lent: &Lent, events: &[Event]) -> String {
-    let outcome = |events: &[Event]| follow_history(subject, lent.clone(), events);
-    let events = shrink(events, |fewer| outcome(fewer).is_err());
-    let why = outcome(&events).expect_err("a smaller case fails too");
-    let rows = lent.rows.len();
-    let tally = lent.tally;
-    format!("{why}\n  {rows} empty rows\n  tally {tally:?}\n  events {events:?}")
-}
-
-fn follow_history(subject: Subject, mut lent: Lent, events: &[Event]) -> Agreed {
-    let mut history = History::new(lent.rows.len());
-    let mut lost = Lost::default();
-    for event in events {
-        let expected = history.answer(oracle_event(*event));
-        let answer = agree::apply(subject, &mut lent, *event)?;
-        same_answer(packed(expected), answer).map_err(|why| format!("history: {why}"))?;
-        if history.table() != lent.rows || history.count() != lent.tally.issued {
-            return Err(format!("history: another table, {:?}", history.table()));
-        }
-        lost.check(&lent)?;
-    }
-    let spans = events.iter().rev().take(4).map(|event| Span {
-        start: event.start,
-        length: event.length,
-    });
-    demand_three(subject, &lent, &history, spans)
-}
-
-/// Names that have ended, and names that are not `rw`: neither ever changes back.
-#[derive(Default)]
-pub struct Lost {
-    ended: BTreeSet<u32>,
-    read_only: BTreeSet<u32>,
-}
-
-impl Lost {
-    pub fn check(&mut self, lent: &Lent) -> Agreed {
-        for name in 1..=lent.tally.issued {
-            let row = lent.rows.iter().find(|row| row.name == name);
-            let lives = row.is_some();
-            let writable = row.is_some_and(|row| row.right == 2);
-            if (lives && self.ended.contains(&name)) || (writable && self.read_only.contains(&name))
-            {
-                return Err(format!("name {name} has a right again that it lost"));
-            }
-            if !lives {
-                self.ended.insert(name);
-            }
-            if !writable {
-                self.read_only.insert(name);
-            }
-        }
-        Ok(())
-    }
-}
-
-/// Reads and writes through every name are allowed exactly when demand 3 says.
-pub fn demand_three(
-    subject: Subject,
-    lent: &Lent,
-    history: &History,
-    spans: impl Iterator<Item = Span>,
-) -> Agreed {
-    for span in spans {
-        for name in 0..=history.count() + 1 {
-            let may_read = history.may_read(name, span);
-            let may_write = history.may_write(name, span);
-            for (kind, expected) in [(3, may_read), (4, may_write)] {
-                let event = Event {
-                    kind,
-                    written: None,
-                    name,
-                    start: span.start,
-                    length: span.length,
-                    right: 0,
-                };
-                let answer = agree::apply(subject, &mut lent.clone(), event)?;
-                if (answer >> 32 == 0) != expected {
-                    return Err(format!("demand 3 on {event:?}: allowed is {expected}"));
-                }
-            }
-        }
-    }
-    Ok(())
 }

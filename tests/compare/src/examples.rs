@@ -4,7 +4,8 @@ use interface::Event;
 use oracle::{MAX_DEPTH, MAX_NAME, MAX_ROWS, Spelling, Tally};
 
 use crate::agree::{self, Agreed, Lent, Subject, packed, same_answer};
-use crate::generate;
+use crate::generate::{self, Request};
+use crate::histories::check_list;
 use crate::report::{Checked, Report};
 
 /// A line and its answer.
@@ -448,18 +449,24 @@ fn in_sizes(subject: Subject, sizes: &[usize], steps: &[Step], listing: &str) ->
     Ok(cases)
 }
 
-/// Takes the steps one by one as events, and as a run up to each refusal.
+/// Takes the steps one by one as events, each as a run of its own, and all of them beside the history
+/// where the trace begins with no name issued.
 fn check_trace(subject: Subject, trace: &Trace) -> Checked {
     let mut lent = Lent::empty(trace.rows);
     lent.tally.issued = trace.issued;
+    let mut requests = Vec::new();
     for (line, expected) in trace.steps {
         let before = lent.clone();
         let event = read(subject, line)?;
         let answer = agree::apply(subject, &mut lent, event)?;
         same_answer(packed(*expected), answer).map_err(|why| format!("{line}: {why}"))?;
         check_run(subject, before, line, *expected)?;
+        requests.push(Request::Single(event));
     }
     check_listing(subject, &lent, trace.listing)?;
+    if trace.issued == 0 {
+        check_list(subject, &Lent::empty(trace.rows), &requests)?;
+    }
     Ok(trace.steps.len() as u64)
 }
 
@@ -499,18 +506,26 @@ fn read(subject: Subject, line: &str) -> Result<Event, String> {
 
 /// A chain of borrows down to depth 64; one more is refused.
 fn depth(subject: Subject) -> Checked {
-    let mut lent = Lent::empty(MAX_ROWS);
-    let mut step = |line: String, expected| {
-        let event = read(subject, &line)?;
-        let answer = agree::apply(subject, &mut lent, event)?;
-        same_answer(packed(expected), answer).map_err(|why| format!("{line}: {why}"))
+    let borrow = |newest: u32| format!("(borrow {newest} 0 8 rw)");
+    let borrows: Vec<String> = (1..=MAX_DEPTH).map(borrow).collect();
+    let answer = |newest: u32| match newest {
+        MAX_DEPTH => Err(8),
+        _ => Ok(newest + 1),
     };
-    step("(create 0 64 rw)".to_string(), Ok(1))?;
-    for newest in 1..MAX_DEPTH {
-        step(format!("(borrow {newest} 0 8 rw)"), Ok(newest + 1))?;
-    }
-    step("(borrow 64 0 8 rw)".to_string(), Err(8))?;
-    Ok(u64::from(MAX_DEPTH) + 1)
+    let answers = (1..=MAX_DEPTH).map(answer);
+    let mut steps = vec![ROOT];
+    steps.extend(borrows.iter().map(String::as_str).zip(answers));
+    let below: String = (2..=MAX_DEPTH)
+        .map(|name| format!(" ({name} 0 8 rw"))
+        .collect();
+    let closing = ")".repeat(MAX_DEPTH as usize);
+    let trace = Trace {
+        rows: MAX_ROWS,
+        issued: 0,
+        steps: &steps,
+        listing: &format!("(issued 64)\n(1 0 64 rw{below}{closing}\n"),
+    };
+    check_trace(subject, &trace)
 }
 
 /// Rows both named 3: every call that judges the table refuses with 1 and leaves everything.

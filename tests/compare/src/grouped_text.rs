@@ -1,4 +1,4 @@
-//! Lines of names that are dropped together, written, read, and in runs.
+//! Lines of names that are dropped together, written, read, and in both spellings of traces.
 
 use oracle::{HEADER, MAX_GROUP, MAX_INPUT, MAX_ROWS, Spelling, Tally};
 
@@ -6,8 +6,8 @@ use crate::agree::{self, Agreed, Lent, Subject, packed, packed_run, same, same_a
 use crate::generate::{self, Request, Shape};
 use crate::lines::{NUMBERS, check_text, each_byte};
 use crate::random::Random;
-use crate::report::{Checked, Report, shrink};
-use crate::spellings::{rightly_named, with_header};
+use crate::report::{Checked, Report, check_few};
+use crate::spellings::{rightly_named, same_verdicts, with_header};
 
 const SAMPLES: [&str; 10] = [
     "(drop 2 5 9)\n",
@@ -47,36 +47,10 @@ pub fn groups(report: &mut Report, subject: Subject) {
     report.group("lines of names dropped together at their limits", |_| {
         limits(subject)
     });
-    for (spelling, named) in [(Spelling::Plain, ""), (Spelling::Named, "named ")] {
-        run_groups(report, subject, spelling, named);
-    }
     report.group(
         "plain and named runs with names dropped together",
         |random| both_spellings(random, subject),
     );
-}
-
-fn run_groups(report: &mut Report, subject: Subject, spelling: Spelling, named: &str) {
-    let runs = format!("{named}runs with names dropped together");
-    report.group(&format!("{runs} on ordered tables"), |random| {
-        on_tables(random, subject, 5_000, spelling, |_, _, _| {})
-    });
-    report.group(&format!("{runs}, damaged"), |random| {
-        on_tables(random, subject, 8_000, spelling, |random, _, text| {
-            generate::damage(random, text)
-        })
-    });
-    report.group(&format!("{runs} on disordered tables"), |random| {
-        on_tables(random, subject, 3_000, spelling, |random, lent, _| {
-            generate::disturb(random, lent)
-        })
-    });
-    report.group(&format!("{runs} on large tables"), |random| {
-        large(random, subject, spelling)
-    });
-    report.group(&format!("capcheck on {runs}"), |random| {
-        capcheck(random, subject, spelling)
-    });
 }
 
 /// A line and its answer.
@@ -392,60 +366,6 @@ fn limits(subject: Subject) -> Checked {
     Ok(cases)
 }
 
-fn run_text(subject: Subject, lent: &Lent, text: &[u8]) -> Agreed {
-    let run = |text: &[u8]| agree::run(subject, &mut lent.clone(), text).map(|_| ());
-    check_text(text, run).map_err(|why| format!("{why}\n  {lent:?}"))
-}
-
-fn on_tables(
-    random: &mut Random,
-    subject: Subject,
-    runs: u64,
-    spelling: Spelling,
-    change: impl Fn(&mut Random, &mut Lent, &mut Vec<u8>),
-) -> Checked {
-    for _ in 0..runs {
-        let shape = Shape::partly_full(random, 12);
-        let mut lent = generate::ordered(random, &shape);
-        let lines = random.between(0, 10);
-        let requests = generate::requests(random, lent.clone(), lines, spelling);
-        let mut text = generate::requests_text(&requests, spelling);
-        change(random, &mut lent, &mut text);
-        run_text(subject, &lent, &text)?;
-    }
-    Ok(runs)
-}
-
-fn large(random: &mut Random, subject: Subject, spelling: Spelling) -> Checked {
-    let runs = 16;
-    for _ in 0..runs {
-        let rows = random.between(500, MAX_ROWS);
-        let shape = Shape::full(random, rows);
-        let lent = generate::ordered(random, &shape);
-        let requests = generate::requests(random, lent.clone(), 8, spelling);
-        run_text(
-            subject,
-            &lent,
-            &generate::requests_text(&requests, spelling),
-        )?;
-    }
-    Ok(runs)
-}
-
-fn capcheck(random: &mut Random, subject: Subject, spelling: Spelling) -> Checked {
-    let inputs = 1_500;
-    for _ in 0..inputs {
-        let lines = random.between(0, 16);
-        let requests = generate::requests(random, Lent::empty(MAX_ROWS), lines, spelling);
-        let mut text = generate::requests_text(&requests, spelling);
-        if random.one_in(2) {
-            generate::damage(random, &mut text);
-        }
-        check_text(&text, |text| agree::check(subject, text))?;
-    }
-    Ok(inputs)
-}
-
 /// The same requests in both spellings, with right names.
 fn both_spellings(random: &mut Random, subject: Subject) -> Checked {
     let runs = 4_000;
@@ -453,36 +373,31 @@ fn both_spellings(random: &mut Random, subject: Subject) -> Checked {
         let shape = Shape::partly_full(random, 12);
         let lent = generate::ordered(random, &shape);
         let requests = generate::requests(random, lent.clone(), 12, Spelling::Plain);
-        let outcome = |requests: &[Request]| same_verdicts(subject, &lent, requests);
-        outcome(&requests).map_err(|_| {
-            let fewer = shrink(&requests, |fewer| outcome(fewer).is_err());
-            let why = outcome(&fewer).expect_err("a smaller case fails too");
-            format!("{why}\n  {lent:?}\n  requests {fewer:?}")
-        })?;
+        let outcome = |requests: &[Request]| {
+            let plain = generate::requests_text(requests, Spelling::Plain);
+            let named = rightly_named_requests(&lent, requests);
+            let named = generate::requests_text(&named, Spelling::Named);
+            same_verdicts(subject, &lent, &plain, &named)
+        };
+        check_few(&requests, outcome)
+            .map_err(|(why, requests)| format!("{why}\n  {lent:?}\n  requests {requests:?}"))?;
     }
     Ok(runs)
 }
 
-fn same_verdicts(subject: Subject, lent: &Lent, requests: &[Request]) -> Agreed {
-    let mut issuing = lent.clone();
+/// The requests with their right names, as long as each is allowed; no later one is looked at.
+fn rightly_named_requests(lent: &Lent, requests: &[Request]) -> Vec<Request> {
+    let mut lent = lent.clone();
     let mut name = |request: &Request| match request {
         Request::Single(event) => {
-            let named = rightly_named(&issuing, *event);
-            let _ = agree::oracle_apply(&mut issuing, *event);
+            let named = rightly_named(&lent, *event);
+            let _ = agree::oracle_apply(&mut lent, *event);
             Request::Single(named)
         }
         Request::Group(names) => {
-            let _ = agree::oracle_drop_all(&mut issuing, names);
+            let _ = agree::oracle_drop_all(&mut lent, names);
             request.clone()
         }
     };
-    let named: Vec<Request> = requests.iter().map(&mut name).collect();
-    let plain = generate::requests_text(requests, Spelling::Plain);
-    let named = generate::requests_text(&named, Spelling::Named);
-    let mut after_plain = lent.clone();
-    let mut after_named = lent.clone();
-    let answer = agree::run(subject, &mut after_plain, &plain)?;
-    let with_names = agree::run(subject, &mut after_named, &named)?;
-    same_answer(with_header(answer), with_names)?;
-    same("what is lent", after_plain, after_named)
+    requests.iter().map(&mut name).collect()
 }

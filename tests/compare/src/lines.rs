@@ -6,7 +6,7 @@ use oracle::Spelling;
 use crate::agree::{self, Agreed, Subject};
 use crate::generate;
 use crate::random::Random;
-use crate::report::{Checked, Report, shrink};
+use crate::report::{Checked, Report, check_few};
 
 /// One line of each kind and some that are nearly lines.
 const SAMPLES: [&str; 12] = [
@@ -148,12 +148,8 @@ fn random_lines(random: &mut Random, most: usize, spelling: Spelling) -> Vec<u8>
 
 /// Checks a text; on failure gives a short text that still fails.
 pub fn check_text(text: &[u8], check: impl Fn(&[u8]) -> Agreed) -> Agreed {
-    if check(text).is_ok() {
-        return Ok(());
-    }
-    let small = shrink(text, |fewer| check(fewer).is_err());
-    let why = check(&small).expect_err("a smaller case fails too");
-    Err(format!("{why}\n  text \"{}\"", small.escape_ascii()))
+    check_few(text, check)
+        .map_err(|(why, text)| format!("{why}\n  text \"{}\"", text.escape_ascii()))
 }
 
 /// Lines written in one spelling and read in one, the same or the other.

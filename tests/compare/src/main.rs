@@ -5,10 +5,12 @@
 //! names are run. The exit status is 0 when every group passed.
 
 mod agree;
+mod edges;
 mod events;
 mod examples;
 mod generate;
 mod grouped_text;
+mod histories;
 mod lines;
 mod listings;
 mod random;
@@ -67,18 +69,20 @@ fn main() -> ExitCode {
     let mut report = Report::new(seed, wanted);
     examples::groups(&mut report, subject);
     events::groups(&mut report, subject);
+    histories::groups(&mut report, subject);
+    edges::groups(&mut report, subject);
     lines::groups(&mut report, subject);
     listings::groups(&mut report, subject);
     runs::groups(&mut report, subject);
     spellings::groups(&mut report, subject);
     together::groups(&mut report, subject);
     grouped_text::groups(&mut report, subject);
-    report.group("every answer of an event was met", |_| {
-        agree::every_answer_met()
-    });
-    report.group("every sort of create was met", |_| {
-        agree::every_create_met()
-    });
+    report.met("every answer of an event was met", agree::every_answer_met);
+    report.met(
+        "every answer of the history was met",
+        histories::every_answer_met,
+    );
+    report.met("every sort of create was met", agree::every_create_met);
     match report.finish() {
         true => ExitCode::SUCCESS,
         false => ExitCode::FAILURE,

@@ -1,5 +1,10 @@
 //! Groups of cases, each printed as one test.
 
+use std::array;
+use std::sync::atomic::{AtomicU64, Ordering};
+
+use oracle::Refused;
+
 use crate::random::Random;
 
 /// How many cases a group went through, or what failed.
@@ -43,6 +48,13 @@ impl Report {
         }
     }
 
+    /// Judges what the groups before it have met together, so that it needs all of them.
+    pub fn met(&mut self, name: &str, check: impl FnOnce() -> Checked) {
+        if self.wanted.is_empty() {
+            self.group(name, |_| check());
+        }
+    }
+
     /// Prints the last line and says whether there were groups and every one passed.
     pub fn finish(self) -> bool {
         println!("{} passed, {} failed", self.passed, self.failed);
@@ -50,8 +62,70 @@ impl Report {
     }
 }
 
+/// How often cases of each of some sorts were met.
+pub struct Met<const SORTS: usize>([AtomicU64; SORTS]);
+
+impl<const SORTS: usize> Met<SORTS> {
+    pub const fn none() -> Met<SORTS> {
+        Met([const { AtomicU64::new(0) }; SORTS])
+    }
+
+    /// Counts a case for each sort that it is of.
+    pub fn count(&self, is_of_sort: [bool; SORTS]) {
+        for (met, is_of_sort) in self.0.iter().zip(is_of_sort) {
+            met.fetch_add(is_of_sort.into(), Ordering::Relaxed);
+        }
+    }
+
+    fn counts(&self) -> [u64; SORTS] {
+        self.0.each_ref().map(|met| met.load(Ordering::Relaxed))
+    }
+
+    /// Whether cases were of every sort, each often enough that no accident decides.
+    pub fn every_sort(&self, names: &[&str; SORTS], least: u64) -> Checked {
+        let met = self.counts();
+        match met.iter().all(|count| *count >= least) {
+            true => Ok(met.iter().sum()),
+            false => Err(format!("sorts: {:?}", names.iter().zip(met))),
+        }
+    }
+}
+
+/// How often requests were allowed, and refused by each number.
+pub type MetAnswers = Met<14>;
+
+impl MetAnswers {
+    pub fn count_answer(&self, answer: Result<u32, Refused>) {
+        let number = usize::from(answer.err().unwrap_or(0));
+        self.count(array::from_fn(|sort| sort == number));
+    }
+
+    /// Whether every answer was met, but for those that cannot be, and how often.
+    pub fn every_answer_but(&self, never: &[usize]) -> Checked {
+        let met = self.counts();
+        let as_due = |number: usize| (met[number] > 0) != never.contains(&number);
+        match (0..met.len()).all(as_due) {
+            true => Ok(met.iter().sum()),
+            false => Err(format!("allowed and refusals 1 to 13: {met:?}")),
+        }
+    }
+}
+
+/// Checks items; on failure gives why, and few items that still fail.
+pub fn check_few<T: Clone>(
+    items: &[T],
+    check: impl Fn(&[T]) -> Result<(), String>,
+) -> Result<(), (String, Vec<T>)> {
+    if check(items).is_ok() {
+        return Ok(());
+    }
+    let fewer = shrink(items, |fewer| check(fewer).is_err());
+    let why = check(&fewer).expect_err("a smaller case fails too");
+    Err((why, fewer))
+}
+
 /// Takes out of a failing case whatever it fails without.
-pub fn shrink<T: Clone>(items: &[T], fails: impl Fn(&[T]) -> bool) -> Vec<T> {
+fn shrink<T: Clone>(items: &[T], fails: impl Fn(&[T]) -> bool) -> Vec<T> {
     let mut kept = items.to_vec();
     let mut size = kept.len();
     while size > 0 {

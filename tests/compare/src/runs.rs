@@ -1,31 +1,70 @@
 //! Runs of lines, and what `capcheck` prints.
 
-use oracle::{HEADER, MAX_INPUT, MAX_ROWS, Row, Spelling};
+use oracle::{HEADER, MAX_INPUT, MAX_ROWS, Spelling};
 
-use crate::agree::{self, Lent, Subject};
+use crate::agree::{self, Agreed, Lent, Subject};
 use crate::generate::{self, Shape};
 use crate::lines::check_text;
 use crate::random::Random;
-use crate::report::{Checked, Report, shrink};
+use crate::report::{Checked, Report};
 
-/// A spelling, the name of its runs, and the name of its texts.
-const SORTS: [(Spelling, &str, &str); 2] = [
-    (Spelling::Plain, "runs", "texts"),
-    (Spelling::Named, "named runs", "named texts"),
+/// Runs of one sort: their name, that of their texts, their spelling, and how a text is made.
+struct Sort {
+    runs: &'static str,
+    texts: &'static str,
+    spelling: Spelling,
+    text: fn(&mut Random, Lent, usize, Spelling) -> Vec<u8>,
+}
+
+const SORTS: [Sort; 4] = [
+    Sort {
+        runs: "runs",
+        texts: "texts",
+        spelling: Spelling::Plain,
+        text: of_events,
+    },
+    Sort {
+        runs: "named runs",
+        texts: "named texts",
+        spelling: Spelling::Named,
+        text: of_events,
+    },
+    Sort {
+        runs: "runs with names dropped together",
+        texts: "texts with names dropped together",
+        spelling: Spelling::Plain,
+        text: of_requests,
+    },
+    Sort {
+        runs: "named runs with names dropped together",
+        texts: "named texts with names dropped together",
+        spelling: Spelling::Named,
+        text: of_requests,
+    },
 ];
 
+fn of_events(random: &mut Random, lent: Lent, lines: usize, spelling: Spelling) -> Vec<u8> {
+    generate::trace(&generate::events(random, lent, lines, spelling), spelling)
+}
+
+fn of_requests(random: &mut Random, lent: Lent, lines: usize, spelling: Spelling) -> Vec<u8> {
+    let requests = generate::requests(random, lent, lines, spelling);
+    generate::requests_text(&requests, spelling)
+}
+
 pub fn groups(report: &mut Report, subject: Subject) {
-    for (spelling, runs, texts) in SORTS {
+    for sort in &SORTS {
+        let Sort { runs, texts, .. } = sort;
         report.group(&format!("{runs} on ordered tables"), |random| {
-            on_tables(random, subject, 6_000, 12, spelling, |_, _| {})
+            on_tables(random, subject, 6_000, 12, sort, |_, _| {})
         });
         report.group(&format!("{runs} of damaged texts"), |random| {
-            on_tables(random, subject, 10_000, 8, spelling, |random, case| {
+            on_tables(random, subject, 10_000, 8, sort, |random, case| {
                 generate::damage(random, &mut case.text)
             })
         });
         report.group(&format!("{runs} on disordered tables"), |random| {
-            on_tables(random, subject, 6_000, 3, spelling, |random, case| {
+            on_tables(random, subject, 6_000, 3, sort, |random, case| {
                 generate::disturb(random, &mut case.lent);
                 if random.one_in(2) {
                     generate::damage(random, &mut case.text);
@@ -33,13 +72,13 @@ pub fn groups(report: &mut Report, subject: Subject) {
             })
         });
         report.group(&format!("{runs} on large tables"), |random| {
-            large(random, subject, spelling)
+            large(random, subject, sort)
         });
         report.group(&format!("capcheck on whole {texts}"), |random| {
-            capcheck(random, subject, 1_500, spelling, false)
+            capcheck(random, subject, 1_500, sort, false)
         });
         report.group(&format!("capcheck on damaged {texts}"), |random| {
-            capcheck(random, subject, 1_500, spelling, true)
+            capcheck(random, subject, 1_500, sort, true)
         });
     }
     report.group("capcheck on long texts", |_| long_texts(subject));
@@ -53,10 +92,9 @@ struct Case {
     text: Vec<u8>,
 }
 
-fn case(random: &mut Random, shape: &Shape, lines: usize, spelling: Spelling) -> Case {
+fn case(random: &mut Random, shape: &Shape, lines: usize, sort: &Sort) -> Case {
     let lent = generate::ordered(random, shape);
-    let events = generate::events(random, lent.clone(), lines, spelling);
-    let text = generate::trace(&events, spelling);
+    let text = (sort.text)(random, lent.clone(), lines, sort.spelling);
     Case { lent, text }
 }
 
@@ -65,40 +103,35 @@ fn on_tables(
     subject: Subject,
     runs: u64,
     most_lines: usize,
-    spelling: Spelling,
+    sort: &Sort,
     change: impl Fn(&mut Random, &mut Case),
 ) -> Checked {
     for _ in 0..runs {
-        let shape = Shape::partly_full(random, 10);
+        let shape = Shape::partly_full(random, 12);
         let lines = random.between(0, most_lines);
-        let mut case = case(random, &shape, lines, spelling);
+        let mut case = case(random, &shape, lines, sort);
         change(random, &mut case);
         check_case(subject, &case)?;
     }
     Ok(runs)
 }
 
-fn large(random: &mut Random, subject: Subject, spelling: Spelling) -> Checked {
+fn large(random: &mut Random, subject: Subject, sort: &Sort) -> Checked {
     let runs = 24;
     for _ in 0..runs {
         let rows = random.between(500, MAX_ROWS);
         let shape = Shape::full(random, rows);
-        check_case(subject, &case(random, &shape, 12, spelling))?;
+        check_case(subject, &case(random, &shape, 12, sort))?;
     }
     Ok(runs)
 }
 
-fn check_case(subject: Subject, case: &Case) -> Result<(), String> {
-    let outcome = |rows: &[Row], text: &[u8]| {
-        let mut lent = Lent {
-            rows: rows.to_vec(),
-            tally: case.lent.tally,
-        };
-        agree::run(subject, &mut lent, text).map(|_| ())
-    };
-    check_text(&case.text, |text| outcome(&case.lent.rows, text)).map_err(|why| {
-        let rows = shrink(&case.lent.rows, |fewer| outcome(fewer, &case.text).is_err());
-        format!("{why}\n  rows {rows:?}\n  tally {:?}", case.lent.tally)
+/// A run; on failure gives a short text that still fails, and few rows on which the whole one does.
+fn check_case(subject: Subject, case: &Case) -> Agreed {
+    let run = |mut lent: Lent, text: &[u8]| agree::run(subject, &mut lent, text).map(|_| ());
+    check_text(&case.text, |text| run(case.lent.clone(), text)).map_err(|why| {
+        let whole = agree::check_rows(&case.lent, |lent| run(lent, &case.text));
+        format!("{why}\n  {}", whole.err().unwrap_or_default())
     })
 }
 
@@ -106,13 +139,12 @@ fn capcheck(
     random: &mut Random,
     subject: Subject,
     inputs: u64,
-    spelling: Spelling,
+    sort: &Sort,
     damaged: bool,
 ) -> Checked {
     for _ in 0..inputs {
         let lines = random.between(0, 16);
-        let events = generate::events(random, Lent::empty(MAX_ROWS), lines, spelling);
-        let mut text = generate::trace(&events, spelling);
+        let mut text = (sort.text)(random, Lent::empty(MAX_ROWS), lines, sort.spelling);
         if damaged {
             generate::damage(random, &mut text);
         }

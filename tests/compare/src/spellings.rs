@@ -8,7 +8,7 @@ use crate::agree::{self, Agreed, Lent, Subject, packed_run, same, same_answer};
 use crate::generate::{self, Shape};
 use crate::lines::{check_text, each_byte};
 use crate::random::Random;
-use crate::report::{Checked, Report, shrink};
+use crate::report::{Checked, Report, check_few};
 
 pub fn groups(report: &mut Report, subject: Subject) {
     report.group("plain and named runs of the same events", |random| {
@@ -122,19 +122,17 @@ fn both_runs(
         let mut lent = generate::ordered(random, &shape);
         let lines = lines(random, &lent, 24);
         change(random, &mut lent);
-        check_lines(&lines, &lent, |lines| same_verdicts(subject, &lent, lines))?;
+        check_lines(&lines, &lent, |lines| {
+            let [plain, named] = both_texts(&lent, lines);
+            same_verdicts(subject, &lent, &plain, &named)
+        })?;
     }
     Ok(runs)
 }
 
 /// Checks lines; on failure gives few lines that still fail.
 fn check_lines(lines: &[Line], lent: &Lent, check: impl Fn(&[Line]) -> Agreed) -> Agreed {
-    if check(lines).is_ok() {
-        return Ok(());
-    }
-    let fewer = shrink(lines, |fewer| check(fewer).is_err());
-    let why = check(&fewer).expect_err("a smaller case fails too");
-    Err(format!("{why}\n  {lent:?}\n  lines {fewer:?}"))
+    check_few(lines, check).map_err(|(why, lines)| format!("{why}\n  {lent:?}\n  lines {lines:?}"))
 }
 
 /// The answer to the named text whose plain text has this one: the lines allowed, or the line
@@ -147,12 +145,12 @@ pub fn with_header(answer: u64) -> u64 {
     }
 }
 
-fn same_verdicts(subject: Subject, lent: &Lent, lines: &[Line]) -> Agreed {
-    let [plain, named] = both_texts(lent, lines);
+/// A plain text and the named one of the same lines, each run on what is lent.
+pub fn same_verdicts(subject: Subject, lent: &Lent, plain: &[u8], named: &[u8]) -> Agreed {
     let mut after_plain = lent.clone();
     let mut after_named = lent.clone();
-    let answer = agree::run(subject, &mut after_plain, &plain)?;
-    let with_names = agree::run(subject, &mut after_named, &named)?;
+    let answer = agree::run(subject, &mut after_plain, plain)?;
+    let with_names = agree::run(subject, &mut after_named, named)?;
     same_answer(with_header(answer), with_names)?;
     same("what is lent", after_plain, after_named)
 }

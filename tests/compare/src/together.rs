@@ -1,15 +1,13 @@
-//! Names dropped together: on lent tables, beside single drops, and beside the history.
-
-use std::sync::atomic::{AtomicU64, Ordering};
+//! Names dropped together: on lent tables, and beside single drops.
 
 use interface::Event;
-use oracle::{History, MAX_GROUP, MAX_ROWS, Row, Span, Spelling};
+use oracle::{MAX_GROUP, MAX_ROWS, Row};
 
-use crate::agree::{self, Agreed, Lent, Subject, oracle_event, packed, same, same_answer};
-use crate::events::{Lost, TABLES, Tables, chain, demand_three, empty_table, roots};
-use crate::generate::{self, Request, Shape};
+use crate::agree::{self, Agreed, Lent, Subject, same, same_answer};
+use crate::events::{TABLES, Tables, chain, roots};
+use crate::generate::{self, Shape};
 use crate::random::Random;
-use crate::report::{Checked, Report, shrink};
+use crate::report::{Checked, Met, Report, check_few};
 
 pub fn groups(report: &mut Report, subject: Subject) {
     for tables in &TABLES {
@@ -22,18 +20,8 @@ pub fn groups(report: &mut Report, subject: Subject) {
     report.group("names dropped together beside single drops", |random| {
         beside_single_drops(random, subject)
     });
-    for (name, lists, length, spelling) in [
-        ("lists", 1_200, 20, Spelling::Plain),
-        ("long lists", 30, 80, Spelling::Plain),
-        ("named lists", 1_200, 20, Spelling::Named),
-    ] {
-        let name = format!("{name} with names dropped together and their history");
-        report.group(&name, |random| {
-            histories(random, subject, lists, length, spelling)
-        });
-    }
-    report.group("every sort of names dropped together was met", |_| {
-        every_sort_met()
+    report.met("every sort of names dropped together was met", || {
+        SORTS_MET.every_sort(&SORTS, 50)
     });
 }
 
@@ -56,7 +44,7 @@ const SORTS: [&str; 14] = [
 ];
 
 /// How often calls were of each sort.
-static SORTS_MET: [AtomicU64; 14] = [const { AtomicU64::new(0) }; 14];
+static SORTS_MET: Met<14> = Met::none();
 
 fn count_sorts(lent: &Lent, names: &[u32], answer: u64) {
     let (allowed, number) = (answer >> 32 == 0, answer >> 32);
@@ -74,7 +62,7 @@ fn count_sorts(lent: &Lent, names: &[u32], answer: u64) {
     let root = |row: &Row| row.parent == 0;
     let rising = names.windows(2).all(|pair| pair[0] < pair[1]);
     let roots = lent.rows.iter().filter(|row| row.name != 0 && root(row));
-    let sorts = [
+    SORTS_MET.count([
         allowed && names.len() == 1,
         allowed && pairs(&|one, other| other.parent == one.name),
         allowed && pairs(&|one, other| other.parent == one.parent && !root(one)),
@@ -89,26 +77,30 @@ fn count_sorts(lent: &Lent, names: &[u32], answer: u64) {
         number == 13 && names.len() > MAX_GROUP && rising,
         number == 13 && live.contains(&true),
         number == 13 && !refused_at.is_empty(),
-    ];
-    for (met, is_of_sort) in SORTS_MET.iter().zip(sorts) {
-        met.fetch_add(is_of_sort.into(), Ordering::Relaxed);
-    }
+    ]);
 }
 
-/// Whether calls were of every sort, each often enough that no accident decides.
-fn every_sort_met() -> Checked {
-    let met = SORTS_MET.each_ref().map(|met| met.load(Ordering::Relaxed));
-    match met.iter().all(|count| *count >= 50) {
-        true => Ok(met.iter().sum()),
-        false => Err(format!("sorts: {:?}", SORTS.iter().zip(met))),
-    }
-}
-
-fn drop_all(subject: Subject, lent: &mut Lent, names: &[u32]) -> Result<u64, String> {
+/// Names dropped together, as [`agree::drop_all`], and counted for what they meet.
+pub fn drop_all(subject: Subject, lent: &mut Lent, names: &[u32]) -> Result<u64, String> {
     let before = lent.clone();
     let answer = agree::drop_all(subject, lent, names)?;
     count_sorts(&before, names, answer);
     Ok(answer)
+}
+
+/// The same; on failure gives few names and few rows that still fail.
+fn check_names(subject: Subject, lent: &mut Lent, names: &[u32]) -> Agreed {
+    let before = lent.clone();
+    let Err(why) = drop_all(subject, lent, names) else {
+        return Ok(());
+    };
+    let again = |names: &[u32]| {
+        agree::check_rows(&before, |mut lent| {
+            agree::drop_all(subject, &mut lent, names).map(|_| ())
+        })
+    };
+    check_few(names, again).map_err(|(why, names)| format!("{why}\n  names {names:?}"))?;
+    Err(why)
 }
 
 /// Some names, one list after the other, on each of many tables.
@@ -121,26 +113,11 @@ fn on_tables(random: &mut Random, subject: Subject, tables: &Tables) -> Checked 
                 true => generate::bad_group(random, &lent),
                 false => generate::group(random, &lent),
             };
-            let before = lent.clone();
-            drop_all(subject, &mut lent, &names).map_err(|_| smallest(subject, &before, &names))?;
+            check_names(subject, &mut lent, &names)?;
             cases += 1;
         }
     }
     Ok(cases)
-}
-
-/// A small table and few names that still fail.
-fn smallest(subject: Subject, lent: &Lent, names: &[u32]) -> String {
-    let outcome = |rows: &[Row], names: &[u32]| {
-        let tally = lent.tally;
-        let rows = rows.to_vec();
-        agree::drop_all(subject, &mut Lent { rows, tally }, names)
-    };
-    let names = shrink(names, |fewer| outcome(&lent.rows, fewer).is_err());
-    let rows = shrink(&lent.rows, |fewer| outcome(fewer, &names).is_err());
-    let why = outcome(&rows, &names).expect_err("a smaller case fails too");
-    let tally = lent.tally;
-    format!("{why}\n  rows {rows:?}\n  tally {tally:?}\n  names {names:?}")
 }
 
 /// Lists of all lengths around the limits, from tables with room for them, whole and with one name
@@ -152,8 +129,7 @@ fn at_every_place(random: &mut Random, subject: Subject) -> Checked {
             let lent = with_gaps(random, rows);
             let live = oracle::live_rows(&lent.rows);
             let whole: Vec<u32> = live.iter().map(|row| row.name).take(count).collect();
-            drop_all(subject, &mut lent.clone(), &whole)
-                .map_err(|_| smallest(subject, &lent, &whole))?;
+            check_names(subject, &mut lent.clone(), &whole)?;
             cases += 1 + with_one_changed(random, subject, &lent, &whole)?;
         }
     }
@@ -181,8 +157,7 @@ fn with_one_changed(random: &mut Random, subject: Subject, lent: &Lent, whole: &
         ] {
             let mut names = whole.to_vec();
             names[*at] = other;
-            drop_all(subject, &mut lent.clone(), &names)
-                .map_err(|_| smallest(subject, lent, &names))?;
+            check_names(subject, &mut lent.clone(), &names)?;
         }
     }
     Ok(places.len() as u64 * 7)
@@ -198,7 +173,7 @@ fn tree(rows: u32) -> Vec<Row> {
     };
     let row = |name: u32| match name {
         1 => chain(1, 1)[0],
-        _ if name % 2 == 0 => below(name, 1, 2),
+        _ if name.is_multiple_of(2) => below(name, 1, 2),
         _ => below(name, name - 1, 3),
     };
     (1..=rows).map(row).collect()
@@ -268,69 +243,4 @@ fn as_single_drops(subject: Subject, lent: &Lent, names: &[u32]) -> Checked {
     singly.tally.drops = once;
     same("what is lent", &together, &singly)?;
     Ok(1)
-}
-
-/// Lists of requests from empty tables, beside the history.
-fn histories(
-    random: &mut Random,
-    subject: Subject,
-    lists: u64,
-    length: usize,
-    spelling: Spelling,
-) -> Checked {
-    for _ in 0..lists {
-        let lent = empty_table(random);
-        let requests = generate::requests(random, lent.clone(), length, spelling);
-        follow_history(subject, lent.clone(), &requests).map_err(|_| {
-            let outcome = |requests: &[Request]| follow_history(subject, lent.clone(), requests);
-            let fewer = shrink(&requests, |fewer| outcome(fewer).is_err());
-            let why = outcome(&fewer).expect_err("a smaller case fails too");
-            let rows = lent.rows.len();
-            format!("{why}\n  {rows} empty rows\n  requests {fewer:?}")
-        })?;
-    }
-    Ok(lists * length as u64)
-}
-
-fn follow_history(subject: Subject, mut lent: Lent, requests: &[Request]) -> Agreed {
-    let mut history = History::new(lent.rows.len());
-    let mut lost = Lost::default();
-    let mut spans = Vec::new();
-    for request in requests {
-        let (expected, answer) = match request {
-            Request::Single(event) => {
-                spans.push(Span {
-                    start: event.start,
-                    length: event.length,
-                });
-                let expected = history.answer(oracle_event(*event));
-                (expected, agree::apply(subject, &mut lent, *event)?)
-            }
-            Request::Group(names) => {
-                let expected = answer_all(&mut history, names)?;
-                (expected, drop_all(subject, &mut lent, names)?)
-            }
-        };
-        same_answer(packed(expected), answer).map_err(|why| format!("history: {why}"))?;
-        if history.table() != lent.rows || history.count() != lent.tally.issued {
-            return Err(format!("history: another table, {:?}", history.table()));
-        }
-        lost.check(&lent)?;
-    }
-    demand_three(subject, &lent, &history, spans.into_iter().rev().take(4))
-}
-
-/// The history's answer to a group. Where that is allowed so are single drops in falling order, and
-/// they leave the same notes.
-fn answer_all(history: &mut History, names: &[u32]) -> Result<Result<u32, u8>, String> {
-    let mut singly = history.clone();
-    let expected = history.answer_all(names);
-    if expected.is_ok() {
-        for name in names.iter().rev() {
-            let answer = singly.answer(oracle::Event::Drop { name: *name });
-            same("history, singly", Ok(0), answer)?;
-        }
-    }
-    same("notes", &*history, &singly)?;
-    Ok(expected)
 }

@@ -1,8 +1,11 @@
 //! The history: notes, and all that follows from them, worked out from the notes each time.
+//!
+//! It asks nothing of the lent table's rules: what refuses an event is written here again, kind by kind.
 
-use crate::table::{Row, refusal};
-use crate::together::group_refusal;
-use crate::values::{Event, READ_ONLY, READ_WRITE, Refused, Span};
+use crate::span::{ADDRESSES, Span};
+use crate::values::{
+    Event, MAX_DEPTH, MAX_GROUP, MAX_NAME, MAX_ROWS, READ_ONLY, READ_WRITE, Refused, Row,
+};
 
 /// An allowed event. A create or borrow is noted with the name that it made, the others with 0.
 #[derive(Clone, Copy, Debug, PartialEq)]
@@ -18,6 +21,24 @@ struct Made {
     parent: u32,
     span: Span,
     right: u8,
+}
+
+/// Nothing, or the refusal.
+type Judged = Result<(), Refused>;
+
+fn refuse(number: Refused, applies: bool) -> Judged {
+    match applies {
+        true => Err(number),
+        false => Ok(()),
+    }
+}
+
+fn judge_right(right: u8) -> Judged {
+    refuse(2, ![READ_ONLY, READ_WRITE].contains(&right))
+}
+
+fn judge_span(span: Span) -> Judged {
+    refuse(3, span.end() > ADDRESSES)
 }
 
 #[derive(Clone, Debug, PartialEq)]
@@ -43,9 +64,7 @@ impl History {
 
     /// The answer to the next event: the new name (0 where none is made), or the refusal.
     pub fn answer(&mut self, event: Event) -> Result<u32, Refused> {
-        if let Some(number) = refusal(&self.table(), self.count, event) {
-            return Err(number);
-        }
+        self.judge(event)?;
         let made = match event.makes() {
             true => self.count + 1,
             false => 0,
@@ -58,9 +77,7 @@ impl History {
     /// Card 5, the answer to names that are dropped together: 0, or the refusal. Allowed, each is noted
     /// as dropped, in falling order.
     pub fn answer_all(&mut self, names: &[u32]) -> Result<u32, Refused> {
-        if let Some(number) = group_refusal(&self.table(), self.count, names) {
-            return Err(number);
-        }
+        self.judge_all(names)?;
         let drops = names.iter().rev().map(|name| Note {
             made: 0,
             event: Event::Drop { name: *name },
@@ -69,13 +86,85 @@ impl History {
         Ok(0)
     }
 
+    /// What refuses each kind of event, the lowest number first, with 12 between 9 and 10 (card 1).
+    fn judge(&self, event: Event) -> Judged {
+        self.judge_rows()?;
+        match event {
+            Event::Create {
+                written,
+                span,
+                right,
+            } => {
+                judge_right(right)?;
+                judge_span(span)?;
+                self.judge_new_name(written)
+            }
+            Event::Borrow {
+                written,
+                parent,
+                span,
+                right,
+            } => {
+                judge_right(right)?;
+                self.judge_use(parent, span)?;
+                refuse(7, right == READ_WRITE && !self.is_read_write(parent))?;
+                refuse(8, self.depth(parent) == MAX_DEPTH)?;
+                self.judge_new_name(written)
+            }
+            Event::Read { name, span } => self.judge_use(name, span),
+            Event::Write { name, span } => {
+                self.judge_use(name, span)?;
+                refuse(7, !self.is_read_write(name))
+            }
+            Event::Drop { name } => self.judge_name(name),
+            Event::Unknown => Err(2),
+        }
+    }
+
+    /// Card 5: the list itself is judged first, and then each name in the order written.
+    fn judge_all(&self, names: &[u32]) -> Judged {
+        self.judge_rows()?;
+        let rise_strictly = names.is_sorted_by(|one, next| one < next);
+        refuse(
+            13,
+            !(1..=MAX_GROUP).contains(&names.len()) || !rise_strictly,
+        )?;
+        names.iter().try_for_each(|name| self.judge_name(*name))
+    }
+
+    /// Nobody else writes the table, so that it is out of order only if it is too large.
+    fn judge_rows(&self) -> Judged {
+        refuse(1, self.rows > MAX_ROWS)
+    }
+
+    fn judge_use(&self, name: u32, span: Span) -> Judged {
+        judge_span(span)?;
+        self.judge_name(name)?;
+        let within = |made: Made| span.is_inside(made.span);
+        refuse(6, !self.made(name).is_some_and(within))
+    }
+
+    fn judge_name(&self, name: u32) -> Judged {
+        refuse(4, name == 0 || name > self.count)?;
+        refuse(5, !self.lives(name))
+    }
+
+    fn judge_new_name(&self, written: Option<u32>) -> Judged {
+        refuse(9, self.count == MAX_NAME)?;
+        refuse(12, written.is_some_and(|name| name != self.count + 1))?;
+        refuse(10, self.living().count() == self.rows)
+    }
+
     /// The history's table: a row for each living name, rising, then zeros.
     pub fn table(&self) -> Vec<Row> {
-        let names = self.notes.iter().map(|note| note.made);
-        let living = names.filter(|name| self.lives(*name));
-        let mut rows: Vec<Row> = living.filter_map(|name| self.row(name)).collect();
+        let mut rows: Vec<Row> = self.living().filter_map(|name| self.row(name)).collect();
         rows.resize(self.rows, Row::default());
         rows
+    }
+
+    fn living(&self) -> impl Iterator<Item = u32> {
+        let names = self.notes.iter().map(|note| note.made);
+        names.filter(|name| self.lives(*name))
     }
 
     fn row(&self, name: u32) -> Option<Row> {
@@ -90,7 +179,7 @@ impl History {
             start: made.span.start,
             length: made.span.length,
             right: right.into(),
-            depth: self.ancestry(name).len() as u32,
+            depth: self.depth(name),
         })
     }
 
@@ -115,6 +204,10 @@ impl History {
             at = made.parent;
         }
         path
+    }
+
+    fn depth(&self, name: u32) -> u32 {
+        self.ancestry(name).len() as u32
     }
 
     /// Whether a read, write or create through `user`, of a create the name that it made, touches the
@@ -168,5 +261,36 @@ impl History {
     /// Demand 3 of a write: that of a read, and the capability is still writable.
     pub fn may_write(&self, name: u32, span: Span) -> bool {
         self.may_read(name, span) && self.is_read_write(name)
+    }
+}
+
+#[cfg(test)]
+mod tests {
+    use super::*;
+
+    fn create(written: Option<u32>) -> Event {
+        Event::Create {
+            written,
+            span: Span {
+                start: 0,
+                length: 8,
+            },
+            right: READ_WRITE,
+        }
+    }
+
+    /// A list that gives out a million names is too long to be compared, so that this begins near
+    /// the last one.
+    #[test]
+    fn the_last_name() {
+        let mut history = History::new(1);
+        history.count = MAX_NAME - 1;
+        assert_eq!(history.answer(create(Some(MAX_NAME - 1))), Err(12));
+        assert_eq!(history.answer(create(Some(MAX_NAME))), Ok(MAX_NAME));
+        // 9 stands before 12, and both before 10.
+        assert_eq!(history.answer(create(None)), Err(9));
+        assert_eq!(history.answer(create(Some(MAX_NAME + 1))), Err(9));
+        assert_eq!(history.answer(create(Some(7))), Err(9));
+        assert_eq!(history.count(), MAX_NAME);
     }
 }

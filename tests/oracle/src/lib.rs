@@ -2,10 +2,11 @@
 //!
 //! It shares no code and no plan with what it judges: the history derives everything from its notes
 //! each time it is asked, the rows of a lent table are searched from end to end, and text is taken
-//! apart strictly as it is read.
+//! apart strictly as it is read. The history and the lent table share values and spans, and no rule.
 
 mod history;
 mod lines;
+mod span;
 mod table;
 mod text;
 mod together;
@@ -13,12 +14,13 @@ mod values;
 
 pub use history::History;
 pub use lines::{Spelling, drop_line, event_line, read_drop_line, read_event_line};
-pub use table::{Row, Tally, apply, in_order, live_rows};
+pub use span::Span;
+pub use table::{apply, in_order, live_rows};
 pub use text::{
     HEADER, Run, check, listing, read_listing, run, write_drop, write_event, write_listing,
 };
 pub use together::{drop_all, is_group};
 pub use values::{
     Event, MAX_DEPTH, MAX_GROUP, MAX_INPUT, MAX_NAME, MAX_ROWS, READ_ONLY, READ_WRITE, Refused,
-    Span,
+    Row, Tally,
 };

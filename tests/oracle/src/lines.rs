@@ -1,8 +1,9 @@
 //! Event lines, in the two spellings, and the lines of names that are dropped together.
 
+use crate::span::Span;
 use crate::table::is_unknown;
 use crate::together::is_group;
-use crate::values::{Event, READ_ONLY, READ_WRITE, Span};
+use crate::values::{Event, READ_ONLY, READ_WRITE};
 
 /// How a create or borrow is spelt: without its new name, or with it after the word.
 #[derive(Clone, Copy, Debug, PartialEq, Eq)]

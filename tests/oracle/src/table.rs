@@ -1,36 +1,9 @@
 //! The lent table and tally: when a table is in order, what refuses an event, what an event does.
 
-use crate::values::{Event, MAX_DEPTH, MAX_NAME, MAX_ROWS, READ_ONLY, READ_WRITE, Refused, Span};
-
-#[derive(Clone, Copy, Debug, Default, PartialEq, Eq)]
-pub struct Row {
-    pub name: u32,
-    pub parent: u32,
-    pub start: u32,
-    pub length: u32,
-    pub right: u32,
-    pub depth: u32,
-}
-
-impl Row {
-    pub fn span(&self) -> Span {
-        Span {
-            start: self.start,
-            length: self.length,
-        }
-    }
-}
-
-#[derive(Clone, Copy, Debug, Default, PartialEq, Eq)]
-pub struct Tally {
-    pub issued: u32,
-    pub creates: u32,
-    pub borrows: u32,
-    pub reads: u32,
-    pub writes: u32,
-    pub drops: u32,
-    pub refused: u32,
-}
+use crate::span::Span;
+use crate::values::{
+    Event, MAX_DEPTH, MAX_NAME, MAX_ROWS, READ_ONLY, READ_WRITE, Refused, Row, Tally,
+};
 
 /// The rows up to the last that is not all zeros.
 pub fn live_rows(rows: &[Row]) -> &[Row] {
@@ -83,7 +56,7 @@ fn ancestry<'a>(live: &'a [Row], row: &'a Row) -> Vec<&'a Row> {
 
 /// The number that an event is refused with: the first, in the order of the papers, whose condition
 /// holds. Card 1 puts 12 between 9 and 10.
-pub fn refusal(rows: &[Row], issued: u32, event: Event) -> Option<Refused> {
+fn refusal(rows: &[Row], issued: u32, event: Event) -> Option<Refused> {
     if !in_order(rows, issued) {
         return Some(1);
     }
@@ -236,7 +209,7 @@ fn reclaimed(live: &[Row], span: Span) -> Vec<u32> {
 }
 
 /// What an allowed event adds to the tally.
-pub fn count_allowed(tally: &mut Tally, event: Event) {
+fn count_allowed(tally: &mut Tally, event: Event) {
     if event.makes() {
         tally.issued += 1;
     }

@@ -3,9 +3,9 @@
 use crate::lines::{
     Spelling, drop_line, event_line, number, read_drop_line, read_event_line, right, right_word,
 };
-use crate::table::{Row, Tally, apply, in_order, live_rows};
+use crate::table::{apply, in_order, live_rows};
 use crate::together::drop_all;
-use crate::values::{Event, MAX_DEPTH, MAX_INPUT, MAX_ROWS, Refused};
+use crate::values::{Event, MAX_DEPTH, MAX_INPUT, MAX_ROWS, Refused, Row, Tally};
 
 /// The number of lines allowed, or the refusal and its line.
 pub type Run = Result<u32, (Refused, u32)>;

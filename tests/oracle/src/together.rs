@@ -1,7 +1,7 @@
 //! Card 5: capabilities that are dropped together.
 
-use crate::table::{Row, Tally, has_ended, in_order, is_issued, live_rows, subtrees, without};
-use crate::values::{MAX_GROUP, Refused};
+use crate::table::{has_ended, in_order, is_issued, live_rows, subtrees, without};
+use crate::values::{MAX_GROUP, Refused, Row, Tally};
 
 /// Whether there are 1 to 64 names, strictly rising.
 pub fn is_group(names: &[u32]) -> bool {
@@ -10,7 +10,7 @@ pub fn is_group(names: &[u32]) -> bool {
 
 /// The number that a group is refused with: 13 stands after 1, and then the first name that cannot be
 /// dropped from this table decides.
-pub fn group_refusal(rows: &[Row], issued: u32, names: &[u32]) -> Option<Refused> {
+fn group_refusal(rows: &[Row], issued: u32, names: &[u32]) -> Option<Refused> {
     if !in_order(rows, issued) {
         return Some(1);
     }

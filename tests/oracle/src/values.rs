@@ -1,5 +1,7 @@
-//! The values of document 01 and of cards 1, 2 and 5: spans, rights, events and the numbers of
-//! refusals.
+//! The values of document 01 and of cards 1 and 5: limits, rights, rows, tallies, events and the
+//! numbers of refusals.
+
+use crate::span::Span;
 
 pub const MAX_ROWS: usize = 1_024;
 pub const MAX_NAME: u32 = 1_000_000;
@@ -15,31 +17,35 @@ pub const READ_WRITE: u8 = 2;
 /// The number of a refusal, 1 to 13.
 pub type Refused = u8;
 
-#[derive(Clone, Copy, Debug, PartialEq, Eq)]
-pub struct Span {
+/// A row of a table, or of the history's.
+#[derive(Clone, Copy, Debug, Default, PartialEq, Eq)]
+pub struct Row {
+    pub name: u32,
+    pub parent: u32,
     pub start: u32,
     pub length: u32,
+    pub right: u32,
+    pub depth: u32,
 }
 
-impl Span {
-    pub fn end(self) -> u64 {
-        u64::from(self.start) + u64::from(self.length)
+impl Row {
+    pub fn span(&self) -> Span {
+        Span {
+            start: self.start,
+            length: self.length,
+        }
     }
+}
 
-    /// Card 2: a length of 0 is legal.
-    pub fn is_legal(self) -> bool {
-        self.end() <= 1 << 32
-    }
-
-    /// Whether the two share an address; one of length 0 shares none.
-    pub fn touches(self, other: Span) -> bool {
-        let first_shared = u64::from(self.start.max(other.start));
-        first_shared < self.end().min(other.end())
-    }
-
-    pub fn is_inside(self, outer: Span) -> bool {
-        outer.start <= self.start && self.end() <= outer.end()
-    }
+#[derive(Clone, Copy, Debug, Default, PartialEq, Eq)]
+pub struct Tally {
+    pub issued: u32,
+    pub creates: u32,
+    pub borrows: u32,
+    pub reads: u32,
+    pub writes: u32,
+    pub drops: u32,
+    pub refused: u32,
 }
 
 /// An event. A create or borrow may carry the name that it is to make, written out.

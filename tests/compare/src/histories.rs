@@ -1,0 +1,230 @@
+//! Lists of requests from empty tables, beside the history of document 01.
+
+use std::collections::BTreeSet;
+
+use interface::Event;
+use oracle::{History, MAX_ROWS, Span, Spelling};
+
+use crate::agree::{self, Agreed, Lent, Subject, oracle_event, packed, same, same_answer, span_of};
+use crate::generate::{self, Request};
+use crate::random::Random;
+use crate::report::{Checked, Met, MetAnswers, Report, check_few};
+use crate::together;
+
+/// Lists of one sort: how many of them, how many requests in each, and how one is made.
+struct Lists {
+    name: &'static str,
+    count: u64,
+    length: usize,
+    spelling: Spelling,
+    list: fn(&mut Random, Lent, usize, Spelling) -> Vec<Request>,
+}
+
+const LISTS: [Lists; 7] = [
+    Lists {
+        name: "lists of events",
+        count: 1_600,
+        length: 24,
+        spelling: Spelling::Plain,
+        list: events,
+    },
+    Lists {
+        name: "long lists of events",
+        count: 40,
+        length: 90,
+        spelling: Spelling::Plain,
+        list: events,
+    },
+    Lists {
+        name: "lists of named events",
+        count: 1_600,
+        length: 24,
+        spelling: Spelling::Named,
+        list: events,
+    },
+    Lists {
+        name: "long lists of named events",
+        count: 40,
+        length: 90,
+        spelling: Spelling::Named,
+        list: events,
+    },
+    Lists {
+        name: "lists with names dropped together",
+        count: 1_200,
+        length: 20,
+        spelling: Spelling::Plain,
+        list: generate::requests,
+    },
+    Lists {
+        name: "long lists with names dropped together",
+        count: 30,
+        length: 80,
+        spelling: Spelling::Plain,
+        list: generate::requests,
+    },
+    Lists {
+        name: "named lists with names dropped together",
+        count: 1_200,
+        length: 20,
+        spelling: Spelling::Named,
+        list: generate::requests,
+    },
+];
+
+pub fn groups(report: &mut Report, subject: Subject) {
+    for lists in &LISTS {
+        report.group(&format!("{} and their history", lists.name), |random| {
+            random_lists(random, subject, lists)
+        });
+    }
+}
+
+/// Events alone. In the named spelling some write no name all the same.
+fn events(random: &mut Random, lent: Lent, count: usize, spelling: Spelling) -> Vec<Request> {
+    let events = generate::events(random, lent, count, spelling);
+    let some_unnamed = events.into_iter().map(|event| Event {
+        written: event.written.filter(|_| !random.one_in(4)),
+        ..event
+    });
+    some_unnamed.map(Request::Single).collect()
+}
+
+fn random_lists(random: &mut Random, subject: Subject, lists: &Lists) -> Checked {
+    for _ in 0..lists.count {
+        let lent = empty_table(random);
+        let requests = (lists.list)(random, lent.clone(), lists.length, lists.spelling);
+        check_list(subject, &lent, &requests)?;
+    }
+    Ok(lists.count * lists.length as u64)
+}
+
+/// An empty table with no name issued.
+fn empty_table(random: &mut Random) -> Lent {
+    let mut lent = Lent::empty(match random.below(20) {
+        0 => MAX_ROWS,
+        1 => MAX_ROWS + 1,
+        _ => random.between(0, 14),
+    });
+    lent.tally = generate::tally(random);
+    lent
+}
+
+/// The answers that the history gave.
+static MET: MetAnswers = Met::none();
+
+/// Whether the history gave every answer that it can in lists of some length, and how often: no list
+/// is so long that the names are spent.
+pub fn every_answer_met() -> Checked {
+    let names_spent = 9;
+    MET.every_answer_but(&[names_spent, agree::BUFFER_TOO_SHORT])
+}
+
+/// Checks a list; on failure gives a short list that still fails.
+pub fn check_list(subject: Subject, lent: &Lent, requests: &[Request]) -> Agreed {
+    let check = |requests: &[Request]| follow(subject, lent.clone(), requests);
+    check_few(requests, check).map_err(|(why, requests)| {
+        let rows = lent.rows.len();
+        let tally = lent.tally;
+        format!("{why}\n  {rows} empty rows\n  tally {tally:?}\n  requests {requests:?}")
+    })
+}
+
+fn follow(subject: Subject, mut lent: Lent, requests: &[Request]) -> Agreed {
+    let mut history = History::new(lent.rows.len());
+    let mut lost = Lost::default();
+    let mut spans = Vec::new();
+    for request in requests {
+        let (expected, answer) = match request {
+            Request::Single(event) => {
+                spans.push(span_of(*event));
+                let expected = history.answer(oracle_event(*event));
+                (expected, agree::apply(subject, &mut lent, *event)?)
+            }
+            Request::Group(names) => {
+                let expected = answer_all(&mut history, names)?;
+                (expected, together::drop_all(subject, &mut lent, names)?)
+            }
+        };
+        MET.count_answer(expected);
+        same_answer(packed(expected), answer).map_err(|why| format!("history: {why}"))?;
+        if history.table() != lent.rows || history.count() != lent.tally.issued {
+            return Err(format!("history: another table, {:?}", history.table()));
+        }
+        lost.check(&lent)?;
+    }
+    demand_three(subject, &lent, &history, spans.into_iter().rev().take(4))
+}
+
+/// The history's answer to a group. Where that is allowed so are single drops in falling order, and
+/// they leave the same notes.
+fn answer_all(history: &mut History, names: &[u32]) -> Result<Result<u32, u8>, String> {
+    let mut singly = history.clone();
+    let expected = history.answer_all(names);
+    if expected.is_ok() {
+        for name in names.iter().rev() {
+            let answer = singly.answer(oracle::Event::Drop { name: *name });
+            same("history, singly", Ok(0), answer)?;
+        }
+    }
+    same("notes", &*history, &singly)?;
+    Ok(expected)
+}
+
+/// Names that have ended, and names that are not `rw`: neither ever changes back.
+#[derive(Default)]
+struct Lost {
+    ended: BTreeSet<u32>,
+    read_only: BTreeSet<u32>,
+}
+
+impl Lost {
+    fn check(&mut self, lent: &Lent) -> Agreed {
+        for name in 1..=lent.tally.issued {
+            let row = lent.rows.iter().find(|row| row.name == name);
+            let lives = row.is_some();
+            let writable = row.is_some_and(|row| row.right == 2);
+            if (lives && self.ended.contains(&name)) || (writable && self.read_only.contains(&name))
+            {
+                return Err(format!("name {name} has a right again that it lost"));
+            }
+            if !lives {
+                self.ended.insert(name);
+            }
+            if !writable {
+                self.read_only.insert(name);
+            }
+        }
+        Ok(())
+    }
+}
+
+/// Reads and writes through every name are allowed exactly when demand 3 says.
+fn demand_three(
+    subject: Subject,
+    lent: &Lent,
+    history: &History,
+    spans: impl Iterator<Item = Span>,
+) -> Agreed {
+    for span in spans {
+        for name in 0..=history.count() + 1 {
+            let may_read = history.may_read(name, span);
+            let may_write = history.may_write(name, span);
+            for (kind, expected) in [(3, may_read), (4, may_write)] {
+                let event = Event {
+                    kind,
+                    written: None,
+                    name,
+                    start: span.start,
+                    length: span.length,
+                    right: 0,
+                };
+                let answer = agree::apply(subject, &mut lent.clone(), event)?;
+                if (answer >> 32 == 0) != expected {
+                    return Err(format!("demand 3 on {event:?}: allowed is {expected}"));
+                }
+            }
+        }
+    }
+    Ok(())
+}
