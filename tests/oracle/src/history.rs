@@ -124,11 +124,9 @@ impl History {
     /// Card 5: the list itself is judged first, and then each name in the order written.
     fn judge_all(&self, names: &[u32]) -> Judged {
         self.judge_rows()?;
-        let rise_strictly = names.is_sorted_by(|one, next| one < next);
-        refuse(
-            13,
-            !(1..=MAX_GROUP).contains(&names.len()) || !rise_strictly,
-        )?;
+        let is_too_few_or_many = !(1..=MAX_GROUP).contains(&names.len());
+        let rises_strictly = names.is_sorted_by(|one, next| one < next);
+        refuse(13, is_too_few_or_many || !rises_strictly)?;
         names.iter().try_for_each(|name| self.judge_name(*name))
     }
 
