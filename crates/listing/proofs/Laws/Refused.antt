@@ -58,11 +58,11 @@ read-first s rows =
 
 -- the answer to a caller has that refusal
 pub answer-first : (s : List ℕ) (h : State) → refusalOf (answerInto s h) ≡ first (readRefusals s (length (h .table)))
-answer-first s h = same-refusalOf (readTable s (length (h .table))) ∙ read-first s (length (h .table))
+answer-first s h = same-refusal (readTable s (length (h .table))) ∙ read-first s (length (h .table))
   where
-    same-refusal : (r : Result Listed) → refusalOf (issuedRead r) ≡ refusal r
-    same-refusalOf (value l) = refl
-    same-refusalOf (refused k) = refl
+    same-refusal : (r : Result Listed) → refusalOf (issuedRead r) ≡ refusalOf r
+    same-refusal (value l) = refl
+    same-refusal (refused k) = refl
 
 pub write-first : (table : List Cap) (issued : ℕ) (out : List ℕ) → refusalOf (listingWritten table issued out) ≡ first (writeRefusals table issued out)
 unfolding listingWritten written writeRefusals
