@@ -11,12 +11,13 @@ use Rattle.model.specs.Answers.{number}
 use Rattle.model.specs.Step.{State}
 use Rattle.trace.specs.declared.run.RunAnswer.{RunAnswer}
 use Rattle.trace.specs.declared.run.RunAnswer.the-variants.{Allowed, Refused}
-use Rattle.trace.specs.Run.{ranOf}
+use Rattle.trace.specs.Run.{Ran, ranOf}
 use Rattle.kelzoud.specs.Interface.{packed, packedRan, packedRun}
 
-pub packed-as : (a : RunAnswer) (h : State) → packedRun a ≡ packedRan (ranOf a h)
-packed-as (Allowed k) h = refl
-packed-as (Refused r k) h = refl
+-- what a run answers and leaves, taken apart
+pub ran-parts : (a : RunAnswer) (h : State) (x : Ran State) → ranOf a h ≡ x → (h .table ≡ x .state .table) × (h .tally ≡ x .state .tally) × (packedRun a ≡ packedRan x)
+ran-parts (Allowed k) h x e = (ap (λ (r : Ran State). r .state .table) e, ap (λ (r : Ran State). r .state .tally) e, ap packedRan e)
+ran-parts (Refused r k) h x e = (ap (λ (r : Ran State). r .state .table) e, ap (λ (r : Ran State). r .state .tally) e, ap packedRan e)
 
 pub number-small : (r : Refusal) → number r ≤ 13
 number-small Disordered = omega arith

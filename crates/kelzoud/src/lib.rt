@@ -10,12 +10,10 @@ use crate::events::event_of;
 use crate::events::named_event_of;
 use crate::events::put_fields;
 use crate::events::put_named_fields;
-use listing::records::read_listing;
-use listing::records::write_listing;
-use model::Cap;
-use model::Tally;
-use rules::records::apply;
-use rules::records::drop_all;
+use listing::reading::read_listing;
+use listing::writing::write_listing;
+use rules::lent::apply;
+use rules::lent::drop_all;
 use text::group::read_group;
 use text::group::write_group;
 use text::read::EventRead;
@@ -23,15 +21,16 @@ use text::read::read_event;
 use text::spelling::Spelling;
 use text::write::write_event;
 use trace::check;
-use trace::records::run;
+use trace::run::run;
 ghost use mathlib.Core.Path.{_≡_};
 ghost use mathlib.Core.Bool.{true};
 ghost use Rattle.kelzoud.specs.Interface.{packedVerdict, packedResult, packedRead, packedRan, fieldsOf, namedFieldsOf, fieldsAfter, eventOf, namedEventOf};
 ghost use Rattle.listing.specs.ReadInto.{answerInto, stateInto};
 ghost use Rattle.listing.specs.WriteListing.{listingWritten, listingStored};
 ghost use Rattle.model.specs.Step;
-ghost use Rattle.model.specs.Together.{Group, answerRequest, afterRequest};
-ghost use Rattle.rules.specs.Steps.{lends};
+ghost use Rattle.model.specs.Requests.{Single, Group};
+ghost use Rattle.table.specs.Words.{rowsIn};
+ghost use Rattle.table.specs.Lent.{tallyIn, lent};
 ghost use Rattle.text.specs.Event.{spell, hasSpelling};
 ghost use Rattle.text.specs.Group.{readGroup, countOf, namesAfter, writeGroup};
 ghost use Rattle.text.specs.Read.{readEvent};
@@ -47,17 +46,17 @@ mod events;
 // One event on the table and the tally that are lent.
 #[no_mangle]
 pub extern "C" fn kz_apply(
-    table: &mut [Cap],
-    tally: &mut Tally,
+    table: &mut [[u32; 6]],
+    tally: &mut [u32; 7],
     kind: u8,
     name: u32,
     start: u32,
     length: u32,
     right: u8,
 ) -> u64
-    ensures { λ r. ⌜ (now (table .exit) ≡ Step.after (lends (now (table .entry)) (now (tally .entry))) (eventOf kind name start length right) .table)
-        × (now (tally .exit) ≡ Step.after (lends (now (table .entry)) (now (tally .entry))) (eventOf kind name start length right) .tally)
-        × (r ≡ packedVerdict (Step.answer (lends (now (table .entry)) (now (tally .entry))) (eventOf kind name start length right))) ⌝ }
+    ensures { λ r. ⌜ (rowsIn (now (table .exit)) ≡ Step.after (lent (now (table .entry)) (now (tally .entry))) (Single (eventOf kind name start length right)) .table)
+        × (tallyIn (now (tally .exit)) ≡ Step.after (lent (now (table .entry)) (now (tally .entry))) (Single (eventOf kind name start length right)) .tally)
+        × (r ≡ packedVerdict (Step.answer (lent (now (table .entry)) (now (tally .entry))) (Single (eventOf kind name start length right)))) ⌝ }
 {
     let event = event_of(kind, name, start, length, right);
     let answer = apply(table, tally, event);
@@ -101,8 +100,8 @@ pub extern "C" fn kz_read_event(line: &[u8], fields: &mut [u32; 5]) -> u64
 // One event that writes its new name, if it is a create or a borrow.
 #[no_mangle]
 pub extern "C" fn kz_apply_named(
-    table: &mut [Cap],
-    tally: &mut Tally,
+    table: &mut [[u32; 6]],
+    tally: &mut [u32; 7],
     kind: u8,
     written: u32,
     name: u32,
@@ -110,9 +109,9 @@ pub extern "C" fn kz_apply_named(
     length: u32,
     right: u8,
 ) -> u64
-    ensures { λ r. ⌜ (now (table .exit) ≡ Step.after (lends (now (table .entry)) (now (tally .entry))) (namedEventOf kind written name start length right) .table)
-        × (now (tally .exit) ≡ Step.after (lends (now (table .entry)) (now (tally .entry))) (namedEventOf kind written name start length right) .tally)
-        × (r ≡ packedVerdict (Step.answer (lends (now (table .entry)) (now (tally .entry))) (namedEventOf kind written name start length right))) ⌝ }
+    ensures { λ r. ⌜ (rowsIn (now (table .exit)) ≡ Step.after (lent (now (table .entry)) (now (tally .entry))) (Single (namedEventOf kind written name start length right)) .table)
+        × (tallyIn (now (tally .exit)) ≡ Step.after (lent (now (table .entry)) (now (tally .entry))) (Single (namedEventOf kind written name start length right)) .tally)
+        × (r ≡ packedVerdict (Step.answer (lent (now (table .entry)) (now (tally .entry))) (Single (namedEventOf kind written name start length right)))) ⌝ }
 {
     let event = named_event_of(kind, written, name, start, length, right);
     let answer = apply(table, tally, event);
@@ -156,10 +155,10 @@ pub extern "C" fn kz_read_named(line: &[u8], fields: &mut [u32; 6]) -> u64
 
 // Names dropped together.
 #[no_mangle]
-pub extern "C" fn kz_drop_all(table: &mut [Cap], tally: &mut Tally, names: &[u32]) -> u64
-    ensures { λ r. ⌜ (now (table .exit) ≡ afterRequest (lends (now (table .entry)) (now (tally .entry))) (Group (now (names .entry))) .table)
-        × (now (tally .exit) ≡ afterRequest (lends (now (table .entry)) (now (tally .entry))) (Group (now (names .entry))) .tally)
-        × (r ≡ packedVerdict (answerRequest (lends (now (table .entry)) (now (tally .entry))) (Group (now (names .entry))))) ⌝ }
+pub extern "C" fn kz_drop_all(table: &mut [[u32; 6]], tally: &mut [u32; 7], names: &[u32]) -> u64
+    ensures { λ r. ⌜ (rowsIn (now (table .exit)) ≡ Step.after (lent (now (table .entry)) (now (tally .entry))) (Group (now (names .entry))) .table)
+        × (tallyIn (now (tally .exit)) ≡ Step.after (lent (now (table .entry)) (now (tally .entry))) (Group (now (names .entry))) .tally)
+        × (r ≡ packedVerdict (Step.answer (lent (now (table .entry)) (now (tally .entry))) (Group (now (names .entry))))) ⌝ }
 {
     let answer = drop_all(table, tally, names);
     packed_answer(answer)
@@ -187,9 +186,9 @@ pub extern "C" fn kz_read_drop(line: &[u8], names: &mut [u32; 64]) -> u64
 
 // Writes the listing of the table that is lent.
 #[no_mangle]
-pub extern "C" fn kz_write_listing(table: &[Cap], issued: u32, out: &mut [u8]) -> u64
-    ensures { λ r. ⌜ (r ≡ packedResult (listingWritten (now (table .entry)) issued (now (out .entry))))
-        × (now (out .exit) ≡ listingStored (now (table .entry)) issued (now (out .entry))) ⌝ }
+pub extern "C" fn kz_write_listing(table: &[[u32; 6]], issued: u32, out: &mut [u8]) -> u64
+    ensures { λ r. ⌜ (r ≡ packedResult (listingWritten (rowsIn (now (table .entry))) issued (now (out .entry))))
+        × (now (out .exit) ≡ listingStored (rowsIn (now (table .entry))) issued (now (out .entry))) ⌝ }
 {
     let answer = write_listing(table, issued, out);
     packed_written(answer)
@@ -197,10 +196,10 @@ pub extern "C" fn kz_write_listing(table: &[Cap], issued: u32, out: &mut [u8]) -
 
 // A run of a text on the table and the tally that are lent.
 #[no_mangle]
-pub extern "C" fn kz_run(table: &mut [Cap], tally: &mut Tally, text: &[u8]) -> u64
-    ensures { λ r. ⌜ (now (table .exit) ≡ Run.run (lends (now (table .entry)) (now (tally .entry))) (now (text .entry)) .state .table)
-        × (now (tally .exit) ≡ Run.run (lends (now (table .entry)) (now (tally .entry))) (now (text .entry)) .state .tally)
-        × (r ≡ packedRan (Run.run (lends (now (table .entry)) (now (tally .entry))) (now (text .entry)))) ⌝ }
+pub extern "C" fn kz_run(table: &mut [[u32; 6]], tally: &mut [u32; 7], text: &[u8]) -> u64
+    ensures { λ r. ⌜ (rowsIn (now (table .exit)) ≡ Run.run (lent (now (table .entry)) (now (tally .entry))) (now (text .entry)) .state .table)
+        × (tallyIn (now (tally .exit)) ≡ Run.run (lent (now (table .entry)) (now (tally .entry))) (now (text .entry)) .state .tally)
+        × (r ≡ packedRan (Run.run (lent (now (table .entry)) (now (tally .entry))) (now (text .entry)))) ⌝ }
 {
     let answer = run(table, tally, text);
     packed_run(answer)
@@ -208,10 +207,10 @@ pub extern "C" fn kz_run(table: &mut [Cap], tally: &mut Tally, text: &[u8]) -> u
 
 // Reads a listing into the table and the tally that are lent.
 #[no_mangle]
-pub extern "C" fn kz_read_listing(text: &[u8], table: &mut [Cap], tally: &mut Tally) -> u64
-    ensures { λ r. ⌜ (now (table .exit) ≡ stateInto (now (text .entry)) (lends (now (table .entry)) (now (tally .entry))) .table)
-        × (now (tally .exit) ≡ stateInto (now (text .entry)) (lends (now (table .entry)) (now (tally .entry))) .tally)
-        × (r ≡ packedRead (answerInto (now (text .entry)) (lends (now (table .entry)) (now (tally .entry))))) ⌝ }
+pub extern "C" fn kz_read_listing(text: &[u8], table: &mut [[u32; 6]], tally: &mut [u32; 7]) -> u64
+    ensures { λ r. ⌜ (rowsIn (now (table .exit)) ≡ stateInto (now (text .entry)) (lent (now (table .entry)) (now (tally .entry))) .table)
+        × (tallyIn (now (tally .exit)) ≡ stateInto (now (text .entry)) (lent (now (table .entry)) (now (tally .entry))) .tally)
+        × (r ≡ packedRead (answerInto (now (text .entry)) (lent (now (table .entry)) (now (tally .entry))))) ⌝ }
 {
     let answer = read_listing(text, table, tally);
     packed_listing(answer)

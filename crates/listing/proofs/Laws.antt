@@ -1,4 +1,5 @@
 pub mod Sorted
+pub mod First
 pub mod Live
 pub mod Links
 pub mod Writing

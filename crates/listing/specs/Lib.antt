@@ -1,4 +1,5 @@
 pub mod Listing
+pub mod First
 pub mod Sort
 pub mod Merge
 pub mod Links

@@ -20,11 +20,11 @@ pub struct Place {
 }
 
 // Stores a row behind the others, and returns how many there are now.
-fn add_row(words: &mut [u32; 6144], count: usize, row: Cap) -> usize
-    requires { ⌜ Stored (now words) count × (count < 1024) ⌝ }
-    ensures { λ r. ⌜ (r ≡ suc count) × Stored (now (words .exit)) r × (newest (now (words .exit)) r ≡ row ∷ newest (now (words .entry)) count) ⌝ }
+fn add_row(table: &mut [[u32; 6]; 1024], count: usize, row: Cap) -> usize
+    requires { ⌜ Stored (now table) count × (count < 1024) ⌝ }
+    ensures { λ r. ⌜ (r ≡ suc count) × Stored (now (table .exit)) r × (newest (now (table .exit)) r ≡ row ∷ newest (now (table .entry)) count) ⌝ }
 {
-    words::set_row(words, count, row);
+    words::set_row(table, count, row);
     count + 1
 }
 
@@ -93,18 +93,24 @@ fn child_follows(text: &[u8], count: usize, depth: u32) -> bool
 }
 
 // Reads a form: its row, its run of children, and its closing bracket.
-fn read_form(text: &[u8], words: &mut [u32; 6144], count: usize, parent: u32, depth: u32) -> Place
-    requires { ⌜ Stored (now words) count × (count < 1024) ⌝ }
-    ensures { λ r. ⌜ (count < r .count) × Stored (now (words .exit)) (r .count)
-        × Reads (λ (k : ℕ). readForm k parent depth (record { rest = now (text .entry); rows = newest (now (words .entry)) count })) (2 * length (now (text .entry)) + 1) (now (text .entry)) (r .left) (newest (now (words .exit)) (r .count)) ⌝ }
+fn read_form(
+    text: &[u8],
+    table: &mut [[u32; 6]; 1024],
+    count: usize,
+    parent: u32,
+    depth: u32,
+) -> Place
+    requires { ⌜ Stored (now table) count × (count < 1024) ⌝ }
+    ensures { λ r. ⌜ (count < r .count) × Stored (now (table .exit)) (r .count)
+        × Reads (λ (k : ℕ). readForm k parent depth (record { rest = now (text .entry); rows = newest (now (table .entry)) count })) (2 * length (now (text .entry)) + 1) (now (text .entry)) (r .left) (newest (now (table .exit)) (r .count)) ⌝ }
 {
     let head = head_of(text, parent, depth);
     let row = head.row;
     let name = row.name.0;
-    let stored = add_row(words, count, row);
+    let stored = add_row(table, count, row);
     let behind = head.left;
     let children = last(text, behind);
-    let inner = read_run(children, words, stored, name, depth);
+    let inner = read_run(children, table, stored, name, depth);
     let left = inner.left;
     let rest = past(last(children, left), 1);
     Place {
@@ -114,16 +120,22 @@ fn read_form(text: &[u8], words: &mut [u32; 6144], count: usize, parent: u32, de
 }
 
 // Reads a run of forms, each behind a space: a turn for each sibling, a call for each depth.
-fn read_run(text: &[u8], words: &mut [u32; 6144], count: usize, parent: u32, depth: u32) -> Place
-    requires { ⌜ Stored (now words) count ⌝ }
-    ensures { λ r. ⌜ (count ≤ r .count) × Stored (now (words .exit)) (r .count)
-        × Reads (λ (k : ℕ). readRun k parent depth (record { rest = now (text .entry); rows = newest (now (words .entry)) count })) (2 * length (now (text .entry))) (now (text .entry)) (r .left) (newest (now (words .exit)) (r .count)) ⌝ }
+fn read_run(
+    text: &[u8],
+    table: &mut [[u32; 6]; 1024],
+    count: usize,
+    parent: u32,
+    depth: u32,
+) -> Place
+    requires { ⌜ Stored (now table) count ⌝ }
+    ensures { λ r. ⌜ (count ≤ r .count) × Stored (now (table .exit)) (r .count)
+        × Reads (λ (k : ℕ). readRun k parent depth (record { rest = now (text .entry); rows = newest (now (table .entry)) count })) (2 * length (now (text .entry))) (now (text .entry)) (r .left) (newest (now (table .exit)) (r .count)) ⌝ }
 {
     let mut left = text.len();
     let mut stored = count;
     while child_follows(last(text, left), stored, depth) {
         let child = past(last(text, left), 1);
-        let read = read_form(child, words, stored, parent, depth + 1);
+        let read = read_form(child, table, stored, parent, depth + 1);
         left = read.left;
         stored = read.count;
     }
@@ -141,9 +153,9 @@ fn one_less(n: usize) -> usize
 }
 
 // Reads the lines of the roots into a table of zeros, and returns how many rows were stored.
-pub fn read_lines(text: &[u8], words: &mut [u32; 6144]) -> usize
-    requires { ⌜ Stored (now words) 0 ⌝ }
-    ensures { λ r. ⌜ Stored (now (words .exit)) r × (newest (now (words .exit)) r ≡ readLines 1024 (record { rest = now (text .entry); rows = [] })) ⌝ }
+pub fn read_lines(text: &[u8], table: &mut [[u32; 6]; 1024]) -> usize
+    requires { ⌜ Stored (now table) 0 ⌝ }
+    ensures { λ r. ⌜ Stored (now (table .exit)) r × (newest (now (table .exit)) r ≡ readLines 1024 (record { rest = now (text .entry); rows = [] })) ⌝ }
 {
     let mut left = text.len();
     let mut count = 0;
@@ -151,7 +163,7 @@ pub fn read_lines(text: &[u8], words: &mut [u32; 6144]) -> usize
         if 1024 <= count {
             return count;
         }
-        let line = read_form(last(text, left), words, count, 0, 1);
+        let line = read_form(last(text, left), table, count, 0, 1);
         left = one_less(line.left);
         count = line.count;
     }

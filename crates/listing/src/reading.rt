@@ -4,8 +4,12 @@ use crate::forms;
 use crate::sort;
 use crate::writing;
 use model::Refusal;
+use model::Tally;
 use table::find;
+use table::lent::set_tally;
+use table::lent::tally_at;
 use table::ordered;
+use table::words;
 use text::classes;
 use text::lines;
 use text::numbers;
@@ -15,27 +19,30 @@ ghost use mathlib.Core.Bool.{true};
 ghost use mathlib.Core.Logic.{_⊎_};
 ghost use Prim.Native.Nat.{_≤_};
 ghost use lib.ListN.{length};
-ghost use Rattle.table.specs.Words.{rowsOf, rowsIn};
+ghost use Rattle.table.specs.Words.{rowsIn};
+ghost use Rattle.table.specs.Lent.{lent};
 ghost use Rattle.text.specs.Read.{same};
+ghost use Rattle.listing.specs.First.{firstRows};
 ghost use Rattle.listing.specs.Links.{Live};
 ghost use Rattle.listing.specs.Listing.{listed};
 ghost use Rattle.listing.specs.Stored.{Stored};
-ghost use Rattle.listing.specs.ReadListing.{isListing, guessTable, ReadsListing};
+ghost use Rattle.listing.specs.ReadListing.{isListing, guessTable};
+ghost use Rattle.listing.specs.ReadInto.{withIssued, ReadsInto};
 
-// What reading answers: the issued number, or refusal 2 or 10. `readingAnswer` of specs/ gives document 01's number and values.
+// What reading answers: the issued number, or refusal 1, 2 or 10. `listingAnswer` of specs/ gives document 01's number and values.
 pub enum ListingRead {
     Issued(u32),
     Refused(Refusal),
 }
 
 // Reads the rows of a text into a table of zeros, by rising name, and returns how many there are.
-fn guess_table(text: &[u8], words: &mut [u32; 6144]) -> usize
-    requires { ⌜ Stored (now words) 0 ⌝ }
-    ensures { λ r. ⌜ (rowsIn (now (words .exit)) ≡ guessTable (now (text .entry))) × Stored (now (words .exit)) r ⌝ }
+fn guess_table(text: &[u8], table: &mut [[u32; 6]; 1024]) -> usize
+    requires { ⌜ Stored (now table) 0 ⌝ }
+    ensures { λ r. ⌜ (rowsIn (now (table .exit)) ≡ guessTable (now (text .entry))) × Stored (now (table .exit)) r ⌝ }
 {
     let start = lines::count_through(text, classes::NEWLINE);
-    let count = forms::read_lines(forms::past(text, start), words);
-    sort::sort_rows(words, count);
+    let count = forms::read_lines(forms::past(text, start), table);
+    sort::sort_rows(table, count);
     count
 }
 
@@ -59,49 +66,82 @@ fn same_bytes(a: &[u8], b: &[u8]) -> bool
 
 // Whether the first n rows, all of them live, have a text as their listing. It is written into a buffer that the text fits into, or
 // else every listing.
-fn writes_back(text: &[u8], words: &[u32; 6144], n: usize, issued: u32, out: &mut [u8]) -> bool
-    requires { ⌜ (n ≤ 1024) × Live (rowsOf (now words) n) × ((length (now text) ≤ length (now out)) ⊎ (39936 ≤ length (now out))) ⌝ }
-    ensures { λ r. ⌜ r ≡ same (now (text .entry)) (listed (rowsOf (now (words .entry)) n) issued) ⌝ }
+fn writes_back(text: &[u8], table: &[[u32; 6]], n: usize, issued: u32, out: &mut [u8]) -> bool
+    requires { ⌜ (n ≤ 1024) × Live (firstRows (now table) n) × ((length (now text) ≤ length (now out)) ⊎ (39936 ≤ length (now out))) × (n ≤ length (now table)) ⌝ }
+    ensures { λ r. ⌜ r ≡ same (now (text .entry)) (listed (firstRows (now (table .entry)) n) issued) ⌝ }
 {
-    let written = writing::write_rows(words, n, issued, out);
+    let written = writing::write_rows(table, n, issued, out);
     let Written::Length(length) = written else {
         return false;
     };
     same_bytes(text, &out[..length])
 }
 
-// Whether a text is the listing of a table of 1,024 rows in order, of which the first were stored and the others are zeros.
-fn is_listing(text: &[u8], words: &[u32; 6144], count: usize, issued: u32) -> bool
-    requires { ⌜ Stored (now words) count ⌝ }
-    ensures { λ r. ⌜ r ≡ isListing (now (text .entry)) (rowsIn (now (words .entry))) issued ⌝ }
+// Whether a text is the listing of a table in order.
+fn is_listing(text: &[u8], table: &[[u32; 6]], issued: u32) -> bool
+    requires { ⌜ length (now table) ≤ 1024 ⌝ }
+    ensures { λ r. ⌜ r ≡ isListing (now (text .entry)) (rowsIn (now (table .entry))) issued ⌝ }
 {
-    let live = find::live_count(words, count);
-    if !ordered::in_order(words, count, live, issued) {
+    let n = table.len();
+    let live = find::live_count(table, n);
+    if !ordered::in_order(table, n, live, issued) {
         return false;
     }
     if text.len() <= 2048 {
         let mut short = [0u8; 2048];
-        return writes_back(text, words, live, issued, &mut short);
+        return writes_back(text, table, live, issued, &mut short);
     }
     let mut long = [0u8; 39936];
-    writes_back(text, words, live, issued, &mut long)
+    writes_back(text, table, live, issued, &mut long)
 }
 
-// Reads a listing into a table of n rows. A refusal changes nothing; a listing that is read fixes all the words. Internal: a call
-// over records has no more than 1,024 of them to hand over, and gives refusal 1 itself.
-pub fn read_listing(text: &[u8], words: &mut [u32; 6144], n: usize) -> ListingRead
-    requires { ⌜ (n ≤ 1024) × (length (now words) ≡ 6144) ⌝ }
-    ensures { λ r. ⌜ ReadsListing (now (text .entry)) n (now (words .entry)) (now (words .exit)) r ⌝ }
+// Copies the first rows of a table into a lent one, as many as it has.
+fn copy_rows(from: &[[u32; 6]; 1024], to: &mut [[u32; 6]])
+    requires { ⌜ (length (now from) ≡ 1024) × (length (now to) ≤ 1024) ⌝ }
+    ensures { λ _. ⌜ rowsIn (now (to .exit)) ≡ firstRows (now (from .entry)) (length (now (to .entry))) ⌝ }
 {
-    let mut table = [0u32; 6144];
-    let count = guess_table(text, &mut table);
+    let n = to.len();
+    let mut i = 0;
+    while i < n {
+        words::set_row(to, i, words::row_at(from, i));
+        i += 1;
+    }
+}
+
+// The tally with another issued number.
+fn with_issued(tally: Tally, issued: u32) -> Tally
+    ensures { λ r. ⌜ r ≡ withIssued issued tally ⌝ }
+{
+    Tally {
+        issued,
+        creates: tally.creates,
+        borrows: tally.borrows,
+        reads: tally.reads,
+        writes: tally.writes,
+        drops: tally.drops,
+        refused: tally.refused,
+    }
+}
+
+// Reads a listing into the table and the tally that are lent: the issued number, or refusal 1, 2 or 10. What is read is put together
+// and judged in a table of its own, so that a refusal changes nothing; a listing that is read fixes the whole lent table.
+pub fn read_listing(text: &[u8], table: &mut [[u32; 6]], tally: &mut [u32; 7]) -> ListingRead
+    ensures { λ r. ⌜ ReadsInto (now (text .entry)) (lent (now (table .entry)) (now (tally .entry))) (lent (now (table .exit)) (now (tally .exit))) r ⌝ }
+{
+    if 1024 < table.len() {
+        return ListingRead::Refused(Refusal::Disordered);
+    }
+    let mut scratch = [[0u32; 6]; 1024];
+    let count = guess_table(text, &mut scratch);
     let issued = numbers::number(lines::after_space(text));
-    if !is_listing(text, &table, count, issued) {
+    if !is_listing(text, &scratch[..count], issued) {
         return ListingRead::Refused(Refusal::Misspelt);
     }
-    if n < find::live_count(&table, 1024) {
+    if table.len() < find::live_count(&scratch, 1024) {
         return ListingRead::Refused(Refusal::TableFull);
     }
-    *words = table;
+    copy_rows(&scratch, table);
+    let before = tally_at(tally);
+    set_tally(tally, with_issued(before, issued));
     ListingRead::Issued(issued)
 }

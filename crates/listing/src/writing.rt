@@ -12,8 +12,9 @@ ghost use mathlib.Core.Path.{_≡_};
 ghost use mathlib.Core.Bool.{true};
 ghost use Prim.Native.Nat.{_+_, _*_, _<_, _≤_};
 ghost use lib.ListN.{length};
-ghost use Rattle.table.specs.Words.{rowsOf};
+ghost use Rattle.table.specs.Words.{rowsIn};
 ghost use Rattle.text.specs.Put.{Room, Put};
+ghost use Rattle.listing.specs.First.{firstRows};
 ghost use Rattle.listing.specs.Listing.{pieces, formAt, rootsFrom, issuedLine, listed, formLength, formsLength};
 ghost use Rattle.listing.specs.Links.{Live, Linked};
 ghost use Rattle.text.specs.Write.{Writes};
@@ -28,14 +29,14 @@ fn form_length(c: Cap) -> usize
 }
 
 // How many bytes the first n capabilities add.
-fn forms_length(words: &[u32; 6144], n: usize) -> usize
-    requires { ⌜ n ≤ 1024 ⌝ }
-    ensures { λ r. ⌜ (r ≡ formsLength (rowsOf (now (words .entry)) n)) × (r ≤ 38 * n) ⌝ }
+fn forms_length(table: &[[u32; 6]], n: usize) -> usize
+    requires { ⌜ (n ≤ 1024) × (n ≤ length (now table)) ⌝ }
+    ensures { λ r. ⌜ (r ≡ formsLength (firstRows (now (table .entry)) n)) × (r ≤ 38 * n) ⌝ }
 {
     let mut total = 0;
     let mut i = 0;
     while i < n {
-        total += form_length(words::row_at(words, i));
+        total += form_length(words::row_at(table, i));
         i += 1;
     }
     total
@@ -58,7 +59,7 @@ fn put_pieces(out: &mut [u8], at: usize, c: Cap) -> usize
 
 // Writes the form of row i, with its children, and returns the position behind it. It calls itself for each depth, at most 64 deep.
 fn put_form(
-    words: &[u32; 6144],
+    table: &[[u32; 6]],
     n: usize,
     first: &[usize; 1025],
     next: &[usize; 1025],
@@ -66,15 +67,15 @@ fn put_form(
     out: &mut [u8],
     at: usize,
 ) -> usize
-    requires { ⌜ (n ≤ 1024) × (i < n) × Linked (rowsOf (now words) n) (now first) (now next) × Room (now out) at (formAt (rowsOf (now words) n) i) ⌝ }
-    ensures { λ r. ⌜ Put (now (out .entry)) at (formAt (rowsOf (now (words .entry)) n) i) (now (out .exit)) r ⌝ }
+    requires { ⌜ (n ≤ 1024) × (i < n) × Linked (firstRows (now table) n) (now first) (now next) × Room (now out) at (formAt (firstRows (now table) n) i) × (n ≤ length (now table)) ⌝ }
+    ensures { λ r. ⌜ Put (now (out .entry)) at (formAt (firstRows (now (table .entry)) n) i) (now (out .exit)) r ⌝ }
 {
     out[at] = b'(';
-    let mut here = put_pieces(out, at + 1, words::row_at(words, i));
+    let mut here = put_pieces(out, at + 1, words::row_at(table, i));
     let mut k = first[i];
     while k < n {
         out[here] = b' ';
-        here = put_form(words, n, first, next, k, out, here + 1);
+        here = put_form(table, n, first, next, k, out, here + 1);
         k = next[k];
     }
     out[here] = b')';
@@ -83,20 +84,20 @@ fn put_form(
 
 // Writes a line for each root, and returns the position behind them.
 fn put_roots(
-    words: &[u32; 6144],
+    table: &[[u32; 6]],
     n: usize,
     first: &[usize; 1025],
     next: &[usize; 1025],
     out: &mut [u8],
     at: usize,
 ) -> usize
-    requires { ⌜ (n ≤ 1024) × Linked (rowsOf (now words) n) (now first) (now next) × Room (now out) at (rootsFrom (rowsOf (now words) n) 0) ⌝ }
-    ensures { λ r. ⌜ Put (now (out .entry)) at (rootsFrom (rowsOf (now (words .entry)) n) 0) (now (out .exit)) r ⌝ }
+    requires { ⌜ (n ≤ 1024) × Linked (firstRows (now table) n) (now first) (now next) × Room (now out) at (rootsFrom (firstRows (now table) n) 0) × (n ≤ length (now table)) ⌝ }
+    ensures { λ r. ⌜ Put (now (out .entry)) at (rootsFrom (firstRows (now (table .entry)) n) 0) (now (out .exit)) r ⌝ }
 {
     let mut here = at;
     let mut k = first[n];
     while k < n {
-        here = put_form(words, n, first, next, k, out, here);
+        here = put_form(table, n, first, next, k, out, here);
         out[here] = b'\n';
         here += 1;
         k = next[k];
@@ -116,46 +117,48 @@ fn put_issued(issued: u32, out: &mut [u8]) -> usize
 }
 
 // Writes the listing of the first n rows, all of them live, at the buffer's first bytes, and returns its length.
-fn put_listing(words: &[u32; 6144], n: usize, issued: u32, out: &mut [u8]) -> usize
-    requires { ⌜ (n ≤ 1024) × Live (rowsOf (now words) n) × Room (now out) 0 (listed (rowsOf (now words) n) issued) ⌝ }
-    ensures { λ r. ⌜ Put (now (out .entry)) 0 (listed (rowsOf (now (words .entry)) n) issued) (now (out .exit)) r ⌝ }
+fn put_listing(table: &[[u32; 6]], n: usize, issued: u32, out: &mut [u8]) -> usize
+    requires { ⌜ (n ≤ 1024) × Live (firstRows (now table) n) × Room (now out) 0 (listed (firstRows (now table) n) issued) × (n ≤ length (now table)) ⌝ }
+    ensures { λ r. ⌜ Put (now (out .entry)) 0 (listed (firstRows (now (table .entry)) n) issued) (now (out .exit)) r ⌝ }
 {
     let mut first = [n; 1025];
     let mut next = [n; 1025];
-    links::link(words, n, &mut first, &mut next);
+    links::link(table, n, &mut first, &mut next);
     let past_line = put_issued(issued, out);
-    put_roots(words, n, &first, &next, out, past_line)
+    put_roots(table, n, &first, &next, out, past_line)
 }
 
 // How many bytes the listing of the first n rows has: at most 39 for each of 1,024.
-fn listing_length(words: &[u32; 6144], n: usize, issued: u32) -> usize
-    requires { ⌜ (n ≤ 1024) × Live (rowsOf (now words) n) ⌝ }
-    ensures { λ r. ⌜ (r ≡ length (listed (rowsOf (now (words .entry)) n) issued)) × (r ≤ 39936) ⌝ }
+fn listing_length(table: &[[u32; 6]], n: usize, issued: u32) -> usize
+    requires { ⌜ (n ≤ 1024) × Live (firstRows (now table) n) × (n ≤ length (now table)) ⌝ }
+    ensures { λ r. ⌜ (r ≡ length (listed (firstRows (now (table .entry)) n) issued)) × (r ≤ 39936) ⌝ }
 {
     let numbers = [issued];
-    9 + pieces::spaced_length(&numbers) + forms_length(words, n)
+    9 + pieces::spaced_length(&numbers) + forms_length(table, n)
 }
 
 // Writes the listing of the first n rows, all of them live, where it fits. Internal: it asks for rows in order.
-pub fn write_rows(words: &[u32; 6144], n: usize, issued: u32, out: &mut [u8]) -> Written
-    requires { ⌜ (n ≤ 1024) × Live (rowsOf (now words) n) ⌝ }
-    ensures { λ r. ⌜ Writes true (listed (rowsOf (now (words .entry)) n) issued) (now (out .entry)) (now (out .exit)) r × (length (listed (rowsOf (now (words .entry)) n) issued) ≤ 39936) ⌝ }
+pub fn write_rows(table: &[[u32; 6]], n: usize, issued: u32, out: &mut [u8]) -> Written
+    requires { ⌜ (n ≤ 1024) × Live (firstRows (now table) n) × (n ≤ length (now table)) ⌝ }
+    ensures { λ r. ⌜ Writes true (listed (firstRows (now (table .entry)) n) issued) (now (out .entry)) (now (out .exit)) r × (length (listed (firstRows (now (table .entry)) n) issued) ≤ 39936) ⌝ }
 {
-    if out.len() < listing_length(words, n, issued) {
+    if out.len() < listing_length(table, n, issued) {
         return Written::Refused(Refusal::BufferTooShort);
     }
-    Written::Length(put_listing(words, n, issued, out))
+    Written::Length(put_listing(table, n, issued, out))
 }
 
-// Writes the listing of a table of n rows at the buffer's first bytes. Internal: a call over records has no more than 1,024 of
-// them to hand over, and gives refusal 1 itself.
-pub fn write_listing(words: &[u32; 6144], n: usize, issued: u32, out: &mut [u8]) -> Written
-    requires { ⌜ n ≤ 1024 ⌝ }
-    ensures { λ r. ⌜ WritesListing (rowsOf (now (words .entry)) n) issued (now (out .entry)) (now (out .exit)) r ⌝ }
+// Writes the listing of the lent table at the buffer's first bytes: the length, or refusal 1 or 11. Above 1,024 rows it is not in order.
+pub fn write_listing(table: &[[u32; 6]], issued: u32, out: &mut [u8]) -> Written
+    ensures { λ r. ⌜ WritesListing (rowsIn (now (table .entry))) issued (now (out .entry)) (now (out .exit)) r ⌝ }
 {
-    let live = find::live_count(words, n);
-    if !ordered::in_order(words, n, live, issued) {
+    let n = table.len();
+    if 1024 < n {
         return Written::Refused(Refusal::Disordered);
     }
-    write_rows(words, live, issued, out)
+    let live = find::live_count(table, n);
+    if !ordered::in_order(table, n, live, issued) {
+        return Written::Refused(Refusal::Disordered);
+    }
+    write_rows(table, live, issued, out)
 }

@@ -80,10 +80,10 @@ module _ (n : ℕ) (notes : List Note) (s : Sound n notes) (c : Closed (lives no
   pub falling-rows : Falling n (Table.derivations (rows notes))
   falling-rows = rw derivations-rows (falling-kept (alive notes) n (derivations notes) (falling n notes s))
 
-  ancestry-rows : (x : ℕ) → eqb x 0 || lives notes x ≡ true → ancestry (derivations notes) x ≡ ancestry (Table.derivations (rows notes)) x
+  pub ancestry-rows : (x : ℕ) → eqb x 0 || lives notes x ≡ true → ancestry (derivations notes) x ≡ ancestry (Table.derivations (rows notes)) x
   ancestry-rows x h = sym (rw derivations-rows (ancestry-kept (lives notes) n (derivations notes) (falling n notes s) c x h))
 
-  rows-live : All (λ r. lives notes (r .name .0) ≡ true) (rows notes)
+  pub rows-live : All (λ r. lives notes (r .name .0) ≡ true) (rows notes)
   unfolding rowOf
   rows-live = rows-all notes (λ r. lives notes (r .name .0) ≡ true) (All-of (λ b. lives notes (b .name) ≡ true → lives notes (b .name) ≡ true) (λ b e. e) (derivations notes))
 

@@ -13,13 +13,13 @@ use borrow.Author.Tests.{eqb-true, ne-eqb, le-ltb, leb-true}
 use Rattle.model.specs.declared.Name.{Name}
 use Rattle.model.specs.declared.Span.{Span}
 use Rattle.model.specs.declared.Tally.{Tally}
-use Rattle.model.specs.declared.Event.{Event}
 use Rattle.model.specs.declared.Event.the-variants.{Create, Borrow, Read, Write, Drop}
+use Rattle.model.specs.Requests.{Request, Single, Group}
 use Rattle.model.specs.Lists.{filter, any}
 use Rattle.model.specs.Derivation.{Derivation}
 use Rattle.model.specs.Values.{legal, inside}
 use Rattle.model.specs.Table.{emptyRow, span, named, liveRows, lentTable, lookup, inOrder}
-use Rattle.model.specs.Refusals.{disordered, refusals, judge}
+use Rattle.model.specs.Refusals.{viewOf, disordered, refusals, judge}
 use Rattle.model.specs.Step.{initial, stateAfter, isAllowed}
 use Rattle.model.specs.Table
 use Rattle.model.specs.Refusals
@@ -116,18 +116,18 @@ module _ (n i : ℕ) (notes : List Note) (k : Kept n i notes) where
   given-passes : (x : ℕ) → lives notes x ≡ true → eqb x 0 || ltb i x ≡ false
   given-passes x h = let p = lives-given x h in rw (not-zero (p .0)) (le-ltb i x (omega arith))
 
-  reads : inOrder (table n notes) i ≡ true → (u : Name) (s : Span) → eqb (judge (table n notes) i (Read u s)) 0 ≡ mayRead notes (u .0) s
+  reads : inOrder (table n notes) i ≡ true → (u : Name) (s : Span) → eqb (judge (viewOf (table n notes) i) (Single (Read u s))) 0 ≡ mayRead notes (u .0) s
   unfolding judge refusals mayRead
-  reads o u s = first-zero (refusals (table n notes) i (Read u s)) (numbered (table n notes) i (Read u s)) ∙ rw (o, present (u .0)) (go (test (lives notes (u .0))))
+  reads o u s = first-zero (refusals (viewOf (table n notes) i) (Single (Read u s))) (numbered (table n notes) i (Single (Read u s))) ∙ rw (o, present (u .0)) (go (test (lives notes (u .0))))
     where
       go : (lives notes (u .0) ≡ true) ⊎ (lives notes (u .0) ≡ false)
           → not (not (legal s)) && (not (eqb (u .0) 0 || ltb i (u .0)) && (not (not (lives notes (u .0))) && (not (not (inside s (span (lookup (u .0) (liveRows (table n notes)))))) && true))) ≡ legal s && covers notes (u .0) s && lives notes (u .0)
       go (inl t) = rw (given-passes (u .0) t, covers-found (u .0) s t, t) (simp (Bool·not-not, and-true))
       go (inr f) = rw f (simp and-false)
 
-  writes : inOrder (table n notes) i ≡ true → (u : Name) (s : Span) → eqb (judge (table n notes) i (Write u s)) 0 ≡ mayWrite notes (u .0) s
+  writes : inOrder (table n notes) i ≡ true → (u : Name) (s : Span) → eqb (judge (viewOf (table n notes) i) (Single (Write u s))) 0 ≡ mayWrite notes (u .0) s
   unfolding judge refusals mayRead mayWrite
-  writes o u s = first-zero (refusals (table n notes) i (Write u s)) (numbered (table n notes) i (Write u s)) ∙ rw (o, present (u .0)) (go (test (lives notes (u .0))))
+  writes o u s = first-zero (refusals (viewOf (table n notes) i) (Single (Write u s))) (numbered (table n notes) i (Single (Write u s))) ∙ rw (o, present (u .0)) (go (test (lives notes (u .0))))
     where
       rw-right : (w : Bool) → not (ltb (cond w 2 1) 2) ≡ w
       rw-right true = refl
@@ -142,49 +142,45 @@ module _ (n i : ℕ) (notes : List Note) (k : Kept n i notes) where
 -- ---- above 1,024 rows every event is refused, and nothing is noted
 
 module _ (n : ℕ) (l : leb n 1024 ≡ false) where
-  refused-all : (e : Event) → judge (table n []) 0 e ≡ 1
+  refused-all : (q : Request) → judge (viewOf (table n []) 0) q ≡ 1
   unfolding judge refusals inOrder lentTable rows derivations
-  refused-all e = go (rw (sub-zero n, length-replicate n emptyRow, l)) e
+  refused-all q = go (rw (sub-zero n, length-replicate n emptyRow, l))
     where
-      go : disordered (table n []) 0 ≡ true → (e : Event) → judge (table n []) 0 e ≡ 1
-      go d (Create w s r) = rw d
-      go d (Borrow w u s r) = rw d
-      go d (Read u s) = rw d
-      go d (Write u s) = rw d
-      go d (Drop u) = rw d
+      go : disordered (table n []) 0 ≡ true → judge (viewOf (table n []) 0) q ≡ 1
+      go d = rw d
 
-  untold : (es : List Event) → historyAfter n es ≡ emptyHistory
+  untold : (qs : List Request) → historyAfter n qs ≡ emptyHistory
   unfolding History.after
   untold [] = refl
-  untold (e ∷ es) = rw (refused-all e) (untold es)
+  untold (q ∷ qs) = rw (refused-all q) (untold qs)
 
 -- no access goes through a name that is not noted
 unnoted : (u : ℕ) (s : Span) → (mayRead [] u s ≡ false) × (mayWrite [] u s ≡ false)
 unfolding mayRead mayWrite covers derivations
 unnoted u s = (rw (and-false (legal s)), rw (and-false (legal s)))
 
--- ---- over every list of events
+-- ---- over every list of requests
 
-module _ (n : ℕ) (t : Tally) (z : t .issued ≡ 0) (es : List Event) where
-  matched : Match n (stateAfter n t es) (historyAfter n es)
-  matched = run n es (initial n t) emptyHistory (at-first n t z) .1
+module _ (n : ℕ) (t : Tally) (z : t .issued ≡ 0) (qs : List Request) where
+  matched : Match n (stateAfter n t qs) (historyAfter n qs)
+  matched = run n qs (initial n t) emptyHistory (at-first n t z) .1
 
-  history-in-order : n ≤ 1024 → inOrder (table n (historyAfter n es .notes)) (historyAfter n es .count) ≡ true
-  history-in-order l = rw (matched .same-table, matched .same-issued) at (order-final es (initial n t) (order-fresh n t l z))
+  history-in-order : n ≤ 1024 → inOrder (table n (historyAfter n qs .notes)) (historyAfter n qs .count) ≡ true
+  history-in-order l = rw (matched .same-table, matched .same-issued) at (order-final qs (initial n t) (order-fresh n t l z))
 
   -- what is so of a history in order, and so where nothing is ever noted, is so
-  either-way : (e : Event) (may : List Note → Bool) → may [] ≡ false
-      → ((i : ℕ) (notes : List Note) → Kept n i notes → inOrder (table n notes) i ≡ true → eqb (judge (table n notes) i e) 0 ≡ may notes)
-      → isAllowed (Step.answer (stateAfter n t es) e) ≡ may (historyAfter n es .notes)
+  either-way : (q : Request) (may : List Note → Bool) → may [] ≡ false
+      → ((i : ℕ) (notes : List Note) → Kept n i notes → inOrder (table n notes) i ≡ true → eqb (judge (viewOf (table n notes) i) q) 0 ≡ may notes)
+      → isAllowed (Step.answer (stateAfter n t qs) q) ≡ may (historyAfter n qs .notes)
   unfolding Step.answer
-  either-way e may none law = rw (same-judge n (stateAfter n t es) (historyAfter n es) matched e) (go (test (leb n 1024)))
+  either-way q may none law = rw (same-judge n (stateAfter n t qs) (historyAfter n qs) matched q) (go (test (leb n 1024)))
     where
-      go : (leb n 1024 ≡ true) ⊎ (leb n 1024 ≡ false) → eqb (judge (table n (historyAfter n es .notes)) (historyAfter n es .count) e) 0 ≡ may (historyAfter n es .notes)
-      go (inl y) = law (historyAfter n es .count) (historyAfter n es .notes) (matched .kept) (history-in-order (leb-true n 1024 y))
-      go (inr f) = rw (untold n f es, refused-all n f e) (sym none)
+      go : (leb n 1024 ≡ true) ⊎ (leb n 1024 ≡ false) → eqb (judge (viewOf (table n (historyAfter n qs .notes)) (historyAfter n qs .count)) q) 0 ≡ may (historyAfter n qs .notes)
+      go (inl y) = law (historyAfter n qs .count) (historyAfter n qs .notes) (matched .kept) (history-in-order (leb-true n 1024 y))
+      go (inr f) = rw (untold n f qs, refused-all n f q) (sym none)
 
-  pub read-allowed : (u : Name) (s : Span) → isAllowed (Step.answer (stateAfter n t es) (Read u s)) ≡ mayRead (historyAfter n es .notes) (u .0) s
-  read-allowed u s = either-way (Read u s) (λ notes. mayRead notes (u .0) s) (unnoted (u .0) s .0) (λ i notes k o. reads n i notes k o u s)
+  pub read-allowed : (u : Name) (s : Span) → isAllowed (Step.answer (stateAfter n t qs) (Single (Read u s))) ≡ mayRead (historyAfter n qs .notes) (u .0) s
+  read-allowed u s = either-way (Single (Read u s)) (λ notes. mayRead notes (u .0) s) (unnoted (u .0) s .0) (λ i notes k o. reads n i notes k o u s)
 
-  pub write-allowed : (u : Name) (s : Span) → isAllowed (Step.answer (stateAfter n t es) (Write u s)) ≡ mayWrite (historyAfter n es .notes) (u .0) s
-  write-allowed u s = either-way (Write u s) (λ notes. mayWrite notes (u .0) s) (unnoted (u .0) s .1) (λ i notes k o. writes n i notes k o u s)
+  pub write-allowed : (u : Name) (s : Span) → isAllowed (Step.answer (stateAfter n t qs) (Single (Write u s))) ≡ mayWrite (historyAfter n qs .notes) (u .0) s
+  write-allowed u s = either-way (Single (Write u s)) (λ notes. mayWrite notes (u .0) s) (unnoted (u .0) s .1) (λ i notes k o. writes n i notes k o u s)

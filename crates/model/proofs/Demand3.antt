@@ -1,43 +1,52 @@
 -- Demand 3 holds.
 -- Assumes nothing.
 use Prim.Native.Nat.{ℕ}
-use mathlib.Core.Path.{_≡_, refl, ap, _∙_}
+use mathlib.Core.Path.{_≡_, refl, sym, ap, _∙_}
 use mathlib.Core.Bool.{true}
-use mathlib.Core.List.{List}
+use mathlib.Core.List.{List, [], _∷_, map}
 use Rattle.model.specs.declared.Tally.{Tally}
-use Rattle.model.specs.declared.Event.{Event}
 use Rattle.model.specs.declared.Event.the-variants.{Create, Borrow, Read, Write, Drop}
+use Rattle.model.specs.Requests.{Request, Single, Group}
 use Rattle.model.specs.Effects.{newName}
 use Rattle.model.specs.Step.{State, isAllowed, initial, answer, stateAfter}
-use Rattle.model.specs.History.{emptyHistory, historyAfter, notedName, noteOf}
+use Rattle.model.specs.History.{Dropped, emptyHistory, historyAfter, notedName, notesOf}
 use Rattle.model.specs.Demand3.{Demand3}
 use Rattle.model.proofs.Match.{run, at-first}
 use Rattle.model.proofs.Allowed.{read-allowed, write-allowed}
 use Rattle.model.proofs.Lost.{never-lives-again, never-rw-again}
+use Rattle.model.proofs.Together.{group-singly, group-table, group-history}
 
-noted : (i : ℕ) (e : Event) → newName i e ≡ notedName (noteOf i e)
-unfolding noteOf notedName
-noted i (Create w s r) = refl
-noted i (Borrow w u s r) = refl
-noted i (Read u s) = refl
-noted i (Write u s) = refl
-noted i (Drop u) = refl
+noted : (i : ℕ) (q : Request) → newName i q ≡ notedName (notesOf i q)
+unfolding notesOf notedName
+noted i (Single (Create w s r)) = refl
+noted i (Single (Borrow w u s r)) = refl
+noted i (Single (Read u s)) = refl
+noted i (Single (Write u s)) = refl
+noted i (Single (Drop u)) = refl
+noted i (Group names) = sym (none names)
+  where
+    none : (names : List ℕ) → notedName (map Dropped names) ≡ 0
+    none [] = refl
+    none (u ∷ names) = none names
 
--- an allowed event's answer has the name that its note makes
-pub named : (h : State) (i : ℕ) → h .tally .issued ≡ i → (e : Event) → isAllowed (answer h e) ≡ true → answer h e .name ≡ notedName (noteOf i e)
+-- an allowed request's answer has the name that its notes make
+named : (h : State) (i : ℕ) → h .tally .issued ≡ i → (q : Request) → isAllowed (answer h q) ≡ true → answer h q .name ≡ notedName (notesOf i q)
 unfolding answer
-named h i q e a = rw a (ap (λ (k : ℕ). newName k e) q ∙ noted i e)
+named h i e q a = rw a (ap (λ (k : ℕ). newName k q) e ∙ noted i q)
 
-pub demand3 : (n : ℕ) (t : Tally) → t .issued ≡ 0 → (es : List Event) → Demand3 n t es
-demand3 n t z es =
-    let r = run n es (initial n t) emptyHistory (at-first n t z) in
+pub demand3 : (n : ℕ) (t : Tally) → t .issued ≡ 0 → (qs : List Request) → Demand3 n t qs
+demand3 n t z qs =
+    let r = run n qs (initial n t) emptyHistory (at-first n t z) in
     record {
       same-answers = r .0;
       same-table = r .1 .same-table;
       same-issued = r .1 .same-issued;
-      noted-names = named (stateAfter n t es) (historyAfter n es .count) (r .1 .same-issued);
-      reads = read-allowed n t z es;
-      writes = write-allowed n t z es;
-      life-stays-lost = λ x. never-lives-again n x es;
-      rw-stays-lost = λ x. never-rw-again n x es;
+      noted-names = named (stateAfter n t qs) (historyAfter n qs .count) (r .1 .same-issued);
+      group-singly = λ names a. group-singly (stateAfter n t qs) names a .each-allowed;
+      group-table = group-table (stateAfter n t qs);
+      group-history = group-history n (stateAfter n t qs) (historyAfter n qs) (r .1);
+      reads = read-allowed n t z qs;
+      writes = write-allowed n t z qs;
+      life-stays-lost = λ x. never-lives-again n x qs;
+      rw-stays-lost = λ x. never-rw-again n x qs;
     }

@@ -11,6 +11,7 @@ use Rattle.model.specs.declared.Span.{Span}
 use Rattle.model.specs.declared.Cap.{Cap}
 use Rattle.model.specs.declared.NewName.{NewName}
 use Rattle.model.specs.declared.Event.the-variants.{Create}
+use Rattle.model.specs.Requests.{Single}
 use Rattle.model.specs.declared.Access.{Access}
 use Rattle.model.specs.declared.Access.the-variants.{Writing}
 use Rattle.model.specs.Lists.{filter, any}
@@ -77,7 +78,7 @@ module _ (issued : ℕ) (rows : List Cap) (n : Named rows) (h : rowsInOrder (suc
   hit x = touchesAny s (ancestry (derivations rows) x)
 
   -- "It ends every live capability its span touches, with subtrees", and leaves the others as they are.
-  pub create-rows : rowsAfter issued rows (Create w s r) ≡ row (root issued s) r 1 ∷ filter (λ c. not (hit (c .name .0))) rows
+  pub create-rows : rowsAfter issued rows (Single (Create w s r)) ≡ row (root issued s) r 1 ∷ filter (λ c. not (hit (c .name .0))) rows
   unfolding rowsAfter revoke afterAccess struck
   create-rows = ap {B = List Cap} (λ l. row (root issued s) r 1 ∷ l) (
       taken-cong (struck isEnd Writing (derivations rows) (suc issued) s) (struck isLower Writing (derivations rows) (suc issued) s) hit (λ x. false) rows
@@ -85,7 +86,7 @@ module _ (issued : ℕ) (rows : List Cap) (n : Named rows) (h : rowsInOrder (suc
       ∙ map-id _)
 
   -- It is a write from outside every subtree but its own: a write through the new row, once it stands, leaves the same.
-  pub create-written : afterAccess Writing (suc issued) s (row (root issued s) r 1 ∷ rows) ≡ rowsAfter issued rows (Create w s r)
+  pub create-written : afterAccess Writing (suc issued) s (row (root issued s) r 1 ∷ rows) ≡ rowsAfter issued rows (Single (Create w s r))
   unfolding rowsAfter revoke afterAccess struck
   create-written =
       revoke-past (ends isEnd) (ends isLower) (row new r 1) rows (user-spared isEnd refl Writing s user) (user-spared isLower refl Writing s user)
@@ -112,19 +113,19 @@ module _ (issued : ℕ) (rows : List Cap) (n : Named rows) (h : rowsInOrder (suc
           ∙ ap (λ (none : List Derivation). reached is Writing s none (ancestry (derivations rows) x)) (sym (no-ancestry-above (suc issued) rows n h (suc issued) (omega arith)))
 
   -- A capability that is not touched, nor any ancestor of it, stays as it is.
-  pub untouched-stays : All (λ c. hit (c .name .0) ≡ false → lookup (c .name .0) (rowsAfter issued rows (Create w s r)) ≡ c) rows
+  pub untouched-stays : All (λ c. hit (c .name .0) ≡ false → lookup (c .name .0) (rowsAfter issued rows (Single (Create w s r))) ≡ c) rows
   unfolding lookup
   untouched-stays = All-map _ _ (λ c q e. rw (create-rows, below-differs (q .0)) (lookup-left hit (c .name .0) e rows ∙ q .1)) rows (lookup-each (suc issued) rows h)
 
   -- One that is, or whose ancestor is, has ended.
-  pub touched-ends : (x : ℕ) → x < suc issued → hit x ≡ true → any (named x) (rowsAfter issued rows (Create w s r)) ≡ false
+  pub touched-ends : (x : ℕ) → x < suc issued → hit x ≡ true → any (named x) (rowsAfter issued rows (Single (Create w s r))) ≡ false
   touched-ends x l e = rw (create-rows, below-differs l) (any-false (named x) (filter (λ c. not (hit (c .name .0))) rows) (All-map _ _ apart (filter (λ c. not (hit (c .name .0))) rows) (passes (λ c. not (hit (c .name .0))) rows)))
     where
       apart : (c : Cap) → not (hit (c .name .0)) ≡ true → named x c ≡ false
       apart c p = ne-eqb x (c .name .0) (λ (q : x ≡ c .name .0). clash (ap hit (sym q) ∙ e) (not-true (hit (c .name .0)) p))
 
   -- A create of length 0 ends nothing.
-  pub create-nothing : s .length ≡ 0 → rowsAfter issued rows (Create w s r) ≡ row (root issued s) r 1 ∷ rows
+  pub create-nothing : s .length ≡ 0 → rowsAfter issued rows (Single (Create w s r)) ≡ row (root issued s) r 1 ∷ rows
   create-nothing z = create-rows ∙ ap {B = List Cap} (λ l. row (root issued s) r 1 ∷ l) (filter-all (λ c. not (hit (c .name .0))) rows (All-of _ (λ c. ap not (none (ancestry (derivations rows) (c .name .0)))) rows))
     where
       none : (x : List Derivation) → touchesAny s x ≡ false

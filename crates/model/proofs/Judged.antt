@@ -1,37 +1,119 @@
--- An allowed event meets none of its refusals, and the rows that it leaves fit the table.
+-- An allowed request meets none of its refusals, and the rows that it leaves fit the table.
 -- Assumes nothing.
-use mathlib.Core.Path.{_≡_, refl}
-use mathlib.Core.Bool.{Bool, true, false, not}
-use mathlib.Core.List.{List}
+use mathlib.Core.Path.{_≡_, refl, sym, _∙_}
+use mathlib.Core.Logic.{_⊎_, inl, inr}
+use mathlib.Core.Bool.{Bool, true, false, not, _&&_, _||_}
+use mathlib.Core.List.{List, [], _∷_}
 use Prim.Native.Nat.{ℕ, suc, _≤_, _<_}
 use native.Mathlib.Omega.{arith}
-use lib.Dec.{ltb}
+use lib.Dec.{eqb, leb, ltb}
 use lib.ListN.{length, length-map, length-reverse}
-use borrow.Author.Tests.{leb-false}
+use borrow.Author.Tests.{eq-eqb, leb-false, ltb-true, not-true, not-false}
 use Rattle.model.specs.declared.Cap.{Cap}
+use Rattle.model.specs.declared.Name.{Name}
 use Rattle.model.specs.declared.Span.{Span}
 use Rattle.model.specs.declared.Access.{Access}
 use Rattle.model.specs.declared.NewName.{NewName}
-use Rattle.model.specs.declared.Event.{Event}
 use Rattle.model.specs.declared.Event.the-variants.{Create, Borrow, Read, Write, Drop}
-use Rattle.model.specs.Lists.{all}
-use Rattle.model.specs.Table.{named, liveRows}
-use Rattle.model.specs.Refusals.{refusals, judge}
-use Rattle.model.specs.Effects.{revoke, afterAccess, rowsAfter}
-use Rattle.model.proofs.Lists.{listed, first-none, length-filter}
+use Rattle.model.specs.Requests.{Request, Single, Group, risesAbove, risesStrictly, isGroup}
+use Rattle.model.specs.Lists.{any, all, first}
+use Rattle.model.specs.Table.{named, liveRows, inOrder}
+use Rattle.model.specs.Refusals.{viewOf, standings, checks, refusals, judge}
+use Rattle.model.specs.Effects.{revoke, afterAccess, rowsWithout, rowsAfter}
+use Rattle.model.proofs.Lists.{All, All-map, test, and-both, listed, first-none, first-zero, length-filter}
 
-pub numbered : (t : List Cap) (i : ℕ) (e : Event) → all (λ c. ltb 0 (c .0)) (refusals t i e) ≡ true
-unfolding refusals
-numbered t i (Create w s r) = refl
-numbered t i (Borrow w u s r) = refl
-numbered t i (Read u s) = refl
-numbered t i (Write u s) = refl
-numbered t i (Drop u) = refl
+pub numbered : (t : List Cap) (i : ℕ) (q : Request) → all (λ c. ltb 0 (c .0)) (refusals (viewOf t i) q) ≡ true
+unfolding refusals standings
+numbered t i (Single (Create w s r)) = refl
+numbered t i (Single (Borrow w u s r)) = refl
+numbered t i (Single (Read u s)) = refl
+numbered t i (Single (Write u s)) = refl
+numbered t i (Single (Drop u)) = refl
+numbered t i (Group names) = each (liveRows t) names
+  where
+    each : (rows : List Cap) (names : List ℕ) → all (λ c. ltb 0 (c .0)) (standings rows i names) ≡ true
+    each rows [] = refl
+    each rows (u ∷ names) = each rows names
 
 -- the condition listed under a number does not hold
-pub allowed : (t : List Cap) (i : ℕ) (e : Event) → judge t i e ≡ 0 → (k : ℕ) → listed k (refusals t i e) ≡ false
+pub allowed : (t : List Cap) (i : ℕ) (q : Request) → judge (viewOf t i) q ≡ 0 → (k : ℕ) → listed k (refusals (viewOf t i) q) ≡ false
 unfolding judge
-allowed t i e h = first-none (refusals t i e) (numbered t i e) h
+allowed t i q h = first-none (refusals (viewOf t i) q) (numbered t i q) h
+
+-- in a table in order, no refusal is 1
+above-names : (rows : List Cap) (issued : ℕ) (names : List ℕ) → all (λ c. ltb 1 (c .0)) (standings rows issued names) ≡ true
+unfolding standings
+above-names rows issued [] = refl
+above-names rows issued (u ∷ names) = above-names rows issued names
+
+above-one : (rows : List Cap) (issued size : ℕ) (q : Request) → all (λ c. ltb 1 (c .0)) (checks rows issued size q) ≡ true
+above-one rows issued size (Single (Create w s r)) = refl
+above-one rows issued size (Single (Borrow w u s r)) = refl
+above-one rows issued size (Single (Read u s)) = refl
+above-one rows issued size (Single (Write u s)) = refl
+above-one rows issued size (Single (Drop u)) = refl
+above-one rows issued size (Group names) = above-names rows issued names
+
+first-above : (cs : List (ℕ × Bool)) → all (λ c. ltb 1 (c .0)) cs ≡ true → first cs ≡ 1 → ⊥
+first-above [] h e = omega arith
+first-above (c ∷ cs) h e = let p = and-both (ltb 1 (c .0)) (all (λ c. ltb 1 (c .0)) cs) h in go (test (c .1)) (ltb-true 1 (c .0) (p .0)) (first-above cs (p .1))
+  where
+    go : (c .1 ≡ true) ⊎ (c .1 ≡ false) → 1 < c .0 → (first cs ≡ 1 → ⊥) → ⊥
+    go (inl t) l ih = let q : c .0 ≡ 1 = rw t at e in omega arith
+    go (inr f) l ih = ih (rw f at e)
+
+pub ordered-not-1 : (t : List Cap) (i : ℕ) (q : Request) → inOrder t i ≡ true → judge (viewOf t i) q ≡ 1 → ⊥
+unfolding judge refusals
+ordered-not-1 t i q o e = first-above (checks (liveRows t) i (length t) q) (above-one (liveRows t) i (length t) q) (rw o at e)
+
+-- ---- the names of a drop
+
+-- the name is issued, and its capability lives
+abbrev pub Stands : List Cap → ℕ → ℕ → Type 0
+Stands rows issued u = (eqb u 0 || ltb issued u ≡ false) × (any (named u) rows ≡ true)
+
+abbrev pub Rising : List ℕ → Type 0
+Rising [] = Unit {0}
+Rising (x ∷ names) = All (λ u. x < u) names × Rising names
+
+rising : (names : List ℕ) → risesStrictly names ≡ true → Rising names
+unfolding risesStrictly risesAbove
+rising [] h = tt
+rising (x ∷ names) h = above x names h
+  where
+    above : (x : ℕ) (names : List ℕ) → risesAbove x names ≡ true → Rising (x ∷ names)
+    above x [] h = (tt, tt)
+    above x (y ∷ names) h =
+        let p = and-both (ltb x y) (risesAbove y names) h in
+        let l = ltb-true x y (p .0) in
+        let r = above y names (p .1) in
+        ((l, All-map _ _ (λ u k. omega arith) names (r .0)), r)
+
+pub drop-stands : (t : List Cap) (i : ℕ) (u : Name) → judge (viewOf t i) (Single (Drop u)) ≡ 0 → Stands (liveRows t) i (u .0)
+unfolding refusals
+drop-stands t i u h = (allowed t i (Single (Drop u)) h 4, not-false (any (named (u .0)) (liveRows t)) (allowed t i (Single (Drop u)) h 5))
+
+module _ (t : List Cap) (i : ℕ) (names : List ℕ) (h : judge (viewOf t i) (Group names) ≡ 0) where
+  pub group-rises : Rising names
+  unfolding refusals isGroup
+  group-rises =
+      rising names (and-both (leb 1 (length names) && leb (length names) 64) (risesStrictly names) (not-false (isGroup names) (allowed t i (Group names) h 13)) .1)
+
+  pub group-stands : All (Stands (liveRows t) i) names
+  unfolding judge refusals standings
+  group-stands =
+      let p = sym (first-zero (refusals (viewOf t i) (Group names)) (numbered t i (Group names))) ∙ eq-eqb (judge (viewOf t i) (Group names)) 0 h in
+      let q = and-both (not (not (inOrder t i))) (not (not (isGroup names)) && all (λ c. not (c .1)) (standings (liveRows t) i names)) p in
+      each names (and-both (not (not (isGroup names))) (all (λ c. not (c .1)) (standings (liveRows t) i names)) (q .1) .1)
+    where
+      each : (names : List ℕ) → all (λ c. not (c .1)) (standings (liveRows t) i names) ≡ true → All (Stands (liveRows t) i) names
+      each [] h = tt
+      each (u ∷ names) h =
+          let p = and-both (not (eqb u 0 || ltb i u)) (not (not (any (named u) (liveRows t))) && all (λ c. not (c .1)) (standings (liveRows t) i names)) h in
+          let q = and-both (not (not (any (named u) (liveRows t)))) (all (λ c. not (c .1)) (standings (liveRows t) i names)) (p .1) in
+          ((not-true (eqb u 0 || ltb i u) (p .0), not-false (any (named u) (liveRows t)) (not-true (not (any (named u) (liveRows t))) (q .0))), each names (q .1))
+
+-- ---- room
 
 pub length-live : (t : List Cap) → length (liveRows t) ≤ length t
 unfolding liveRows
@@ -50,14 +132,15 @@ new-fits : (ends lowers : ℕ → Bool) (rows : List Cap) (n : ℕ) → length r
 new-fits ends lowers rows n h = omega (arith, revoke-fits ends lowers rows (length rows) (omega arith))
 
 -- Fullness is judged on the table before the event.
-pub room-before : (t : List Cap) (i : ℕ) (w : NewName) (s : Span) (r : ℕ) → judge t i (Create w s r) ≡ 0 → length (liveRows t) < length t
+pub room-before : (t : List Cap) (i : ℕ) (w : NewName) (s : Span) (r : ℕ) → judge (viewOf t i) (Single (Create w s r)) ≡ 0 → length (liveRows t) < length t
 unfolding refusals
-room-before t i w s r h = leb-false (length t) (length (liveRows t)) (allowed t i (Create w s r) h 10)
+room-before t i w s r h = leb-false (length t) (length (liveRows t)) (allowed t i (Single (Create w s r)) h 10)
 
-pub next-fits : (t : List Cap) (i : ℕ) (e : Event) → judge t i e ≡ 0 → length (rowsAfter i (liveRows t) e) ≤ length t
-unfolding rowsAfter afterAccess refusals
-next-fits t i (Create w s r) h = new-fits _ _ (liveRows t) (length t) (room-before t i w s r h)
-next-fits t i (Borrow w u s r) h = leb-false (length t) (length (liveRows t)) (allowed t i (Borrow w u s r) h 10)
-next-fits t i (Read u s) h = revoke-fits _ _ (liveRows t) (length t) (length-live t)
-next-fits t i (Write u s) h = revoke-fits _ _ (liveRows t) (length t) (length-live t)
-next-fits t i (Drop u) h = revoke-fits _ _ (liveRows t) (length t) (length-live t)
+pub next-fits : (t : List Cap) (i : ℕ) (q : Request) → judge (viewOf t i) q ≡ 0 → length (rowsAfter i (liveRows t) q) ≤ length t
+unfolding rowsAfter afterAccess rowsWithout refusals
+next-fits t i (Single (Create w s r)) h = new-fits _ _ (liveRows t) (length t) (room-before t i w s r h)
+next-fits t i (Single (Borrow w u s r)) h = leb-false (length t) (length (liveRows t)) (allowed t i (Single (Borrow w u s r)) h 10)
+next-fits t i (Single (Read u s)) h = revoke-fits _ _ (liveRows t) (length t) (length-live t)
+next-fits t i (Single (Write u s)) h = revoke-fits _ _ (liveRows t) (length t) (length-live t)
+next-fits t i (Single (Drop u)) h = revoke-fits _ _ (liveRows t) (length t) (length-live t)
+next-fits t i (Group names) h = revoke-fits _ _ (liveRows t) (length t) (length-live t)

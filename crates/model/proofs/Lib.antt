@@ -14,11 +14,10 @@ pub mod Match
 pub mod Order
 pub mod Allowed
 pub mod Lost
-pub mod Demand3
 pub mod Traces
 pub mod Rows
 pub mod OneTable
 pub mod Fresh
 pub mod Together
-pub mod Requests
+pub mod Demand3
 pub mod Given

@@ -1,8 +1,8 @@
--- Over every list of events the lent table is the history's, and so are the answers and the issued number: by induction over the list.
+-- Over every list of requests the lent table is the history's, and so are the answers and the issued number: by induction over the list.
 -- Assumes nothing.
 use mathlib.Core.Path.{_≡_, refl, sym, ap, ap₂, _∙_}
 use mathlib.Core.Logic.{_⊎_, inl, inr}
-use mathlib.Core.Bool.{Bool, true, false, not, cond, _&&_, _||_, or-true, or-false}
+use mathlib.Core.Bool.{Bool, true, false, not, cond, _&&_, _||_, and-true, or-true, or-false}
 use mathlib.Core.List.{List, [], _∷_, _++_, map}
 use Prim.Native.Nat.{ℕ, zero, suc, _<_, _≤_}
 use native.Mathlib.Nat.{sub-zero}
@@ -13,29 +13,29 @@ use borrow.Author.Tests.{eqb-true, ne-eqb, ltb-false, not-false}
 use Rattle.model.specs.declared.Span.{Span}
 use Rattle.model.specs.declared.Cap.{Cap}
 use Rattle.model.specs.declared.Tally.{Tally}
-use Rattle.model.specs.declared.Access.the-variants.{Writing}
-use Rattle.model.specs.declared.Event.{Event}
+use Rattle.model.specs.declared.Access.the-variants.{Reading, Writing}
 use Rattle.model.specs.declared.Event.the-variants.{Create, Borrow, Read, Write, Drop}
+use Rattle.model.specs.Requests.{Request, Single, Group}
 use Rattle.model.specs.Lists.{filter, any, answers, final}
-use Rattle.model.specs.Derivation.{Derivation, ancestry}
+use Rattle.model.specs.Derivation.{Derivation, ancestry, inSubtree}
 use Rattle.model.specs.Strike.{isLower, isEnd, reached, struck, reclaimed}
 use Rattle.model.specs.Step.{State, initial}
 use Rattle.model.specs.Table.{row, named, liveRows, lentTable, lookup, isRight}
-use Rattle.model.specs.Refusals.{refusals, judge}
-use Rattle.model.specs.Effects.{root, child, revoke, afterAccess, rowsAfter, issuedAfter}
+use Rattle.model.specs.Refusals.{viewOf, refusals, judge}
+use Rattle.model.specs.Effects.{root, child, revoke, afterAccess, inSubtrees, rowsWithout, rowsAfter, issuedAfter}
 use Rattle.model.specs.Table
 use Rattle.model.specs.Refusals
 use Rattle.model.specs.Effects
 use Rattle.model.specs.Counts
 use Rattle.model.specs.Step
-use Rattle.model.specs.History.{Note, New, derivedBy, derivations, ends, lowers, hits, lives, rowOf, rows, table, noteOf, emptyHistory}
+use Rattle.model.specs.History.{Note, New, Accessed, Dropped, derivedBy, derivations, ends, lowers, hits, lives, rowOf, rows, table, notesOf, emptyHistory}
 use Rattle.model.specs.History
-use Rattle.model.proofs.Lists.{All, All-of, All-map, test, or-neither, filter-all, map-id}
-use Rattle.model.proofs.Ancestries.{Closed, Falling, ancestry-step, ancestry-zero, ancestry-above}
-use Rattle.model.proofs.Notes.{Sound, falling, rows-all, rowOf-new, revokedBy}
-use Rattle.model.proofs.Agree.{Through, closed-noted, falling-rows, present-lives, rows-after}
+use Rattle.model.proofs.Lists.{All, All-of, All-map, test, or-neither, and-neither, any-false, filter-all, filter-cong, filter-filter, map-id}
+use Rattle.model.proofs.Ancestries.{Closed, Falling, ancestry-step, ancestry-zero, ancestry-above, ancestry-upto}
+use Rattle.model.proofs.Notes.{Sound, falling, lives-older, rows-all, rowOf-new, revokedBy, rows-noted}
+use Rattle.model.proofs.Agree.{Through, closed-noted, falling-rows, ancestry-rows, rows-live, present-lives, rows-after}
 use Rattle.model.proofs.Lent.{Named, live-lent, length-lent, lookup-found, lookup-named}
-use Rattle.model.proofs.Judged.{allowed, next-fits}
+use Rattle.model.proofs.Judged.{allowed, Stands, Rising, drop-stands, group-rises, group-stands, next-fits}
 
 -- what stays true of the notes, of the names given out and of a number of rows
 pub record Kept (n count : ℕ) (notes : List Note) : Type 0 where
@@ -64,7 +64,7 @@ right-given r h = go (test (eqb r 2))
 all-left : (rows : List Cap) → filter (λ r. true) rows ≡ rows
 all-left rows = filter-all (λ r. true) rows (All-of (λ r. true ≡ true) (λ r. refl) rows)
 
--- ---- an allowed event and its note
+-- ---- an allowed request and its notes
 
 module _ (n i : ℕ) (notes : List Note) (k : Kept n i notes) where
   pub live-rows : liveRows (table n notes) ≡ rows notes
@@ -73,27 +73,15 @@ module _ (n i : ℕ) (notes : List Note) (k : Kept n i notes) where
   rows-fit : length (table n notes) ≡ n
   rows-fit = length-lent n (rows notes) (k .fits)
 
-  user-lives : (x : ℕ) → not (any (named x) (liveRows (table n notes))) ≡ false → lives notes x ≡ true
-  user-lives x h = present-lives (suc i) notes (k .sound) (k .closed) x (rw live-rows at (not-false (any (named x) (liveRows (table n notes))) h))
+  -- a name that stands
+  stands-given : (u : ℕ) → Stands (liveRows (table n notes)) i u → u < suc i
+  stands-given u p = omega (arith, ltb-false i u (or-neither (eqb u 0) (ltb i u) (p .0) .1))
 
-  user-given : (x : ℕ) → eqb x 0 || ltb i x ≡ false → x < suc i
-  user-given x h = omega (arith, ltb-false i x (or-neither (eqb x 0) (ltb i x) h .1))
+  stands-lives : (u : ℕ) → Stands (liveRows (table n notes)) i u → lives notes u ≡ true
+  stands-lives u p = present-lives (suc i) notes (k .sound) (k .closed) u (rw live-rows at (p .1))
 
-  sound-next : (e : Event) → judge (table n notes) i e ≡ 0 → Sound (suc (issuedAfter i e)) (noteOf i e ∷ notes)
-  unfolding refusals noteOf
-  sound-next (Create w s r) h = (omega arith, omega arith, k .sound)
-  sound-next (Borrow w u s r) h = (omega arith, user-given (u .0) (allowed (table n notes) i (Borrow w u s r) h 4), k .sound)
-  sound-next (Read u s) h = (tt, user-given (u .0) (allowed (table n notes) i (Read u s) h 4), k .sound)
-  sound-next (Write u s) h = (tt, user-given (u .0) (allowed (table n notes) i (Write u s) h 4), k .sound)
-  sound-next (Drop u) h = (tt, user-given (u .0) (allowed (table n notes) i (Drop u) h 4), k .sound)
-
-  through-next : (e : Event) → judge (table n notes) i e ≡ 0 → Through notes (noteOf i e)
-  unfolding refusals noteOf
-  through-next (Create w s r) h = refl
-  through-next (Borrow w u s r) h = rw (user-lives (u .0) (allowed (table n notes) i (Borrow w u s r) h 5)) (or-true (eqb (u .0) 0))
-  through-next (Read u s) h = rw (user-lives (u .0) (allowed (table n notes) i (Read u s) h 5)) (or-true (eqb (u .0) 0))
-  through-next (Write u s) h = rw (user-lives (u .0) (allowed (table n notes) i (Write u s) h 5)) (or-true (eqb (u .0) 0))
-  through-next (Drop u) h = rw (user-lives (u .0) (allowed (table n notes) i (Drop u) h 5)) (or-true (eqb (u .0) 0))
+  stands-through : (u : ℕ) → Stands (liveRows (table n notes)) i u → eqb u 0 || lives notes u ≡ true
+  stands-through u p = rw (stands-lives u p) (or-true (eqb u 0))
 
   depth-found : (x : ℕ) → any (named x) (liveRows (table n notes)) ≡ true → lookup x (rows notes) .depth ≡ length (ancestry (derivations notes) x)
   depth-found x h =
@@ -103,50 +91,137 @@ module _ (n i : ℕ) (notes : List Note) (k : Kept n i notes) where
   new-row : (b : Derivation) (r d : ℕ) → Sound (suc (suc i)) (New b r ∷ notes) → isRight r ≡ true → d ≡ length (ancestry (derivations notes) (b .parent)) → rowOf (New b r ∷ notes) b ≡ row b r (suc d)
   new-row b r d s h e = rowOf-new (suc (suc i)) b r notes s ∙ rw (right-given r h, e)
 
-  -- an allowed event does to the live rows what its note does to the history's
-  next-rows : (e : Event) → judge (table n notes) i e ≡ 0 → rows (noteOf i e ∷ notes) ≡ rowsAfter i (rows notes) e
-  unfolding refusals noteOf derivedBy ends lowers hits struck reclaimed revoke afterAccess rowsAfter
-  next-rows e h = rows-after (suc i) notes (k .sound) (k .closed) (suc (issuedAfter i e)) (noteOf i e) (sound-next e h) (through-next e h) ∙ go e h
-    where
-      live : List Derivation
-      live = Table.derivations (rows notes)
+  live : List Derivation
+  live = Table.derivations (rows notes)
 
-      falls : Falling (suc i) live
-      falls = falling-rows (suc i) notes (k .sound) (k .closed)
+  falls : Falling (suc i) (Table.derivations (rows notes))
+  falls = falling-rows (suc i) notes (k .sound) (k .closed)
 
-      -- what the note of a new name leaves of the rows
-      reclaim : Bool → List Derivation → Span → List Cap
-      reclaim isRoot user s =
-          revoke (λ x. isRoot && reached isEnd Writing s user (ancestry live x)) (λ x. isRoot && reached isLower Writing s user (ancestry live x)) (rows notes)
+  -- what is noted of names dropped together, and what it leaves
+  record Without (names : List ℕ) : Type 0 where
+    pub sound : Sound (suc i) (map Dropped names ++ notes)
+    pub same-derivations : derivations (map Dropped names ++ notes) ≡ derivations notes
+    pub closed : Closed (lives (map Dropped names ++ notes)) (derivations (map Dropped names ++ notes))
+    pub rows-left : rows (map Dropped names ++ notes) ≡ filter (λ c. not (inSubtrees names (ancestry (derivations notes) (c .name .0)))) (rows notes)
+    -- a smaller name lives on: its ancestors are smaller still
+    pub smaller-lives : (x : ℕ) → All (λ u. x < u) names → lives (map Dropped names ++ notes) x ≡ lives notes x
 
-      -- a create goes through no name, and a new name has no ancestry yet
-      outside : ancestry live 0 ≡ ancestry live (suc i)
-      outside = ancestry-zero (suc i) live falls ∙ sym (ancestry-above (suc i) (suc i) live falls (omega arith))
-
-      go : (e : Event) → judge (table n notes) i e ≡ 0
-          → map (rowOf (noteOf i e ∷ notes)) (derivedBy (noteOf i e)) ++ revokedBy (Table.derivations (rows notes)) (noteOf i e) (rows notes) ≡ rowsAfter i (rows notes) e
-      go (Create w s r) h =
-          ap₂ {C = List Cap} (λ c l. c ∷ l)
-          (new-row (root i s) r 0 (sound-next (Create w s r) h) (not-false (isRight r) (allowed (table n notes) i (Create w s r) h 2)) (rw (ancestry-zero (suc i) (derivations notes) (falling (suc i) notes (k .sound)))))
-          (ap (λ user. reclaim true user s) outside)
-      go (Borrow w u s r) h =
-          let p = allowed (table n notes) i (Borrow w u s r) h in
-          ap₂ {C = List Cap} (λ c l. c ∷ l)
-          (new-row (child i u s) r (lookup (u .0) (rows notes) .depth) (sound-next (Borrow w u s r) h) (not-false (isRight r) (p 2)) (depth-found (u .0) (not-false _ (p 5))))
-          (ap (λ isRoot. reclaim isRoot (ancestry live (u .0)) s) (or-neither (eqb (u .0) 0) (ltb i (u .0)) (p 4) .0) ∙ map-id _ ∙ all-left (rows notes))
-      go (Read u s) h = refl
-      go (Write u s) h = refl
-      go (Drop u) h = refl
-
-  pub kept-next : (e : Event) → judge (table n notes) i e ≡ 0 → Kept n (issuedAfter i e) (noteOf i e ∷ notes)
-  kept-next e h =
+  without : (names : List ℕ) → Rising names → All (Stands (liveRows (table n notes)) i) names → Without names
+  unfolding derivations derivedBy hits ends lowers
+  without [] r a =
       record {
-        sound = sound-next e h;
-        closed = closed-noted (suc (issuedAfter i e)) (noteOf i e) notes (sound-next e h) (through-next e h) (k .closed);
-        fits = rw (next-rows e h) (rw (live-rows, rows-fit) at (next-fits (table n notes) i e h));
+        sound = k .sound;
+        same-derivations = refl;
+        closed = k .closed;
+        rows-left = sym (all-left (rows notes));
+        smaller-lives = λ x b. refl;
+      }
+  without (u ∷ names) r a =
+      let earlier = without names (r .1) (a .1) in
+      let given = stands-given u (a .0) in
+      let sound : Sound (suc i) (Dropped u ∷ (map Dropped names ++ notes)) = (tt, given, earlier .sound) in
+      let lived : lives (map Dropped names ++ notes) u ≡ true = earlier .smaller-lives u (r .0) ∙ stands-lives u (a .0) in
+      record {
+        sound = sound;
+        same-derivations = earlier .same-derivations;
+        closed = closed-noted (suc i) (Dropped u) (map Dropped names ++ notes) sound (rw lived (or-true (eqb u 0))) (earlier .closed);
+        rows-left =
+            rows-noted (suc i) (Dropped u) (map Dropped names ++ notes) sound
+            ∙ map-id _
+            ∙ ap₂ (λ B l. filter (λ c. not (inSubtree u (ancestry B (c .name .0)))) l) (earlier .same-derivations) (earlier .rows-left)
+            ∙ filter-filter (λ c. not (inSubtrees names (above c))) (λ c. not (inSubtree u (above c))) (rows notes)
+            ∙ filter-cong _ _ (rows notes) (All-of _ (λ c. sym (and-neither true (inSubtree u (above c)) (inSubtrees names (above c)))) (rows notes));
+        smaller-lives =
+            λ x b.
+            lives-older (suc i) (Dropped u) (map Dropped names ++ notes) sound x (omega (arith, b .0))
+            ∙ ap (λ hit. lives (map Dropped names ++ notes) x && not hit) (off (map Dropped names ++ notes) (earlier .sound) u x (b .0))
+            ∙ and-true (lives (map Dropped names ++ notes) x)
+            ∙ earlier .smaller-lives x (b .1);
+      }
+    where
+      above : Cap → List Derivation
+      above c = ancestry (derivations notes) (c .name .0)
+
+      off : (notes : List Note) → Sound (suc i) notes → (u x : ℕ) → x < u → inSubtree u (ancestry (derivations notes) x) ≡ false
+      off notes s u x l =
+          any-false (λ d. eqb u (d .name)) (ancestry (derivations notes) x)
+          (All-map _ _ (λ d k. ne-eqb u (d .name) (λ (e : u ≡ d .name). omega arith)) (ancestry (derivations notes) x) (ancestry-upto (suc i) x (derivations notes) (falling (suc i) notes s)))
+
+  rows-without : (names : List ℕ) → Without names → rows (map Dropped names ++ notes) ≡ rowsWithout names (rows notes)
+  unfolding rowsWithout revoke
+  rows-without names w =
+      w .rows-left
+      ∙ filter-cong _ _ (rows notes)
+      (All-map _ _ (λ c l. ap (λ x. not (inSubtrees names x)) (ancestry-rows (suc i) notes (k .sound) (k .closed) (c .name .0) (rw l (or-true (eqb (c .name .0) 0))))) (rows notes) (rows-live (suc i) notes (k .sound) (k .closed)))
+      ∙ sym (map-id _)
+
+  -- what an allowed request notes is sound, leaves parents living with their children, and does to the history's rows what the request does
+  -- to the live rows
+  pub record Next (q : Request) : Type 0 where
+    pub is-sound : Sound (suc (issuedAfter i q)) (notesOf i q ++ notes)
+    pub is-closed : Closed (lives (notesOf i q ++ notes)) (derivations (notesOf i q ++ notes))
+    pub same-rows : rows (notesOf i q ++ notes) ≡ rowsAfter i (rows notes) q
+
+  -- by one note, with what it makes and what it takes
+  next-noted : (q : Request) (w : Note) → notesOf i q ≡ w ∷ [] → Sound (suc (issuedAfter i q)) (w ∷ notes) → Through notes w
+      → map (rowOf (w ∷ notes)) (derivedBy w) ++ revokedBy (Table.derivations (rows notes)) w (rows notes) ≡ rowsAfter i (rows notes) q → Next q
+  next-noted q w e s t same =
+      record {
+        is-sound = rw e s;
+        is-closed = rw e (closed-noted (suc (issuedAfter i q)) w notes s t (k .closed));
+        same-rows = rw e (rows-after (suc i) notes (k .sound) (k .closed) (suc (issuedAfter i q)) w s t ∙ same);
       }
 
--- ---- one event, and a list of events
+  -- what the note of a new name leaves of the rows
+  reclaim : Bool → List Derivation → Span → List Cap
+  reclaim isRoot user s =
+      revoke (λ x. isRoot && reached isEnd Writing s user (ancestry live x)) (λ x. isRoot && reached isLower Writing s user (ancestry live x)) (rows notes)
+
+  -- a create goes through no name, and a new name has no ancestry yet
+  outside : ancestry live 0 ≡ ancestry live (suc i)
+  unfolding live
+  outside = ancestry-zero (suc i) live falls ∙ sym (ancestry-above (suc i) (suc i) live falls (omega arith))
+
+  pub next : (q : Request) → judge (viewOf (table n notes) i) q ≡ 0 → Next q
+  unfolding refusals notesOf derivedBy ends lowers hits struck reclaimed revoke afterAccess rowsAfter live reclaim
+  next (Single (Create w s r)) h =
+      let sound : Sound (suc (suc i)) (New (root i s) r ∷ notes) = (omega arith, omega arith, k .sound) in
+      next-noted (Single (Create w s r)) (New (root i s) r) refl sound refl
+      (ap₂ {C = List Cap} (λ c l. c ∷ l)
+      (new-row (root i s) r 0 sound (not-false (isRight r) (allowed (table n notes) i (Single (Create w s r)) h 2)) (rw (ancestry-zero (suc i) (derivations notes) (falling (suc i) notes (k .sound)))))
+      (ap (λ user. reclaim true user s) outside))
+  next (Single (Borrow w u s r)) h =
+      let p = allowed (table n notes) i (Single (Borrow w u s r)) h in
+      let stands : Stands (liveRows (table n notes)) i (u .0) = (p 4, not-false (any (named (u .0)) (liveRows (table n notes))) (p 5)) in
+      let sound : Sound (suc (suc i)) (New (child i u s) r ∷ notes) = (omega arith, stands-given (u .0) stands, k .sound) in
+      next-noted (Single (Borrow w u s r)) (New (child i u s) r) refl sound (stands-through (u .0) stands)
+      (ap₂ {C = List Cap} (λ c l. c ∷ l)
+      (new-row (child i u s) r (lookup (u .0) (rows notes) .depth) sound (not-false (isRight r) (p 2)) (depth-found (u .0) (stands .1)))
+      (ap (λ isRoot. reclaim isRoot (ancestry live (u .0)) s) (or-neither (eqb (u .0) 0) (ltb i (u .0)) (p 4) .0) ∙ map-id _ ∙ all-left (rows notes)))
+  next (Single (Read u s)) h =
+      let p = allowed (table n notes) i (Single (Read u s)) h in
+      let stands : Stands (liveRows (table n notes)) i (u .0) = (p 4, not-false (any (named (u .0)) (liveRows (table n notes))) (p 5)) in
+      next-noted (Single (Read u s)) (Accessed Reading (u .0) s) refl (tt, stands-given (u .0) stands, k .sound) (stands-through (u .0) stands) refl
+  next (Single (Write u s)) h =
+      let p = allowed (table n notes) i (Single (Write u s)) h in
+      let stands : Stands (liveRows (table n notes)) i (u .0) = (p 4, not-false (any (named (u .0)) (liveRows (table n notes))) (p 5)) in
+      next-noted (Single (Write u s)) (Accessed Writing (u .0) s) refl (tt, stands-given (u .0) stands, k .sound) (stands-through (u .0) stands) refl
+  next (Single (Drop u)) h =
+      let w = without (u .0 ∷ []) (tt, tt) (drop-stands (table n notes) i u h, tt) in
+      record { is-sound = w .sound; is-closed = w .closed; same-rows = rows-without (u .0 ∷ []) w }
+  next (Group names) h =
+      let w = without names (group-rises (table n notes) i names h) (group-stands (table n notes) i names h) in
+      record { is-sound = w .sound; is-closed = w .closed; same-rows = rows-without names w }
+
+  pub kept-next : (q : Request) → judge (viewOf (table n notes) i) q ≡ 0 → Kept n (issuedAfter i q) (notesOf i q ++ notes)
+  kept-next q h =
+      record {
+        sound = next q h .is-sound;
+        closed = next q h .is-closed;
+        fits = rw (next q h .same-rows) (rw (live-rows, rows-fit) at (next-fits (table n notes) i q h));
+      }
+
+-- ---- one request, and a list of requests
 
 -- the lent table and tally match the history
 pub record Match (n : ℕ) (h : State) (H : History.History) : Type 0 where
@@ -154,44 +229,45 @@ pub record Match (n : ℕ) (h : State) (H : History.History) : Type 0 where
   pub same-issued : h .tally .issued ≡ H .count
   pub kept : Kept n (H .count) (H .notes)
 
-pub counted-issued : (e : Event) (t : Tally) → Counts.countAllowed e t .issued ≡ issuedAfter (t .issued) e
-counted-issued (Create w s r) t = refl
-counted-issued (Borrow w u s r) t = refl
-counted-issued (Read u s) t = refl
-counted-issued (Write u s) t = refl
-counted-issued (Drop u) t = refl
+pub counted-issued : (q : Request) (t : Tally) → Counts.countAllowed q t .issued ≡ issuedAfter (t .issued) q
+counted-issued (Single (Create w s r)) t = refl
+counted-issued (Single (Borrow w u s r)) t = refl
+counted-issued (Single (Read u s)) t = refl
+counted-issued (Single (Write u s)) t = refl
+counted-issued (Single (Drop u)) t = refl
+counted-issued (Group names) t = refl
 
-module _ (n : ℕ) (h : State) (H : History.History) (m : Match n h H) (e : Event) where
-  pub same-judge : judge (h .table) (h .tally .issued) e ≡ judge (table n (H .notes)) (H .count) e
-  same-judge = ap₂ (λ t i. judge t i e) (m .same-table) (m .same-issued)
+module _ (n : ℕ) (h : State) (H : History.History) (m : Match n h H) (q : Request) where
+  pub same-judge : judge (viewOf (h .table) (h .tally .issued)) q ≡ judge (viewOf (table n (H .notes)) (H .count)) q
+  same-judge = ap₂ (λ t i. judge (viewOf t i) q) (m .same-table) (m .same-issued)
 
-  pub same-answer : Step.answer h e ≡ History.answer n H e
+  pub same-answer : Step.answer h q ≡ History.answer n H q
   unfolding Step.answer History.answer
-  same-answer = ap₂ Step.verdict same-judge (ap (λ i. Effects.newName i e) (m .same-issued))
+  same-answer = ap₂ Step.verdict same-judge (ap (λ i. Effects.newName i q) (m .same-issued))
 
-  match-outcome : (j : ℕ) → judge (table n (H .notes)) (H .count) e ≡ j → Match n (Step.outcome j h e) (History.outcome j H e)
-  match-outcome zero q =
+  match-outcome : (j : ℕ) → judge (viewOf (table n (H .notes)) (H .count)) q ≡ j → Match n (Step.outcome j h q) (History.outcome j H q)
+  match-outcome zero z =
       record {
         same-table =
-            ap₂ (λ t i. lentTable (length t) (rowsAfter i (liveRows t) e)) (m .same-table) (m .same-issued)
-            ∙ rw (rows-fit n (H .count) (H .notes) (m .kept), live-rows n (H .count) (H .notes) (m .kept)) (ap (lentTable n) (sym (next-rows n (H .count) (H .notes) (m .kept) e q)));
-        same-issued = counted-issued e (h .tally) ∙ ap (λ i. issuedAfter i e) (m .same-issued);
-        kept = kept-next n (H .count) (H .notes) (m .kept) e q;
+            ap₂ (λ t i. lentTable (length t) (rowsAfter i (liveRows t) q)) (m .same-table) (m .same-issued)
+            ∙ rw (rows-fit n (H .count) (H .notes) (m .kept), live-rows n (H .count) (H .notes) (m .kept)) (ap (lentTable n) (sym (next n (H .count) (H .notes) (m .kept) q z .same-rows)));
+        same-issued = counted-issued q (h .tally) ∙ ap (λ i. issuedAfter i q) (m .same-issued);
+        kept = kept-next n (H .count) (H .notes) (m .kept) q z;
       }
-  match-outcome (suc zero) q = m
-  match-outcome (suc (suc j)) q = record { same-table = m .same-table; same-issued = m .same-issued; kept = m .kept }
+  match-outcome (suc zero) z = m
+  match-outcome (suc (suc j)) z = record { same-table = m .same-table; same-issued = m .same-issued; kept = m .kept }
 
-  pub match-after : Match n (Step.after h e) (History.after n H e)
+  pub match-after : Match n (Step.after h q) (History.after n H q)
   unfolding Step.after History.after
-  match-after = rw same-judge (match-outcome (judge (table n (H .notes)) (H .count) e) refl)
+  match-after = rw same-judge (match-outcome (judge (viewOf (table n (H .notes)) (H .count)) q) refl)
 
-pub run : (n : ℕ) (es : List Event) (h : State) (H : History.History) → Match n h H
-    → (answers Step.after Step.answer h es ≡ answers (History.after n) (History.answer n) H es)
-    × Match n (final Step.after h es) (final (History.after n) H es)
+pub run : (n : ℕ) (qs : List Request) (h : State) (H : History.History) → Match n h H
+    → (answers Step.after Step.answer h qs ≡ answers (History.after n) (History.answer n) H qs)
+    × Match n (final Step.after h qs) (final (History.after n) H qs)
 run n [] h H m = (refl, m)
-run n (e ∷ es) h H m =
-    let r = run n es (Step.after h e) (History.after n H e) (match-after n h H m e) in
-    (ap₂ {C = List Step.Verdict} (λ x xs. x ∷ xs) (same-answer n h H m e) (r .0), r .1)
+run n (q ∷ qs) h H m =
+    let r = run n qs (Step.after h q) (History.after n H q) (match-after n h H m q) in
+    (ap₂ {C = List Step.Verdict} (λ x xs. x ∷ xs) (same-answer n h H m q) (r .0), r .1)
 
 pub kept-first : (n : ℕ) → Kept n 0 []
 unfolding rows derivations

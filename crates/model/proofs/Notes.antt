@@ -35,7 +35,7 @@ abbrev pub Sound : ℕ → List Note → Type 0
 Sound n [] = Unit {0}
 Sound n (w ∷ notes) = Fresh n w × (user w < floor n w) × Sound (floor n w) notes
 
-floor-below : (n : ℕ) (w : Note) → Fresh n w → floor n w ≤ n
+pub floor-below : (n : ℕ) (w : Note) → Fresh n w → floor n w ≤ n
 floor-below n (New b r) h = omega arith
 floor-below n (Accessed a u s) h = omega arith
 floor-below n (Dropped u) h = omega arith

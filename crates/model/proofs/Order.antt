@@ -1,8 +1,8 @@
--- A table in order stays in order under every event.
+-- A table in order stays in order under every request.
 -- Assumes nothing.
 use mathlib.Core.Path.{_≡_, refl, sym, ap, _∙_}
 use mathlib.Core.Logic.{_⊎_, inl, inr}
-use mathlib.Core.Bool.{Bool, true, false, not, cond, _&&_, or-true}
+use mathlib.Core.Bool.{Bool, true, false, not, cond, _&&_, _||_, or-true}
 use mathlib.Core.List.{List, [], _∷_, _++_, map, reverse, reverse-cons, append-assoc}
 use Prim.Native.Nat.{ℕ, zero, suc, _+_, _-_, _<_, _≤_}
 use native.Mathlib.Omega.{arith}
@@ -14,8 +14,8 @@ use Rattle.model.specs.declared.Span.{Span}
 use Rattle.model.specs.declared.Cap.{Cap}
 use Rattle.model.specs.declared.Tally.{Tally}
 use Rattle.model.specs.declared.NewName.{NewName}
-use Rattle.model.specs.declared.Event.{Event}
 use Rattle.model.specs.declared.Event.the-variants.{Create, Borrow, Read, Write, Drop}
+use Rattle.model.specs.Requests.{Request, Single, Group}
 use Rattle.model.specs.Lists.{consIf, filter, any, all, final}
 use Rattle.model.specs.declared.Access.{Access}
 use Rattle.model.specs.declared.Access.the-variants.{Reading, Writing}
@@ -24,14 +24,14 @@ use Rattle.model.specs.Derivation.{ancestry, inSubtree, onAncestry}
 use Rattle.model.specs.Strike.{Effect, isLower, isEnd, strike, reached, struck}
 use Rattle.model.specs.Step.{State}
 use Rattle.model.specs.Table.{row, emptyRow, span, derivation, derivations, named, liveRows, lentTable, lookup, isEmptyRow, liveRowsFirst, isRight, rowFitsParent, parentInOrder, rowInOrder, rowsInOrder, inOrder}
-use Rattle.model.specs.Refusals.{refusals, judge}
-use Rattle.model.specs.Effects.{lowered, revoke, afterAccess, root, child, rowsAfter, issuedAfter}
+use Rattle.model.specs.Refusals.{viewOf, refusals, judge}
+use Rattle.model.specs.Effects.{lowered, revoke, afterAccess, inSubtrees, rowsWithout, root, child, rowsAfter, issuedAfter}
 use Rattle.model.specs.Table
 use Rattle.model.specs.Refusals
 use Rattle.model.specs.Effects
 use Rattle.model.specs.Counts
 use Rattle.model.specs.Step
-use Rattle.model.proofs.Lists.{All, All-map, All-of, All-sub, All-mapped, All-unmap, test, clash, unless, passes, and-both, or-neither, filter-reverse, filter-none, any-map, any-kept}
+use Rattle.model.proofs.Lists.{All, All-map, All-of, All-sub, All-mapped, All-unmap, test, clash, unless, passes, and-both, or-neither, filter-reverse, filter-none, any-map, any-or, any-kept}
 use Rattle.model.proofs.Ancestries.{Falling, ancestry-step}
 use Rattle.model.proofs.Lent.{Named, live-lent, length-lent, lookup-named}
 use Rattle.model.proofs.Judged.{allowed, length-live, access-fits, next-fits}
@@ -148,8 +148,13 @@ module _ (bound : ℕ) (rows : List Cap) (n : Named rows) (h : rowsInOrder bound
   unfolding struck reached onAncestry
   struck-spreads is a u s = All-map _ _ (λ c e t. rw e (rw t (or-true (is (strike a s (ancestry (derivations rows) u) (derivation c ∷ ancestry (derivations rows) (c .parent .0))))))) rows steps
 
-  below-spreads : (u : ℕ) → Spreads (λ x. inSubtree u (ancestry (derivations rows) x)) rows
-  below-spreads u = All-map _ _ (λ c e t. rw e (rw t (or-true (eqb u (c .name .0))))) rows steps
+  -- a row is in the subtree of one of the names when it is one of them, or its parent is in one's
+  pub group-step : (names : List ℕ)
+      → All (λ c. inSubtrees names (ancestry (derivations rows) (c .name .0)) ≡ any (λ u. eqb u (c .name .0)) names || inSubtrees names (ancestry (derivations rows) (c .parent .0))) rows
+  group-step names = All-map _ _ (λ c e. rw e (any-or (λ u. eqb u (c .name .0)) (λ u. inSubtree u (ancestry (derivations rows) (c .parent .0))) names)) rows steps
+
+  dropped-spreads : (names : List ℕ) → Spreads (λ x. inSubtrees names (ancestry (derivations rows) x)) rows
+  dropped-spreads names = All-map _ _ (λ c e t. rw e (rw t (or-true (any (λ u. eqb u (c .name .0)) names)))) rows (group-step names)
 
 -- ---- rows taken away with all below them
 
@@ -286,32 +291,34 @@ ordered t i h =
     record { few = r .0; rest-is-empty = r .1; names-left = q .1; rise = p .1 }
 
 module _ (t : List Cap) (i : ℕ) (o : Ordered t i) where
-  next-named : (e : Event) → Named (rowsAfter i (liveRows t) e)
-  unfolding rowsAfter
-  next-named (Create w s r) = (ne-eqb 0 (suc i) (λ (q : 0 ≡ suc i). omega arith), access-named (liveRows t) (live-named t) Writing (suc i) s)
-  next-named (Borrow w u s r) = (ne-eqb 0 (suc i) (λ (q : 0 ≡ suc i). omega arith), live-named t)
-  next-named (Read u s) = access-named (liveRows t) (live-named t) Reading (u .0) s
-  next-named (Write u s) = access-named (liveRows t) (live-named t) Writing (u .0) s
-  next-named (Drop u) = revoke-named _ _ (liveRows t) (live-named t)
+  next-named : (q : Request) → Named (rowsAfter i (liveRows t) q)
+  unfolding rowsAfter rowsWithout
+  next-named (Single (Create w s r)) = (ne-eqb 0 (suc i) (λ (q : 0 ≡ suc i). omega arith), access-named (liveRows t) (live-named t) Writing (suc i) s)
+  next-named (Single (Borrow w u s r)) = (ne-eqb 0 (suc i) (λ (q : 0 ≡ suc i). omega arith), live-named t)
+  next-named (Single (Read u s)) = access-named (liveRows t) (live-named t) Reading (u .0) s
+  next-named (Single (Write u s)) = access-named (liveRows t) (live-named t) Writing (u .0) s
+  next-named (Single (Drop u)) = revoke-named _ _ (liveRows t) (live-named t)
+  next-named (Group names) = revoke-named _ _ (liveRows t) (live-named t)
 
-  names-enough : (e : Event) → judge t i e ≡ 0 → leb (issuedAfter i e) 1000000 ≡ true
+  names-enough : (q : Request) → judge (viewOf t i) q ≡ 0 → leb (issuedAfter i q) 1000000 ≡ true
   unfolding refusals
-  names-enough (Create w s r) h = le-leb (suc i) 1000000 (leb-false 1000000 i (allowed t i (Create w s r) h 9))
-  names-enough (Borrow w u s r) h = le-leb (suc i) 1000000 (leb-false 1000000 i (allowed t i (Borrow w u s r) h 9))
-  names-enough (Read u s) h = o .names-left
-  names-enough (Write u s) h = o .names-left
-  names-enough (Drop u) h = o .names-left
+  names-enough (Single (Create w s r)) h = le-leb (suc i) 1000000 (leb-false 1000000 i (allowed t i (Single (Create w s r)) h 9))
+  names-enough (Single (Borrow w u s r)) h = le-leb (suc i) 1000000 (leb-false 1000000 i (allowed t i (Single (Borrow w u s r)) h 9))
+  names-enough (Single (Read u s)) h = o .names-left
+  names-enough (Single (Write u s)) h = o .names-left
+  names-enough (Single (Drop u)) h = o .names-left
+  names-enough (Group names) h = o .names-left
 
-  rowInOrder-root : (w : NewName) (s : Span) (r : ℕ) → judge t i (Create w s r) ≡ 0 → (earlier : List Cap) → rowInOrder (row (root i s) r 1) earlier ≡ true
+  rowInOrder-root : (w : NewName) (s : Span) (r : ℕ) → judge (viewOf t i) (Single (Create w s r)) ≡ 0 → (earlier : List Cap) → rowInOrder (row (root i s) r 1) earlier ≡ true
   unfolding rowInOrder parentInOrder refusals
   rowInOrder-root w s r h earlier =
-      let p = allowed t i (Create w s r) h in
+      let p = allowed t i (Single (Create w s r)) h in
       rw (not-false (legal s) (p 3), not-false (isRight r) (p 2))
 
-  rowInOrder-child : (w : NewName) (u : Name) (s : Span) (r : ℕ) → judge t i (Borrow w u s r) ≡ 0 → rowInOrder (row (child i u s) r (suc (lookup (u .0) (liveRows t) .depth))) (liveRows t) ≡ true
+  rowInOrder-child : (w : NewName) (u : Name) (s : Span) (r : ℕ) → judge (viewOf t i) (Single (Borrow w u s r)) ≡ 0 → rowInOrder (row (child i u s) r (suc (lookup (u .0) (liveRows t) .depth))) (liveRows t) ≡ true
   unfolding rowInOrder parentInOrder rowFitsParent refusals
   rowInOrder-child w u s r h =
-      let p = allowed t i (Borrow w u s r) h in
+      let p = allowed t i (Single (Borrow w u s r)) h in
       let c : Cap = lookup (u .0) (liveRows t) in
       rw (
         not-false (legal s) (p 3),
@@ -327,45 +334,50 @@ module _ (t : List Cap) (i : ℕ) (o : Ordered t i) where
   used-rowsInOrder : (a : Access) (u : ℕ) (s : Span) → rowsInOrder (suc i) (afterAccess a u s (liveRows t)) ≡ true
   used-rowsInOrder = access-rowsInOrder (suc i) (liveRows t) (live-named t) (o .rise)
 
-  next-rowsInOrder : (e : Event) → judge t i e ≡ 0 → rowsInOrder (suc (issuedAfter i e)) (rowsAfter i (liveRows t) e) ≡ true
+  without-rowsInOrder : (names : List ℕ) → rowsInOrder (suc i) (rowsWithout names (liveRows t)) ≡ true
+  unfolding rowsWithout
+  without-rowsInOrder names = revoke-rowsInOrder _ _ (suc i) (liveRows t) (dropped-spreads (suc i) (liveRows t) (live-named t) (o .rise) names) (All-of _ (λ c e. e) (liveRows t)) (o .rise)
+
+  next-rowsInOrder : (q : Request) → judge (viewOf t i) q ≡ 0 → rowsInOrder (suc (issuedAfter i q)) (rowsAfter i (liveRows t) q) ≡ true
   unfolding rowsAfter refusals
-  next-rowsInOrder (Create w s r) h =
+  next-rowsInOrder (Single (Create w s r)) h =
       let left : List Cap = afterAccess Writing (suc i) s (liveRows t) in
       risen (suc (suc i)) (row (root i s) r 1) left (record { below-bound = omega arith; in-place = rowInOrder-root w s r h left; rest = used-rowsInOrder Writing (suc i) s })
-  next-rowsInOrder (Borrow w u s r) h =
+  next-rowsInOrder (Single (Borrow w u s r)) h =
       risen (suc (suc i)) (row (child i u s) r (suc (lookup (u .0) (liveRows t) .depth))) (liveRows t) (record { below-bound = omega arith; in-place = rowInOrder-child w u s r h; rest = o .rise })
-  next-rowsInOrder (Read u s) h = used-rowsInOrder Reading (u .0) s
-  next-rowsInOrder (Write u s) h = used-rowsInOrder Writing (u .0) s
-  next-rowsInOrder (Drop u) h = revoke-rowsInOrder _ _ (suc i) (liveRows t) (below-spreads (suc i) (liveRows t) (live-named t) (o .rise) (u .0)) (All-of _ (λ c e. e) (liveRows t)) (o .rise)
+  next-rowsInOrder (Single (Read u s)) h = used-rowsInOrder Reading (u .0) s
+  next-rowsInOrder (Single (Write u s)) h = used-rowsInOrder Writing (u .0) s
+  next-rowsInOrder (Single (Drop u)) h = without-rowsInOrder (u .0 ∷ [])
+  next-rowsInOrder (Group names) h = without-rowsInOrder names
 
   -- a table as long as t with rows that fit and rise
   lent-inOrder : (rows : List Cap) (j : ℕ) → length rows ≤ length t → Named rows → leb j 1000000 ≡ true → rowsInOrder (suc j) rows ≡ true → inOrder (lentTable (length t) rows) j ≡ true
   unfolding inOrder
   lent-inOrder rows j l n b h = rw (length-lent (length t) rows l, o .few, liveRowsFirst-lent (length t) rows n, b, live-lent (length t) rows n) h
 
-  order-next : (e : Event) → judge t i e ≡ 0 → inOrder (lentTable (length t) (rowsAfter i (liveRows t) e)) (issuedAfter i e) ≡ true
-  order-next e h = lent-inOrder (rowsAfter i (liveRows t) e) (issuedAfter i e) (next-fits t i e h) (next-named e) (names-enough e h) (next-rowsInOrder e h)
+  order-next : (q : Request) → judge (viewOf t i) q ≡ 0 → inOrder (lentTable (length t) (rowsAfter i (liveRows t) q)) (issuedAfter i q) ≡ true
+  order-next q h = lent-inOrder (rowsAfter i (liveRows t) q) (issuedAfter i q) (next-fits t i q h) (next-named q) (names-enough q h) (next-rowsInOrder q h)
 
   -- an access through any name leaves a table in order; so does the half of a create that takes rows away
   pub access-inOrder : (a : Access) (u : ℕ) (s : Span) → inOrder (lentTable (length t) (afterAccess a u s (liveRows t))) i ≡ true
   access-inOrder a u s =
       lent-inOrder (afterAccess a u s (liveRows t)) i (omega (arith, access-fits a u s (liveRows t), length-live t)) (access-named (liveRows t) (live-named t) a u s) (o .names-left) (used-rowsInOrder a u s)
 
-order-outcome : (h : State) (e : Event) (j : ℕ) → judge (h .table) (h .tally .issued) e ≡ j → inOrder (h .table) (h .tally .issued) ≡ true
-    → inOrder (Step.outcome j h e .table) (Step.outcome j h e .tally .issued) ≡ true
-order-outcome h e zero q o =
-    rw (counted-issued e (h .tally)) (order-next (h .table) (h .tally .issued) (ordered (h .table) (h .tally .issued) o) e q)
-order-outcome h e (suc zero) q o = o
-order-outcome h e (suc (suc j)) q o = o
+order-outcome : (h : State) (q : Request) (j : ℕ) → judge (viewOf (h .table) (h .tally .issued)) q ≡ j → inOrder (h .table) (h .tally .issued) ≡ true
+    → inOrder (Step.outcome j h q .table) (Step.outcome j h q .tally .issued) ≡ true
+order-outcome h q zero z o =
+    rw (counted-issued q (h .tally)) (order-next (h .table) (h .tally .issued) (ordered (h .table) (h .tally .issued) o) q z)
+order-outcome h q (suc zero) z o = o
+order-outcome h q (suc (suc j)) z o = o
 
--- A table in order is in order after every event.
-pub order-after : (h : State) (e : Event) → inOrder (h .table) (h .tally .issued) ≡ true → inOrder (Step.after h e .table) (Step.after h e .tally .issued) ≡ true
+-- A table in order is in order after every request.
+pub order-after : (h : State) (q : Request) → inOrder (h .table) (h .tally .issued) ≡ true → inOrder (Step.after h q .table) (Step.after h q .tally .issued) ≡ true
 unfolding Step.after
-order-after h e = order-outcome h e (judge (h .table) (h .tally .issued) e) refl
+order-after h q = order-outcome h q (judge (viewOf (h .table) (h .tally .issued)) q) refl
 
-pub order-final : (es : List Event) (h : State) → inOrder (h .table) (h .tally .issued) ≡ true → inOrder (final Step.after h es .table) (final Step.after h es .tally .issued) ≡ true
+pub order-final : (qs : List Request) (h : State) → inOrder (h .table) (h .tally .issued) ≡ true → inOrder (final Step.after h qs .table) (final Step.after h qs .tally .issued) ≡ true
 order-final [] h o = o
-order-final (e ∷ es) h o = order-final es (Step.after h e) (order-after h e o)
+order-final (q ∷ qs) h o = order-final qs (Step.after h q) (order-after h q o)
 
 -- Zero rows are in order, up to 1,024 of them.
 pub order-fresh : (n : ℕ) (t : Tally) → n ≤ 1024 → t .issued ≡ 0 → inOrder (Step.initial n t .table) (t .issued) ≡ true

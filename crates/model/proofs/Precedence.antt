@@ -15,9 +15,9 @@ use Rattle.model.specs.declared.Cap.{Cap}
 use Rattle.model.specs.declared.Event.{Event}
 use Rattle.model.specs.declared.Event.the-variants.{Create, Borrow, Read, Write, Drop}
 use Rattle.model.specs.Lists.{filter, any, all, first}
+use Rattle.model.specs.Requests.{Request, Single, Group}
 use Rattle.model.specs.Table.{liveRows}
-use Rattle.model.specs.Refusals.{disordered, standing, precedence, place, refusals, judge}
-use Rattle.model.specs.Together.{misgrouped, standings, groupRefusals, judgeGroup}
+use Rattle.model.specs.Refusals.{viewOf, disordered, misgrouped, standing, standings, precedence, place, refusals, judge}
 use Rattle.model.proofs.Lists.{listed, first-none, test, clash, and-both, all-append}
 
 -- ---- checks whose places rise, from above a bound
@@ -127,9 +127,9 @@ first-lowest-repeated cs ds j rises some again l = listed-append cs ds j (go (fi
     go zero e = first-none cs some e j
     go (suc k) e = first-lowest cs 0 j rises (rw (first-append cs ds k e) at l)
 
--- ---- the refusals of an event
+-- ---- the refusals of a request
 
-rising : (t : List Cap) (i : ℕ) (e : Event) → risesFrom 0 (refusals t i e) ≡ true
+rising : (t : List Cap) (i : ℕ) (e : Event) → risesFrom 0 (refusals (viewOf t i) (Single e)) ≡ true
 unfolding refusals
 rising t i (Create w s r) = refl
 rising t i (Borrow w u s r) = refl
@@ -137,25 +137,7 @@ rising t i (Read u s) = refl
 rising t i (Write u s) = refl
 rising t i (Drop u) = refl
 
--- A refusal's condition holds.
-pub given-holds : (t : List Cap) (i : ℕ) (e : Event) (k : ℕ) → judge t i e ≡ suc k → listed (suc k) (refusals t i e) ≡ true
-unfolding judge
-given-holds t i e k h = first-holds (refusals t i e) 0 k (rising t i e) h
-
--- No condition that comes before it holds; none at all where the event is allowed, since 0 comes after all.
-pub given-first : (t : List Cap) (i : ℕ) (e : Event) (j : ℕ) → place j < place (judge t i e) → listed j (refusals t i e) ≡ false
-unfolding judge
-given-first t i e j l = first-lowest (refusals t i e) 0 j (rising t i e) l
-
--- ---- the refusals of a group
-
--- Some condition listed under the number holds: 4 and 5 are listed once for each name.
-pub given-holds-group : (t : List Cap) (i : ℕ) (names : List ℕ) (k : ℕ) → judgeGroup t i names ≡ suc k
-    → any (λ c. eqb (suc k) (c .0) && c .1) (groupRefusals t i names) ≡ true
-unfolding judgeGroup
-given-holds-group t i names k h = first-some (groupRefusals t i names) k h
-
--- the checks of the later names repeat the numbers of the first one's
+-- the checks of the later names of a group repeat the numbers of the first one's
 standings-repeat : (cs : List (ℕ × Bool)) (rows : List Cap) (i : ℕ) (names : List ℕ) → ((u : Name) → all (λ d. isNumber cs (d .0)) (standing rows i u) ≡ true)
     → all (λ d. isNumber cs (d .0)) (standings rows i names) ≡ true
 unfolding standings
@@ -165,11 +147,23 @@ standings-repeat cs rows i (u ∷ names) h =
     all-append again (standing rows i (record { 0 = u })) (standings rows i names)
     ∙ rw (h (record { 0 = u }), standings-repeat cs rows i names h)
 
--- No condition that comes before it holds, of 4 and 5 that of the first name; none at all where the group is allowed.
-pub given-first-group : (t : List Cap) (i : ℕ) (names : List ℕ) (j : ℕ) → place j < place (judgeGroup t i names) → listed j (groupRefusals t i names) ≡ false
-unfolding judgeGroup groupRefusals standings
-given-first-group t i [] j l = first-lowest (groupRefusals t i []) 0 j refl l
-given-first-group t i (u ∷ names) j l =
+-- A refusal's condition holds: of an event the one that is listed under its number, of a group some one, since 4 and 5 are listed once for
+-- each name.
+pub given-holds : (t : List Cap) (i : ℕ) (e : Event) (k : ℕ) → judge (viewOf t i) (Single e) ≡ suc k → listed (suc k) (refusals (viewOf t i) (Single e)) ≡ true
+unfolding judge
+given-holds t i e k h = first-holds (refusals (viewOf t i) (Single e)) 0 k (rising t i e) h
+
+pub given-some : (t : List Cap) (i : ℕ) (q : Request) (k : ℕ) → judge (viewOf t i) q ≡ suc k → any (λ c. eqb (suc k) (c .0) && c .1) (refusals (viewOf t i) q) ≡ true
+unfolding judge
+given-some t i q k h = first-some (refusals (viewOf t i) q) k h
+
+-- No condition that comes before it holds, of 4 and 5 of a group that of the first name; none at all where the request is allowed, since
+-- 0 comes after all.
+pub given-first : (t : List Cap) (i : ℕ) (q : Request) (j : ℕ) → place j < place (judge (viewOf t i) q) → listed j (refusals (viewOf t i) q) ≡ false
+unfolding judge refusals standings
+given-first t i (Single e) j l = first-lowest (refusals (viewOf t i) (Single e)) 0 j (rising t i e) l
+given-first t i (Group []) j l = first-lowest (refusals (viewOf t i) (Group [])) 0 j refl l
+given-first t i (Group (u ∷ names)) j l =
     let front : List (ℕ × Bool) = (1, disordered t i) ∷ (13, misgrouped (u ∷ names)) ∷ standing (liveRows t) i (record { 0 = u }) in
     first-lowest-repeated front (standings (liveRows t) i names) j refl refl (standings-repeat front (liveRows t) i names (λ v. refl)) l
 

@@ -1,43 +1,41 @@
--- Card 5, "frames dropped together": names dropped together leave what single drops in falling order of name leave.
+-- Card 5, "frames dropped together": how a group is judged, and that it leaves what single drops in falling order of name leave.
 -- Assumes nothing.
-use mathlib.Core.Path.{_≡_, refl, sym, ap, _∙_}
+use mathlib.Core.Path.{_≡_, refl, sym, ap, ap₂, _∙_}
 use mathlib.Core.Bool.{Bool, true, false, not, cond, _&&_, _||_, or-true, or-false}
-use mathlib.Core.List.{List, [], _∷_, _++_, map-append, reverse, reverse-cons}
+use mathlib.Core.List.{List, [], _∷_, _++_, map, map-append, reverse, reverse-cons}
 use Prim.Native.Nat.{ℕ, zero, suc, _<_, _≤_}
 use native.Mathlib.Omega.{arith}
-use lib.Dec.{eqb, ltb, leb}
+use lib.Dec.{eqb, ltb}
 use lib.ListN.{length}
-use borrow.Author.Tests.{eqb-true, eq-eqb, ne-eqb, ltb-true, not-true, not-false}
+use borrow.Author.Tests.{eqb-true, eq-eqb, ne-eqb, not-true, not-false}
 use Rattle.model.specs.declared.Cap.{Cap}
-use Rattle.model.specs.declared.Event.{Event}
 use Rattle.model.specs.declared.Event.the-variants.{Drop}
 use Rattle.model.specs.Lists.{filter, any, all, first, final, answers}
+use Rattle.model.specs.Requests.{Request, Single, Group, risesAbove, risesStrictly, isGroup, singleDrops}
 use Rattle.model.specs.Derivation.{ancestry, inSubtree}
 use Rattle.model.specs.Table.{derivation, derivations, named, liveRows, lentTable, rowsInOrder, inOrder}
-use Rattle.model.specs.Refusals.{standing, refusals, judge}
-use Rattle.model.specs.Effects.{revoke, rowsAfter}
-use Rattle.model.specs.Counts.{countRefused}
+use Rattle.model.specs.Refusals.{viewOf, standing, standings, refusals, judge}
+use Rattle.model.specs.Effects.{revoke, inSubtrees, rowsWithout, rowsAfter}
 use Rattle.model.specs.Step.{State, isAllowed, answer, outcome, after}
-use Rattle.model.specs.History.{History, noteOf}
+use Rattle.model.specs.History.{History, Dropped, notesOf}
 use Rattle.model.specs.History
-use Rattle.model.specs.Together.{Request, Single, Group, risesAbove, risesStrictly, isGroup, standings, groupRefusals, judgeGroup, inSubtrees, rowsWithout, groupOutcome, answerRequest, afterRequest, groupNoted, answerNoted, afterNoted, singleDrops}
-use Rattle.model.proofs.Lists.{All, All-map, All-of, All-sub, and-both, or-neither, and-neither, any-false, any-kept, any-or, passes, filter-cong, filter-filter, filter-map, filter-all, length-filter, map-id, first-zero, all-append, final-append, answers-append}
+use Rattle.model.proofs.Lists.{All, All-map, All-of, All-sub, and-both, or-neither, and-neither, any-false, any-kept, passes, filter-cong, filter-filter, filter-map, filter-all, length-filter, map-id, all-append, final-append, answers-append}
 use Rattle.model.proofs.Ancestries.{Closed, ancestry-kept, ancestry-upto}
 use Rattle.model.proofs.Lent.{Named, live-lent, length-lent}
-use Rattle.model.proofs.Judged.{length-live}
-use Rattle.model.proofs.Frame
-use Rattle.model.proofs.Order.{steps, rowsInOrder-falling, live-named, ordered, order-after, order-final}
+use Rattle.model.proofs.Judged.{allowed, Stands, Rising, group-rises, group-stands, length-live}
+use Rattle.model.proofs.Order.{group-step, rowsInOrder-falling, live-named, ordered, order-final}
 use Rattle.model.proofs.Rows.{lent-live}
+use Rattle.model.proofs.Match.{Match, same-judge, run}
 
 -- ---- the number given
 
 -- 1 comes before all, and 13 next.
-pub disordered-first : (t : List Cap) (issued : ℕ) (names : List ℕ) → inOrder t issued ≡ false → judgeGroup t issued names ≡ 1
-unfolding judgeGroup groupRefusals
+pub disordered-first : (t : List Cap) (issued : ℕ) (names : List ℕ) → inOrder t issued ≡ false → judge (viewOf t issued) (Group names) ≡ 1
+unfolding judge refusals
 disordered-first t issued names d = rw d
 
-pub misgrouped-next : (t : List Cap) (issued : ℕ) (names : List ℕ) → inOrder t issued ≡ true → isGroup names ≡ false → judgeGroup t issued names ≡ 13
-unfolding judgeGroup groupRefusals
+pub misgrouped-next : (t : List Cap) (issued : ℕ) (names : List ℕ) → inOrder t issued ≡ true → isGroup names ≡ false → judge (viewOf t issued) (Group names) ≡ 13
+unfolding judge refusals
 misgrouped-next t issued names o g = rw (o, g)
 
 -- Then "the first name refused gives the number", each judged on the same table.
@@ -85,69 +83,16 @@ module _ (rows : List Cap) (issued : ℕ) where
 
 -- It is the number that a single drop of that name gets on the same table.
 pub first-refused : (t : List Cap) (issued : ℕ) (before : List ℕ) (x : ℕ) (later : List ℕ) (k : ℕ) → inOrder t issued ≡ true → isGroup (before ++ (x ∷ later)) ≡ true
-    → All (λ u. judge t issued (Drop (record { 0 = u })) ≡ 0) before → judge t issued (Drop (record { 0 = x })) ≡ suc k → judgeGroup t issued (before ++ (x ∷ later)) ≡ suc k
-unfolding judgeGroup groupRefusals judge refusals
+    → All (λ u. judge (viewOf t issued) (Single (Drop (record { 0 = u }))) ≡ 0) before → judge (viewOf t issued) (Single (Drop (record { 0 = x }))) ≡ suc k → judge (viewOf t issued) (Group (before ++ (x ∷ later))) ≡ suc k
+unfolding judge refusals
 first-refused t issued before x later k o g a z =
     rw (o, g) (in-turn (liveRows t) issued before x later k (All-map _ _ (λ u e. rw o at e) before a) (rw o at z))
 
 -- Where none is refused, the group is allowed.
-pub none-refused : (t : List Cap) (issued : ℕ) (names : List ℕ) → inOrder t issued ≡ true → isGroup names ≡ true → All (λ u. judge t issued (Drop (record { 0 = u })) ≡ 0) names
-    → judgeGroup t issued names ≡ 0
-unfolding judgeGroup groupRefusals judge refusals
+pub none-refused : (t : List Cap) (issued : ℕ) (names : List ℕ) → inOrder t issued ≡ true → isGroup names ≡ true → All (λ u. judge (viewOf t issued) (Single (Drop (record { 0 = u }))) ≡ 0) names
+    → judge (viewOf t issued) (Group names) ≡ 0
+unfolding judge refusals
 none-refused t issued names o g a = rw (o, g) (all-passed (liveRows t) issued names (All-map _ _ (λ u e. rw o at e) names a))
-
--- ---- either all are dropped or none
-
-module _ (h : State) (q : Request) where
-  -- Refusal 1 changes nothing.
-  pub disordered-keeps : answerRequest h q .refusal ≡ 1 → afterRequest h q ≡ h
-  unfolding answerRequest afterRequest
-  disordered-keeps = go q
-    where
-      go : (q : Request) → answerRequest h q .refusal ≡ 1 → afterRequest h q ≡ h
-      go (Single e) r = Frame.disordered-keeps h e r
-      go (Group names) r = ap (λ j. groupOutcome j h names) r
-
-  -- A refused request leaves the table unchanged.
-  pub refused-table : (k : ℕ) → answerRequest h q .refusal ≡ suc k → afterRequest h q .table ≡ h .table
-  unfolding answerRequest afterRequest
-  refused-table k = go q
-    where
-      kept : (k : ℕ) (names : List ℕ) → groupOutcome (suc k) h names .table ≡ h .table
-      kept zero names = refl
-      kept (suc k) names = refl
-
-      go : (q : Request) → answerRequest h q .refusal ≡ suc k → afterRequest h q .table ≡ h .table
-      go (Single e) r = Frame.refused-table h e k r
-      go (Group names) r = ap (λ j. groupOutcome j h names .table) r ∙ kept k names
-
-  -- A refusal other than 1 raises the refused count once, short of its ceiling.
-  pub refused-tally : (k : ℕ) → answerRequest h q .refusal ≡ suc (suc k) → afterRequest h q .tally ≡ countRefused (h .tally)
-  unfolding answerRequest afterRequest
-  refused-tally k = go q
-    where
-      go : (q : Request) → answerRequest h q .refusal ≡ suc (suc k) → afterRequest h q .tally ≡ countRefused (h .tally)
-      go (Single e) r = Frame.refused-tally h e k r
-      go (Group names) r = ap (λ j. groupOutcome j h names .tally) r
-
--- ---- names that rise
-
-abbrev Rising : List ℕ → Type 0
-Rising [] = Unit {0}
-Rising (x ∷ names) = All (λ u. x < u) names × Rising names
-
-rising : (names : List ℕ) → risesStrictly names ≡ true → Rising names
-unfolding risesStrictly risesAbove
-rising [] h = tt
-rising (x ∷ names) h = above x names h
-  where
-    above : (x : ℕ) (names : List ℕ) → risesAbove x names ≡ true → Rising (x ∷ names)
-    above x [] h = (tt, tt)
-    above x (y ∷ names) h =
-        let p = and-both (ltb x y) (risesAbove y names) h in
-        let l = ltb-true x y (p .0) in
-        let r = above y names (p .1) in
-        ((l, All-map _ _ (λ u k. omega arith) names (r .0)), r)
 
 -- ---- rows in order without some names
 
@@ -161,11 +106,6 @@ pub group-none : (names : List ℕ) → inSubtrees names [] ≡ false
 group-none names = any-false (λ u. inSubtree u []) names (All-of _ (λ u. refl) names)
 
 module _ (bound : ℕ) (rows : List Cap) (n : Named rows) (h : rowsInOrder bound rows ≡ true) where
-  -- a row is in the subtree of one of the names when it is one of them, or its parent is in one's
-  pub group-step : (names : List ℕ)
-      → All (λ c. inSubtrees names (ancestry (derivations rows) (c .name .0)) ≡ any (λ u. eqb u (c .name .0)) names || inSubtrees names (ancestry (derivations rows) (c .parent .0))) rows
-  group-step names = All-map _ _ (λ c e. rw e (any-or (λ u. eqb u (c .name .0)) (λ u. inSubtree u (ancestry (derivations rows) (c .parent .0))) names)) rows (steps bound rows n h)
-
   module _ (names : List ℕ) where
     abbrev kept : ℕ → Bool
     kept x = not (inSubtrees names (ancestry (derivations rows) x))
@@ -174,7 +114,7 @@ module _ (bound : ℕ) (rows : List Cap) (n : Named rows) (h : rowsInOrder bound
     left = filter (λ c. kept (c .name .0)) rows
 
     parents-kept : Closed kept (derivations rows)
-    parents-kept = mapped rows (group-step names)
+    parents-kept = mapped rows (group-step bound rows n h names)
       where
         up : (c : Cap) → inSubtrees names (ancestry (derivations rows) (c .name .0)) ≡ any (λ u. eqb u (c .name .0)) names || inSubtrees names (ancestry (derivations rows) (c .parent .0))
             → kept (c .name .0) ≡ true → eqb (c .parent .0) 0 || kept (c .parent .0) ≡ true
@@ -193,13 +133,13 @@ module _ (bound : ℕ) (rows : List Cap) (n : Named rows) (h : rowsInOrder bound
         (ancestry-kept kept bound (derivations rows) (rowsInOrder-falling bound rows n h) parents-kept x (rw k (or-true (eqb x 0))))
 
     -- one more name dropped from what is left
-    pub without-more : (issued x : ℕ) → rowsAfter issued (rowsWithout names rows) (Drop (record { 0 = x })) ≡ rowsWithout (x ∷ names) rows
-    unfolding rowsAfter rowsWithout revoke
-    without-more issued x =
-        ap (λ l. rowsAfter issued l (Drop (record { 0 = x }))) (without-left names rows)
+    pub without-more : (x : ℕ) → rowsWithout (x ∷ []) (rowsWithout names rows) ≡ rowsWithout (x ∷ names) rows
+    unfolding rowsWithout revoke
+    without-more x =
+        ap (rowsWithout (x ∷ [])) (without-left names rows)
         ∙ map-id _
-        ∙ filter-cong (λ c. not (inSubtree x (ancestry (derivations left) (c .name .0)))) (λ c. not (inSubtree x (ancestry (derivations rows) (c .name .0)))) left
-        (All-map _ _ (λ c k. ap (λ a. not (inSubtree x a)) (ancestry-left (c .name .0) k)) left (passes (λ c. kept (c .name .0)) rows))
+        ∙ filter-cong (λ c. not (inSubtrees (x ∷ []) (ancestry (derivations left) (c .name .0)))) (λ c. not (inSubtree x (ancestry (derivations rows) (c .name .0)))) left
+        (All-map _ _ (λ c k. ap not (or-false (inSubtree x (ancestry (derivations left) (c .name .0))) ∙ ap (inSubtree x) (ancestry-left (c .name .0) k))) left (passes (λ c. kept (c .name .0)) rows))
         ∙ filter-filter (λ c. kept (c .name .0)) (λ c. not (inSubtree x (ancestry (derivations rows) (c .name .0)))) rows
         ∙ filter-cong _ _ rows (All-of _ (λ c. sym (and-neither true (inSubtree x (ancestry (derivations rows) (c .name .0))) (inSubtrees names (ancestry (derivations rows) (c .name .0))))) rows)
         ∙ sym (map-id _)
@@ -214,47 +154,10 @@ module _ (bound : ℕ) (rows : List Cap) (n : Named rows) (h : rowsInOrder bound
     pub smaller-stays : (x : ℕ) → All (λ u. x < u) names → any (named x) (rowsWithout names rows) ≡ any (named x) rows
     smaller-stays x a = rw (without-left names rows) (any-kept (λ c. c .name .0) kept x (smaller-kept x a) rows)
 
--- ---- an allowed group
-
--- the name is issued, and its capability lives
-abbrev Stands : List Cap → ℕ → ℕ → Type 0
-Stands rows issued u = (eqb u 0 || ltb issued u ≡ false) × (any (named u) rows ≡ true)
-
-pub record Allowed (t : List Cap) (issued : ℕ) (names : List ℕ) : Type 0 where
-  pub in-order : inOrder t issued ≡ true
-  pub is-group : isGroup names ≡ true
-  pub all-stand : All (Stands (liveRows t) issued) names
-
-numbered : (rows : List Cap) (issued : ℕ) (names : List ℕ) → all (λ c. ltb 0 (c .0)) (standings rows issued names) ≡ true
-unfolding standings
-numbered rows issued [] = refl
-numbered rows issued (u ∷ names) = numbered _ issued names
-
-module _ (rows : List Cap) (issued : ℕ) where
-  standing-all : (names : List ℕ) → all (λ c. not (c .1)) (standings rows issued names) ≡ true → All (Stands rows issued) names
-  unfolding standings
-  standing-all [] h = tt
-  standing-all (u ∷ names) h =
-      let p = and-both (not (eqb u 0 || ltb issued u)) (not (not (any (named u) rows)) && all (λ c. not (c .1)) (standings rows issued names)) h in
-      let q = and-both (not (not (any (named u) rows))) (all (λ c. not (c .1)) (standings rows issued names)) (p .1) in
-      ((not-true (eqb u 0 || ltb issued u) (p .0), not-false (any (named u) rows) (not-true (not (any (named u) rows)) (q .0))), standing-all names (q .1))
-
-pub allowed : (t : List Cap) (issued : ℕ) (names : List ℕ) → judgeGroup t issued names ≡ 0 → Allowed t issued names
-unfolding judgeGroup groupRefusals
-allowed t issued names z =
-    let h = sym (first-zero (groupRefusals t issued names) (numbered (liveRows t) issued names)) ∙ eq-eqb (first (groupRefusals t issued names)) 0 z in
-    let p = and-both (not (not (inOrder t issued))) (not (not (isGroup names)) && all (λ c. not (c .1)) (standings (liveRows t) issued names)) h in
-    let q = and-both (not (not (isGroup names))) (all (λ c. not (c .1)) (standings (liveRows t) issued names)) (p .1) in
-    record {
-      in-order = not-false (inOrder t issued) (not-true (not (inOrder t issued)) (p .0));
-      is-group = not-false (isGroup names) (not-true (not (isGroup names)) (q .0));
-      all-stand = standing-all (liveRows t) issued names (q .1);
-    }
-
 -- ---- single drops in falling order
 
-pub singleDrops-cons : (x : ℕ) (names : List ℕ) → singleDrops (x ∷ names) ≡ singleDrops names ++ (Drop (record { 0 = x }) ∷ [])
-singleDrops-cons x names = rw (reverse-cons x names) (map-append (λ u. Drop (record { 0 = u })) (reverse names) (x ∷ []))
+pub singleDrops-cons : (x : ℕ) (names : List ℕ) → singleDrops (x ∷ names) ≡ singleDrops names ++ (Single (Drop (record { 0 = x })) ∷ [])
+singleDrops-cons x names = rw (reverse-cons x names) (map-append (λ u. Single (Drop (record { 0 = u }))) (reverse names) (x ∷ []))
 
 -- the rows that a group leaves fit where they stood
 module _ (t : List Cap) (names : List ℕ) where
@@ -282,21 +185,21 @@ module _ (h : State) (o : inOrder (h .table) (h .tally .issued) ≡ true) where
     abbrev then : State
     then = final after h (singleDrops names)
 
-    drop-allowed : judge (then .table) (then .tally .issued) (Drop (record { 0 = x })) ≡ 0
+    drop-allowed : judge (viewOf (then .table) (then .tally .issued)) (Single (Drop (record { 0 = x }))) ≡ 0
     unfolding judge refusals
     drop-allowed =
         rw (order-final (singleDrops names) h o, s .table-left, s .issued-left, live-lent (length (h .table)) (rowsWithout names rows) (without-named (h .table) names))
         (rw (stands .0, smaller-stays (suc (h .tally .issued)) rows (live-named (h .table)) (ordered (h .table) (h .tally .issued) o .rise) names x below, stands .1))
 
-    abbrev drop : List Event
-    drop = Drop (record { 0 = x }) ∷ []
+    abbrev drop : List Request
+    drop = Single (Drop (record { 0 = x })) ∷ []
 
-    answer-allowed : isAllowed (answer then (Drop (record { 0 = x }))) ≡ true
+    answer-allowed : isAllowed (answer then (Single (Drop (record { 0 = x })))) ≡ true
     unfolding answer
     answer-allowed = eq-eqb _ 0 drop-allowed
 
-    left-then : after then (Drop (record { 0 = x })) .table ≡ lentTable (length (h .table)) (rowsWithout (x ∷ names) rows)
-    unfolding after
+    left-then : after then (Single (Drop (record { 0 = x }))) .table ≡ lentTable (length (h .table)) (rowsWithout (x ∷ names) rows)
+    unfolding after rowsAfter
     left-then =
         rw (
           drop-allowed,
@@ -304,9 +207,9 @@ module _ (h : State) (o : inOrder (h .table) (h .tally .issued) ≡ true) where
           length-lent (length (h .table)) (rowsWithout names rows) (without-fits (h .table) names),
           live-lent (length (h .table)) (rowsWithout names rows) (without-named (h .table) names),
         )
-        (ap (lentTable (length (h .table))) (without-more (suc (h .tally .issued)) rows (live-named (h .table)) (ordered (h .table) (h .tally .issued) o .rise) names (then .tally .issued) x))
+        (ap (lentTable (length (h .table))) (without-more (suc (h .tally .issued)) rows (live-named (h .table)) (ordered (h .table) (h .tally .issued) o .rise) names x))
 
-    issued-then : after then (Drop (record { 0 = x })) .tally .issued ≡ h .tally .issued
+    issued-then : after then (Single (Drop (record { 0 = x }))) .tally .issued ≡ h .tally .issued
     unfolding after
     issued-then = rw drop-allowed (s .issued-left)
 
@@ -329,82 +232,84 @@ module _ (h : State) (o : inOrder (h .table) (h .tally .issued) ≡ true) where
       }
   singly-rising (x ∷ names) r a = singly-more x names (r .0) (a .0) (singly-rising names (r .1) (a .1))
 
--- Single drops in falling order of name, where the group is allowed.
-pub singly : (h : State) (names : List ℕ) → judgeGroup (h .table) (h .tally .issued) names ≡ 0 → Singly h names
-unfolding isGroup
-singly h names z =
-    let a = allowed (h .table) (h .tally .issued) names z in
-    singly-rising h (a .in-order) names (rising names (and-both (leb 1 (length names) && leb (length names) 64) (risesStrictly names) (a .is-group) .1)) (a .all-stand)
-
--- "Allowed, it leaves the table .. that single drops in falling order of name leave", and the issued number.
-module _ (h : State) (names : List ℕ) (a : isAllowed (answerRequest h (Group names)) ≡ true) where
-  group-judged : judgeGroup (h .table) (h .tally .issued) names ≡ 0
-  unfolding answerRequest
+-- Single drops in falling order of name, where the group is allowed: "Allowed, it leaves the table .. that single drops in falling order of
+-- name leave".
+module _ (h : State) (names : List ℕ) (a : isAllowed (answer h (Group names)) ≡ true) where
+  group-judged : judge (viewOf (h .table) (h .tally .issued)) (Group names) ≡ 0
+  unfolding answer
   group-judged = eqb-true _ 0 a
 
   pub group-singly : Singly h names
-  group-singly = singly h names group-judged
+  unfolding refusals
+  group-singly =
+      singly-rising h (not-false (inOrder (h .table) (h .tally .issued)) (allowed (h .table) (h .tally .issued) (Group names) group-judged 1)) names
+      (group-rises (h .table) (h .tally .issued) names group-judged)
+      (group-stands (h .table) (h .tally .issued) names group-judged)
 
-  pub group-table : afterRequest h (Group names) .table ≡ final after h (singleDrops names) .table
-  unfolding afterRequest
+  pub group-table : after h (Group names) .table ≡ final after h (singleDrops names) .table
+  unfolding after rowsAfter
   group-table = rw group-judged (sym (group-singly .table-left))
 
-  pub group-issued : afterRequest h (Group names) .tally .issued ≡ final after h (singleDrops names) .tally .issued
-  unfolding afterRequest
-  group-issued = rw group-judged (sym (group-singly .issued-left))
+-- ---- the notes of single drops
 
--- ---- order
+one-noted : (n : ℕ) (K : History) (x : ℕ) → isAllowed (History.answer n K (Single (Drop (record { 0 = x })))) ≡ true
+    → History.after n K (Single (Drop (record { 0 = x }))) ≡ record { notes = Dropped x ∷ K .notes; count = K .count }
+unfolding History.after History.answer notesOf
+one-noted n K x a = rw (eqb-true (judge (viewOf (History.table n (K .notes)) (K .count)) (Single (Drop (record { 0 = x })))) 0 a)
 
-order-group : (h : State) (names : List ℕ) (j : ℕ) → judgeGroup (h .table) (h .tally .issued) names ≡ j → inOrder (h .table) (h .tally .issued) ≡ true
-    → inOrder (groupOutcome j h names .table) (groupOutcome j h names .tally .issued) ≡ true
-order-group h names zero q o = let s = singly h names q in rw (s .table-left, s .issued-left) at (order-final (singleDrops names) h o)
-order-group h names (suc zero) q o = o
-order-group h names (suc (suc j)) q o = o
+-- single drops that the history allows add their notes, the smallest name's last
+drops-noted : (n : ℕ) (H : History) (names : List ℕ) → all isAllowed (answers (History.after n) (History.answer n) H (singleDrops names)) ≡ true
+    → final (History.after n) H (singleDrops names) ≡ record { notes = map Dropped names ++ H .notes; count = H .count }
+drops-noted n H [] a = refl
+drops-noted n H (x ∷ names) a =
+    rw (singleDrops-cons x names, final-append (History.after n) H (singleDrops names) drop)
+    (noted-last then (p .1) ∙ ap {B = History} (λ K. record { notes = Dropped x ∷ K .notes; count = K .count }) (drops-noted n H names (p .0)))
+  where
+    drop : List Request
+    drop = Single (Drop (record { 0 = x })) ∷ []
 
--- A table in order is in order after every request.
-pub order-request : (h : State) (q : Request) → inOrder (h .table) (h .tally .issued) ≡ true → inOrder (afterRequest h q .table) (afterRequest h q .tally .issued) ≡ true
-unfolding afterRequest
-order-request h (Single e) o = order-after h e o
-order-request h (Group names) o = order-group h names (judgeGroup (h .table) (h .tally .issued) names) refl o
+    then : History
+    then = final (History.after n) H (singleDrops names)
 
-pub order-requests : (qs : List Request) (h : State) → inOrder (h .table) (h .tally .issued) ≡ true → inOrder (final afterRequest h qs .table) (final afterRequest h qs .tally .issued) ≡ true
-order-requests [] h o = o
-order-requests (q ∷ qs) h o = order-requests qs (afterRequest h q) (order-request h q o)
+    p : (all isAllowed (answers (History.after n) (History.answer n) H (singleDrops names)) ≡ true) × (all isAllowed (answers (History.after n) (History.answer n) then drop) ≡ true)
+    p =
+        and-both (all isAllowed (answers (History.after n) (History.answer n) H (singleDrops names))) (all isAllowed (answers (History.after n) (History.answer n) then drop))
+        (rw (singleDrops-cons x names, answers-append (History.after n) (History.answer n) H (singleDrops names) drop, all-append isAllowed (answers (History.after n) (History.answer n) H (singleDrops names)) (answers (History.after n) (History.answer n) then drop)) at a)
+
+    noted-last : (K : History) → isAllowed (History.answer n K (Single (Drop (record { 0 = x })))) && true ≡ true
+        → History.after n K (Single (Drop (record { 0 = x }))) ≡ record { notes = Dropped x ∷ K .notes; count = K .count }
+    noted-last K h = one-noted n K x (and-both (isAllowed (History.answer n K (Single (Drop (record { 0 = x }))))) true h .0)
+
+-- "in the history the notes, that single drops in falling order of name leave"
+pub group-history : (n : ℕ) (h : State) (H : History) → Match n h H → (names : List ℕ) → isAllowed (answer h (Group names)) ≡ true
+    → History.after n H (Group names) ≡ final (History.after n) H (singleDrops names)
+unfolding History.after notesOf
+group-history n h H m names a =
+    rw (sym (same-judge n h H m (Group names)) ∙ group-judged h names a)
+    (sym (drops-noted n H names (ap (all isAllowed) (sym (run n (singleDrops names) h H m .0)) ∙ group-singly h names a .each-allowed)))
 
 -- ---- one name
 
 -- One name is the old drop: the same number, answer, table and tally, and in the history the same note.
 module _ (x : ℕ) where
-  one-judged : (t : List Cap) (issued : ℕ) → judgeGroup t issued (x ∷ []) ≡ judge t issued (Drop (record { 0 = x }))
-  unfolding judgeGroup groupRefusals standings isGroup risesStrictly risesAbove judge refusals
+  one-judged : (t : List Cap) (issued : ℕ) → judge (viewOf t issued) (Group (x ∷ [])) ≡ judge (viewOf t issued) (Single (Drop (record { 0 = x })))
+  unfolding standings isGroup risesStrictly risesAbove judge refusals
   one-judged t issued = refl
 
-  one-left : (issued : ℕ) (rows : List Cap) → rowsWithout (x ∷ []) rows ≡ rowsAfter issued rows (Drop (record { 0 = x }))
-  unfolding rowsWithout rowsAfter
-  one-left issued rows = λ k. revoke (λ y. or-false (inSubtree x (ancestry (derivations rows) y)) k) (λ y. false) rows
-
-  pub one-answer : (h : State) → answerRequest h (Group (x ∷ [])) ≡ answer h (Drop (record { 0 = x }))
-  unfolding answerRequest answer
+  pub one-answer : (h : State) → answer h (Group (x ∷ [])) ≡ answer h (Single (Drop (record { 0 = x })))
+  unfolding answer
   one-answer h = rw (one-judged (h .table) (h .tally .issued))
 
-  one-outcome : (j : ℕ) (h : State) → groupOutcome j h (x ∷ []) ≡ outcome j h (Drop (record { 0 = x }))
-  one-outcome zero h = rw (one-left (h .tally .issued) (liveRows (h .table)))
+  one-outcome : (j : ℕ) (h : State) → outcome j h (Group (x ∷ [])) ≡ outcome j h (Single (Drop (record { 0 = x })))
+  unfolding rowsAfter
+  one-outcome zero h = refl
   one-outcome (suc zero) h = refl
   one-outcome (suc (suc j)) h = refl
 
-  pub one-after : (h : State) → afterRequest h (Group (x ∷ [])) ≡ after h (Drop (record { 0 = x }))
-  unfolding afterRequest after
-  one-after h = rw (one-judged (h .table) (h .tally .issued)) (one-outcome (judge (h .table) (h .tally .issued) (Drop (record { 0 = x }))) h)
+  pub one-after : (h : State) → after h (Group (x ∷ [])) ≡ after h (Single (Drop (record { 0 = x })))
+  unfolding after
+  one-after h = rw (one-judged (h .table) (h .tally .issued)) (one-outcome (judge (viewOf (h .table) (h .tally .issued)) (Single (Drop (record { 0 = x })))) h)
 
-  pub one-answer-noted : (n : ℕ) (h : History) → answerNoted n h (Group (x ∷ [])) ≡ History.answer n h (Drop (record { 0 = x }))
-  unfolding answerNoted History.answer
-  one-answer-noted n h = rw (one-judged (History.table n (h .notes)) (h .count))
-
-  one-noted : (j : ℕ) (h : History) → groupNoted j h (x ∷ []) ≡ History.outcome j h (Drop (record { 0 = x }))
-  unfolding noteOf
-  one-noted zero h = refl
-  one-noted (suc j) h = refl
-
-  pub one-after-noted : (n : ℕ) (h : History) → afterNoted n h (Group (x ∷ [])) ≡ History.after n h (Drop (record { 0 = x }))
-  unfolding afterNoted History.after
-  one-after-noted n h = rw (one-judged (History.table n (h .notes)) (h .count)) (one-noted (judge (History.table n (h .notes)) (h .count) (Drop (record { 0 = x }))) h)
+  pub one-noted-same : (count : ℕ) → notesOf count (Group (x ∷ [])) ≡ notesOf count (Single (Drop (record { 0 = x })))
+  unfolding notesOf
+  one-noted-same count = refl

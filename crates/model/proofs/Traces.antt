@@ -6,12 +6,12 @@ use Rattle.model.specs.Lists.{all}
 use Rattle.model.specs.Derivation.{ancestry, onAncestry}
 use Rattle.model.specs.Strike.{strike, reached, struck}
 use Rattle.model.specs.Table.{liveRows, lentTable, lookup, isEmptyRow, liveRowsFirst, rowFitsParent, parentInOrder, rowInOrder, rowsInOrder, inOrder}
-use Rattle.model.specs.Refusals.{refusals, judge}
-use Rattle.model.specs.Effects.{revoke, afterAccess, rowsAfter}
+use Rattle.model.specs.Refusals.{standings, refusals, judge}
+use Rattle.model.specs.Effects.{revoke, afterAccess, rowsWithout, rowsAfter}
 use Rattle.model.specs.Step.{answer, after}
-use Rattle.model.specs.Together.{risesAbove, risesStrictly, isGroup, standings, groupRefusals, judgeGroup, rowsWithout, answerRequest, afterRequest}
+use Rattle.model.specs.Requests.{risesAbove, risesStrictly, isGroup}
 use Rattle.model.specs.Traces.{traces, starred, refused, written, empty, reused, together, printed, holds}
 
 pub traces-hold : all holds traces ≡ true
-unfolding traces starred refused written empty reused together printed holds ancestry strike onAncestry reached struck liveRows lentTable lookup isEmptyRow liveRowsFirst rowFitsParent parentInOrder rowInOrder rowsInOrder inOrder refusals judge revoke afterAccess rowsAfter answer after risesAbove risesStrictly isGroup standings groupRefusals judgeGroup rowsWithout answerRequest afterRequest
+unfolding traces starred refused written empty reused together printed holds ancestry strike onAncestry reached struck liveRows lentTable lookup isEmptyRow liveRowsFirst rowFitsParent parentInOrder rowInOrder rowsInOrder inOrder refusals judge revoke afterAccess rowsAfter answer after risesAbove risesStrictly isGroup standings rowsWithout
 traces-hold = refl

@@ -1,14 +1,13 @@
--- Document 01, "Values": what the counts of the tally are counts of, over a whole list of events; and card 5, over a list of requests.
+-- Document 01, "Values": what the counts of the tally are counts of, over a whole list of requests.
 -- Assumes nothing.
 use Prim.Native.Nat.{ℕ, _+_}
 use mathlib.Core.Bool.{Bool, cond, _&&_}
 use mathlib.Core.List.{List, [], _∷_}
 use lib.Dec.{leb, eqb}
 use Rattle.model.specs.declared.Tally.{Tally}
-use Rattle.model.specs.declared.Event.{Event}
 use Rattle.model.specs.declared.Event.the-variants.{Create, Borrow, Read, Write, Drop}
+use Rattle.model.specs.Requests.{Request, Single, Group}
 use Rattle.model.specs.Step.{Verdict, State, isAllowed, answer, after}
-use Rattle.model.specs.Together.{Request, Single, Group, answerRequest, afterRequest}
 
 -- "the allowed events of each of the five kinds, and refused events"
 pub data Counter : Type 0 where
@@ -28,13 +27,14 @@ countIn Writes t = t .writes
 countIn Drops t = t .drops
 countIn Refusals t = t .refused
 
--- the kind of an event
-abbrev pub kindOf : Event → Counter
-kindOf (Create w s r) = Creates
-kindOf (Borrow w u s r) = Borrows
-kindOf (Read u s) = Reads
-kindOf (Write u s) = Writes
-kindOf (Drop u) = Drops
+-- the kind of a request; names dropped together are of the kind of a drop
+abbrev pub kindOf : Request → Counter
+kindOf (Single (Create w s r)) = Creates
+kindOf (Single (Borrow w u s r)) = Borrows
+kindOf (Single (Read u s)) = Reads
+kindOf (Single (Write u s)) = Writes
+kindOf (Single (Drop u)) = Drops
+kindOf (Group names) = Drops
 
 -- document 01's order
 abbrev place : Counter → ℕ
@@ -58,23 +58,10 @@ countsAs Writes kind v = allowedAs Writes kind v
 countsAs Drops kind v = allowedAs Drops kind v
 countsAs Refusals kind v = leb 2 (v .refusal)
 
-abbrev pub countsFor : Counter → Event → Verdict → Bool
-countsFor c e v = countsAs c (kindOf e) v
+abbrev pub countsFor : Counter → Request → Verdict → Bool
+countsFor c q v = countsAs c (kindOf q) v
 
--- how many events of the list count
-unfoldable pub howMany : Counter → State → List Event → ℕ
+-- how many requests of the list count; card 5: a group "counts once"
+unfoldable pub howMany : Counter → State → List Request → ℕ
 howMany c h [] = 0
-howMany c h (e ∷ es) = cond (countsFor c e (answer h e)) 1 0 + howMany c (after h e) es
-
--- Card 5: "It counts once in the tally." A group is of the kind of a drop.
-abbrev pub kindOfRequest : Request → Counter
-kindOfRequest (Single e) = kindOf e
-kindOfRequest (Group names) = Drops
-
-abbrev pub countsForRequest : Counter → Request → Verdict → Bool
-countsForRequest c q v = countsAs c (kindOfRequest q) v
-
--- how many requests of the list count
-unfoldable pub howManyRequests : Counter → State → List Request → ℕ
-howManyRequests c h [] = 0
-howManyRequests c h (q ∷ qs) = cond (countsForRequest c q (answerRequest h q)) 1 0 + howManyRequests c (afterRequest h q) qs
+howMany c h (q ∷ qs) = cond (countsFor c q (answer h q)) 1 0 + howMany c (after h q) qs

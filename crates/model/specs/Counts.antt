@@ -1,9 +1,9 @@
--- Document 01, "Values": the tally, and what each event does to it.
+-- Document 01, "Values": the tally, and what each request does to it.
 -- Assumes nothing.
 use Prim.Native.Nat.{ℕ, suc, min}
 use Rattle.model.specs.declared.Tally.{Tally}
-use Rattle.model.specs.declared.Event.{Event}
 use Rattle.model.specs.declared.Event.the-variants.{Create, Borrow, Read, Write, Drop}
+use Rattle.model.specs.Requests.{Request, Single, Group}
 
 -- "A count at 4,294,967,295 stays there."
 abbrev pub countUp : ℕ → ℕ
@@ -13,17 +13,15 @@ abbrev pub tally : ℕ → ℕ → ℕ → ℕ → ℕ → ℕ → ℕ → Tally
 tally issued creates borrows reads writes drops refused =
     record { issued = issued; creates = creates; borrows = borrows; reads = reads; writes = writes; drops = drops; refused = refused }
 
--- one more drop
-abbrev pub countDropped : Tally → Tally
-countDropped t = tally (t .issued) (t .creates) (t .borrows) (t .reads) (t .writes) (countUp (t .drops)) (t .refused)
-
--- after an allowed event: the issued number, and one more of its kind; what a create, write or drop ends is not counted
-abbrev pub countAllowed : Event → Tally → Tally
-countAllowed (Create w s r) t = tally (suc (t .issued)) (countUp (t .creates)) (t .borrows) (t .reads) (t .writes) (t .drops) (t .refused)
-countAllowed (Borrow w u s r) t = tally (suc (t .issued)) (t .creates) (countUp (t .borrows)) (t .reads) (t .writes) (t .drops) (t .refused)
-countAllowed (Read u s) t = tally (t .issued) (t .creates) (t .borrows) (countUp (t .reads)) (t .writes) (t .drops) (t .refused)
-countAllowed (Write u s) t = tally (t .issued) (t .creates) (t .borrows) (t .reads) (countUp (t .writes)) (t .drops) (t .refused)
-countAllowed (Drop u) t = countDropped t
+-- after an allowed request: the issued number, and one more of its kind; what a create, write or drop ends is not counted. Card 5: of
+-- names dropped together, "It counts once in the tally."
+abbrev pub countAllowed : Request → Tally → Tally
+countAllowed (Single (Create w s r)) t = tally (suc (t .issued)) (countUp (t .creates)) (t .borrows) (t .reads) (t .writes) (t .drops) (t .refused)
+countAllowed (Single (Borrow w u s r)) t = tally (suc (t .issued)) (t .creates) (countUp (t .borrows)) (t .reads) (t .writes) (t .drops) (t .refused)
+countAllowed (Single (Read u s)) t = tally (t .issued) (t .creates) (t .borrows) (countUp (t .reads)) (t .writes) (t .drops) (t .refused)
+countAllowed (Single (Write u s)) t = tally (t .issued) (t .creates) (t .borrows) (t .reads) (countUp (t .writes)) (t .drops) (t .refused)
+countAllowed (Single (Drop u)) t = tally (t .issued) (t .creates) (t .borrows) (t .reads) (t .writes) (countUp (t .drops)) (t .refused)
+countAllowed (Group names) t = tally (t .issued) (t .creates) (t .borrows) (t .reads) (t .writes) (countUp (t .drops)) (t .refused)
 
 -- "Refusals 2 to 10 of an event .. add one to the refused count and change no more"
 abbrev pub countRefused : Tally → Tally

@@ -7,13 +7,13 @@ use mathlib.Core.List.{List, [], _∷_, map}
 use lib.Dec.{leb, ltb}
 use lib.ListN.{length}
 use Rattle.model.specs.Lists.{filter, all, answers, final}
-use Rattle.model.specs.Step.{State}
-use Rattle.model.specs.Together.{risesAbove, Request, answerRequest, afterRequest}
+use Rattle.model.specs.Requests.{Request, risesAbove}
+use Rattle.model.specs.Step.{State, answer, after}
 
 -- the names given out by a list of requests: those among the answers that are not 0, which "stands for no parent" and is the name of every
 -- answer without one
 unfoldable pub given : State → List Request → List ℕ
-given h qs = filter (λ x. ltb 0 x) (map (λ v. v .name) (answers afterRequest answerRequest h qs))
+given h qs = filter (λ x. ltb 0 x) (map (λ v. v .name) (answers after answer h qs))
 
 -- x and the numbers after it, n in all
 unfoldable pub countFrom : ℕ → ℕ → List ℕ
@@ -24,7 +24,7 @@ countFrom x (suc n) = x ∷ countFrom (suc x) n
 pub record GivenInOrder (h : State) (qs : List Request) : Type 0 where
   -- "given out in order": from the one after the issued number on, none left out, and the issued number counts them
   pub in-turn : given h qs ≡ countFrom (suc (h .tally .issued)) (length (given h qs))
-  pub issued-counts : final afterRequest h qs .tally .issued ≡ h .tally .issued + length (given h qs)
+  pub issued-counts : final after h qs .tally .issued ≡ h .tally .issued + length (given h qs)
   -- "never twice": each is above the one before it, and above all that were issued before
   pub rising : risesAbove (h .tally .issued) (given h qs) ≡ true
   -- "1 to 1,000,000"

@@ -1,4 +1,4 @@
--- Document 01, "The history", and card 4.
+-- Document 01, "The history", and cards 4 and 5.
 -- Assumes nothing.
 use Prim.Native.Nat.{ℕ, zero, suc}
 use mathlib.Core.Bool.{Bool, false, not, cond, _&&_, _||_}
@@ -7,7 +7,6 @@ use lib.Dec.{eqb}
 use lib.ListN.{length}
 use Rattle.model.specs.declared.Span.{Span}
 use Rattle.model.specs.declared.Cap.{Cap}
-use Rattle.model.specs.declared.Event.{Event}
 use Rattle.model.specs.declared.Event.the-variants.{Create, Borrow, Read, Write, Drop}
 use Rattle.model.specs.declared.Access.{Access}
 use Rattle.model.specs.declared.Access.the-variants.{Reading, Writing}
@@ -16,7 +15,8 @@ use Rattle.model.specs.Values.{legal, inside}
 use Rattle.model.specs.Derivation.{Derivation, ancestry, inSubtree}
 use Rattle.model.specs.Strike.{isLower, isEnd, reached, reclaimed}
 use Rattle.model.specs.Table.{row, lentTable}
-use Rattle.model.specs.Refusals.{judge}
+use Rattle.model.specs.Requests.{Request, Single, Group}
+use Rattle.model.specs.Refusals.{viewOf, judge}
 use Rattle.model.specs.Effects.{root, child, newName, issuedAfter}
 use Rattle.model.specs.Step.{Verdict, verdict}
 
@@ -134,7 +134,7 @@ rows notes = map (rowOf notes) (filter (alive notes) (derivations notes))
 abbrev pub table : ℕ → List Note → List Cap
 table n notes = lentTable n (rows notes)
 
--- ---- an event
+-- ---- a request
 
 -- "It holds notes in order and a count of names, at first none and 0."
 pub record History : Type 0 where
@@ -144,32 +144,35 @@ pub record History : Type 0 where
 abbrev pub emptyHistory : History
 emptyHistory = record { notes = []; count = 0 }
 
--- the note of an allowed event, when so many names have been counted
-unfoldable pub noteOf : ℕ → Event → Note
-noteOf count (Create w s r) = New (root count s) r
-noteOf count (Borrow w u s r) = New (child count u s) r
-noteOf count (Read u s) = Accessed Reading (u .0) s
-noteOf count (Write u s) = Accessed Writing (u .0) s
-noteOf count (Drop u) = Dropped (u .0)
+-- the notes of an allowed request, newest first, when so many names have been counted; of names dropped together "the notes, that single
+-- drops in falling order of name leave", so the smallest name stands first
+unfoldable pub notesOf : ℕ → Request → List Note
+notesOf count (Single (Create w s r)) = New (root count s) r ∷ []
+notesOf count (Single (Borrow w u s r)) = New (child count u s) r ∷ []
+notesOf count (Single (Read u s)) = Accessed Reading (u .0) s ∷ []
+notesOf count (Single (Write u s)) = Accessed Writing (u .0) s ∷ []
+notesOf count (Single (Drop u)) = Dropped (u .0) ∷ []
+notesOf count (Group names) = map Dropped names
 
--- the name that a note makes; 0 where it makes none
-unfoldable pub notedName : Note → ℕ
-notedName (New d r) = d .name
-notedName (Accessed a u s) = 0
-notedName (Dropped u) = 0
+-- the name that notes make; 0 where they make none
+unfoldable pub notedName : List Note → ℕ
+notedName [] = 0
+notedName (New d r ∷ notes) = d .name
+notedName (Accessed a u s ∷ notes) = notedName notes
+notedName (Dropped u ∷ notes) = notedName notes
 
 -- "It answers each event as this document says, judged on its own table and with its count as the issued number."
-unfoldable pub answer : ℕ → History → Event → Verdict
-answer n h e = verdict (judge (table n (h .notes)) (h .count) e) (newName (h .count) e)
+unfoldable pub answer : ℕ → History → Request → Verdict
+answer n h q = verdict (judge (viewOf (table n (h .notes)) (h .count)) q) (newName (h .count) q)
 
 -- "A refused event changes nothing. An allowed create or borrow raises the count by one."
-abbrev pub outcome : ℕ → History → Event → History
-outcome zero h e = record { notes = noteOf (h .count) e ∷ h .notes; count = issuedAfter (h .count) e }
-outcome (suc k) h e = h
+abbrev pub outcome : ℕ → History → Request → History
+outcome zero h q = record { notes = notesOf (h .count) q ++ h .notes; count = issuedAfter (h .count) q }
+outcome (suc k) h q = h
 
-unfoldable pub after : ℕ → History → Event → History
-after n h e = outcome (judge (table n (h .notes)) (h .count) e) h e
+unfoldable pub after : ℕ → History → Request → History
+after n h q = outcome (judge (viewOf (table n (h .notes)) (h .count)) q) h q
 
--- the history of a list of events, over any number of rows
-abbrev pub historyAfter : ℕ → List Event → History
+-- the history of a list of requests, over any number of rows
+abbrev pub historyAfter : ℕ → List Request → History
 historyAfter n = final (after n) emptyHistory

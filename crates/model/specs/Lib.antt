@@ -1,6 +1,7 @@
 pub mod Lists
 pub mod Values
 pub mod Derivation
+pub mod Requests
 pub mod Strike
 pub mod Table
 pub mod Refusals
@@ -11,7 +12,6 @@ pub mod Step
 pub mod Counted
 pub mod Answers
 pub mod History
-pub mod Together
 pub mod Given
 pub mod Demand3
 pub mod Traces

@@ -1,6 +1,6 @@
--- Document 01, "Eleven ways to be turned down", of an event, and card 1: the conditions 1 to 10 and 12, and which of them each event
--- meets.
--- Assumes nothing. (2 is here in its half about events; its other half, and 11, are of the text; 13 is in Together.)
+-- Document 01, "Eleven ways to be turned down", of a request, and cards 1 and 5: the conditions 1 to 10, 12 and 13, and which of them
+-- each request meets.
+-- Assumes nothing. (2 is here in its half about events; its other half, and 11, are of the text.)
 use Prim.Native.Nat.{ℕ, suc}
 use mathlib.Core.Bool.{Bool, false, not, cond, _||_}
 use mathlib.Core.List.{List, [], _∷_, _++_}
@@ -11,10 +11,10 @@ use Rattle.model.specs.declared.Span.{Span}
 use Rattle.model.specs.declared.Cap.{Cap}
 use Rattle.model.specs.declared.NewName.{NewName}
 use Rattle.model.specs.declared.NewName.the-variants.{Unwritten, Written}
-use Rattle.model.specs.declared.Event.{Event}
 use Rattle.model.specs.declared.Event.the-variants.{Create, Borrow, Read, Write, Drop}
 use Rattle.model.specs.Lists.{any, first}
 use Rattle.model.specs.Values.{legal, inside}
+use Rattle.model.specs.Requests.{Request, Single, Group, isGroup}
 use Rattle.model.specs.Table.{span, named, liveRows, lookup, isRight, inOrder}
 
 -- 1. table not in order
@@ -33,6 +33,10 @@ illegalSpan s = not (legal s)
 abbrev pub misnamed : ℕ → NewName → Bool
 misnamed issued Unwritten = false
 misnamed issued (Written x) = not (eqb (x .0) (suc issued))
+
+-- 13. "a call whose lent list of names is empty, longer than 64 or not strictly rising"
+abbrev pub misgrouped : List ℕ → Bool
+misgrouped names = not (isGroup names)
 
 -- The others are judged on the live rows.
 module _ (rows : List Cap) (issued : ℕ) where
@@ -69,6 +73,11 @@ module _ (rows : List Cap) (issued : ℕ) where
   abbrev pub standing : Name → List (ℕ × Bool)
   standing u = (4, unissued u) ∷ (5, ended u) ∷ []
 
+  -- of each name dropped together, "in the order written"
+  unfoldable pub standings : List ℕ → List (ℕ × Bool)
+  standings [] = []
+  standings (u ∷ names) = standing (record { 0 = u }) ++ standings names
+
   abbrev pub within : Name → Span → List (ℕ × Bool)
   within u s = (3, illegalSpan s) ∷ standing u ++ ((6, outsideSpan u s) ∷ [])
 
@@ -78,13 +87,14 @@ module _ (rows : List Cap) (issued : ℕ) where
   abbrev pub room : ℕ → NewName → List (ℕ × Bool)
   room size w = (9, namesSpent) ∷ (12, misnamed issued w) ∷ (10, tableFull size) ∷ []
 
-  -- those that each event meets after 1
-  abbrev pub checks : ℕ → Event → List (ℕ × Bool)
-  checks size (Create w s r) = (2, notARight r) ∷ (3, illegalSpan s) ∷ room size w
-  checks size (Borrow w u s r) = (2, notARight r) ∷ usable u s r ++ ((8, tooDeep u) ∷ room size w)
-  checks size (Read u s) = within u s
-  checks size (Write u s) = usable u s 2
-  checks size (Drop u) = standing u
+  -- those that each request meets after 1; of a group, "the first name refused gives the number"
+  abbrev pub checks : ℕ → Request → List (ℕ × Bool)
+  checks size (Single (Create w s r)) = (2, notARight r) ∷ (3, illegalSpan s) ∷ room size w
+  checks size (Single (Borrow w u s r)) = (2, notARight r) ∷ usable u s r ++ ((8, tooDeep u) ∷ room size w)
+  checks size (Single (Read u s)) = within u s
+  checks size (Single (Write u s)) = usable u s 2
+  checks size (Single (Drop u)) = standing u
+  checks size (Group names) = (13, misgrouped names) ∷ standings names
 
 -- The numbers of refusals in order of precedence; card 5: 13 is "after 1".
 abbrev pub precedence : List ℕ
@@ -98,10 +108,18 @@ placeIn (j ∷ js) k = cond (eqb k j) 1 (suc (placeIn js k))
 abbrev pub place : ℕ → ℕ
 place = placeIn precedence
 
-unfoldable pub refusals : List Cap → ℕ → Event → List (ℕ × Bool)
-refusals table issued e = (1, disordered table issued) ∷ checks (liveRows table) issued (length table) e
+-- What judging looks at: the table and the issued number. The lent memory has a view, and the history its own.
+pub record View : Type 0 where
+  pub table : List Cap
+  pub issued : ℕ
+
+abbrev pub viewOf : List Cap → ℕ → View
+viewOf table issued = record { table = table; issued = issued }
+
+unfoldable pub refusals : View → Request → List (ℕ × Bool)
+refusals v q = (1, disordered (v .table) (v .issued)) ∷ checks (liveRows (v .table)) (v .issued) (length (v .table)) q
 
 -- "The lowest number that applies is the one given", where the cards give their numbers places of their own: the first of the list
--- that holds, or 0 where the event is allowed. The places rise in each list (proofs/Precedence).
-unfoldable pub judge : List Cap → ℕ → Event → ℕ
-judge table issued e = first (refusals table issued e)
+-- that holds, or 0 where the request is allowed. The places rise in each list, but for the names of a group (proofs/Precedence).
+unfoldable pub judge : View → Request → ℕ
+judge v q = first (refusals v q)

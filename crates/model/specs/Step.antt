@@ -1,4 +1,4 @@
--- Document 01, "What each event does" and "Eleven ways to be turned down": one event on what the caller lends.
+-- Document 01, "What each event does" and "Eleven ways to be turned down": one request on what the caller lends.
 -- Assumes nothing.
 use Prim.Native.Nat.{ℕ, zero, suc}
 use mathlib.Core.Bool.{Bool, cond}
@@ -7,10 +7,10 @@ use lib.Dec.{eqb}
 use lib.ListN.{length, replicate}
 use Rattle.model.specs.declared.Cap.{Cap}
 use Rattle.model.specs.declared.Tally.{Tally}
-use Rattle.model.specs.declared.Event.{Event}
 use Rattle.model.specs.Lists.{final}
 use Rattle.model.specs.Table.{emptyRow, liveRows, lentTable}
-use Rattle.model.specs.Refusals.{judge}
+use Rattle.model.specs.Requests.{Request}
+use Rattle.model.specs.Refusals.{viewOf, judge}
 use Rattle.model.specs.Effects.{rowsAfter, newName}
 use Rattle.model.specs.Counts.{countAllowed, countRefused}
 
@@ -31,23 +31,23 @@ pub record State : Type 0 where
   pub table : List Cap
   pub tally : Tally
 
--- the answer to an event
-unfoldable pub answer : State → Event → Verdict
-answer h e = verdict (judge (h .table) (h .tally .issued) e) (newName (h .tally .issued) e)
+-- the answer to a request
+unfoldable pub answer : State → Request → Verdict
+answer h q = verdict (judge (viewOf (h .table) (h .tally .issued)) q) (newName (h .tally .issued) q)
 
--- the table and the tally after an event that gets this number: allowed, refusal 1, which changes nothing, or another refusal
-abbrev pub outcome : ℕ → State → Event → State
-outcome zero h e = record { table = lentTable (length (h .table)) (rowsAfter (h .tally .issued) (liveRows (h .table)) e); tally = countAllowed e (h .tally) }
-outcome (suc zero) h e = h
-outcome (suc (suc k)) h e = record { table = h .table; tally = countRefused (h .tally) }
+-- the table and the tally after a request that gets this number: allowed, refusal 1, which changes nothing, or another refusal
+abbrev pub outcome : ℕ → State → Request → State
+outcome zero h q = record { table = lentTable (length (h .table)) (rowsAfter (h .tally .issued) (liveRows (h .table)) q); tally = countAllowed q (h .tally) }
+outcome (suc zero) h q = h
+outcome (suc (suc k)) h q = record { table = h .table; tally = countRefused (h .tally) }
 
-unfoldable pub after : State → Event → State
-after h e = outcome (judge (h .table) (h .tally .issued) e) h e
+unfoldable pub after : State → Request → State
+after h q = outcome (judge (viewOf (h .table) (h .tally .issued)) q) h q
 
 -- "The list begins with any number of rows, all zeros"
 abbrev pub initial : ℕ → Tally → State
 initial n t = record { table = replicate n emptyRow; tally = t }
 
--- what the caller has after a list of events
-abbrev pub stateAfter : ℕ → Tally → List Event → State
+-- what the caller has after a list of requests
+abbrev pub stateAfter : ℕ → Tally → List Request → State
 stateAfter n t = final after (initial n t)

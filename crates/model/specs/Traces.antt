@@ -14,8 +14,8 @@ use Rattle.model.specs.declared.Event.the-variants.{Create, Borrow, Read
 use Rattle.model.specs.Lists.{answers, final}
 use Rattle.model.specs.Table.{row, emptyRow, liveRows}
 use Rattle.model.specs.Counts.{tally}
-use Rattle.model.specs.Step.{Verdict, State, initial}
-use Rattle.model.specs.Together.{Request, Single, Group, answerRequest, afterRequest}
+use Rattle.model.specs.Requests.{Request, Single, Group}
+use Rattle.model.specs.Step.{Verdict, State, initial, answer, after}
 
 -- ---- requests, as the text spells them
 
@@ -221,4 +221,4 @@ abbrev requestsOf : Trace → List Request
 requestsOf t = map (λ l. l .0) (t .lines)
 
 unfoldable pub holds : Trace → Bool
-holds t = sameAnswers (answers afterRequest answerRequest (t .lent) (requestsOf t)) (t .lines) && sameRights (reverse (liveRows (final afterRequest (t .lent) (requestsOf t) .table))) (t .left)
+holds t = sameAnswers (answers after answer (t .lent) (requestsOf t)) (t .lines) && sameRights (reverse (liveRows (final after (t .lent) (requestsOf t) .table))) (t .left)

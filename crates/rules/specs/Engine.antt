@@ -1,11 +1,11 @@
--- What the engine's functions promise each other, over the 1,024 rows T that the words have.
+-- What the engine's functions promise each other, over the rows T of the lent table.
 -- Assumes nothing.
 use Prim.Native.Nat.{ℕ, zero, suc, _<_, _≤_, max}
 use mathlib.Core.Path.{_≡_}
 use mathlib.Core.Bool.{Bool, false, not, cond, _&&_}
 use mathlib.Core.List.{List, []}
 use lib.Dec.{eqb, ltb}
-use lib.ListN.{length, getD, take}
+use lib.ListN.{length, getD}
 use Rattle.model.specs.declared.Span.{Span}
 use Rattle.model.specs.declared.Cap.{Cap}
 use Rattle.model.specs.declared.Access.{Access}
@@ -17,11 +17,11 @@ use Rattle.model.specs.Table.{emptyRow, span, derivations, named, lentTable}
 use Rattle.model.specs.Effects.{lowered}
 use Rattle.table.specs.Rows.{nameAt, parentAt, before, Front, Places, LiveRows}
 
--- words whose first k of n rows are live, and the others zeros
-pub record Ready (ws : List ℕ) (T : List Cap) (n k : ℕ) : Type 0 where
+-- a table whose first k of n rows are live, and the others zeros
+pub record Ready (ws : List (List ℕ)) (T : List Cap) (n k : ℕ) : Type 0 where
   pub fits : k ≤ n
   pub few : n ≤ 1024
-  pub long : length ws ≡ 6144
+  pub long : length ws ≡ n
   pub stands : LiveRows T k
   pub zeros : (j : ℕ) → k ≤ j → j < n → getD T j emptyRow ≡ emptyRow
 
@@ -50,10 +50,6 @@ own a s t on = cond (touches s t && not on) (weight (effectOf a)) 0
 -- the own marks of an access to s, where the rows on the user's ancestry have 1
 abbrev pub ownOfAccess : List Cap → List ℕ → Access → Span → ℕ → ℕ
 ownOfAccess T onLine a s i = own a s (span (getD T i emptyRow)) (eqb (getD onLine i 0) 1)
-
--- those of a drop: 2 at q, and 0 elsewhere
-abbrev pub ownOfDrop : ℕ → ℕ → ℕ
-ownOfDrop q i = cond (eqb i q) 2 0
 
 -- those of names dropped together: 2 at each of them
 abbrev pub ownOfNames : List Cap → List ℕ → ℕ → ℕ
@@ -95,6 +91,6 @@ pub record Lowers (marks : List ℕ) (T T′ : List Cap) (k : ℕ) : Type 0 wher
 
 -- a table of n rows after an allowed event: its live rows, how many they are, and where their parents stand
 pub record Settled (T : List Cap) (n live : ℕ) (rows : List Cap) (places : List ℕ) : Type 0 where
-  pub table : take n T ≡ lentTable n rows
+  pub table : T ≡ lentTable n rows
   pub front : Front T n live
   pub placed : Places T live places

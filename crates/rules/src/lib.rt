@@ -1,13 +1,21 @@
 // The rules engine: one event on a table and a tally, proved equal to the definitions of the crate `model`.
-// `records::apply` is the call for a lent table of records; the rest works on the same table as words.
+// It works in place, on the lent table.
 use model::Answer;
+use model::Event;
 use model::Tally;
 
 pub mod count;
+pub mod lent;
 mod marks;
 pub mod records;
 mod settle;
 pub mod steps;
+
+// What is asked of the engine: an event, or that the names beside it are dropped together.
+pub enum Asked {
+    Single(Event),
+    Group,
+}
 
 // What an event leaves of the tally, and its answer.
 pub struct Outcome {

@@ -12,11 +12,11 @@ ghost use lib.Dec.{ltb};
 ghost use lib.ListN.{getD};
 ghost use Rattle.model.specs.Table.{derivations};
 ghost use Rattle.model.specs.Strike.{isEnd, isLower, struck};
-ghost use Rattle.model.specs.Derivation.{ancestry, inSubtree};
+ghost use Rattle.model.specs.Derivation.{ancestry};
 ghost use Rattle.table.specs.Words.{rowsIn};
 ghost use Rattle.table.specs.Rows.{before, Rise, Places, LiveRows};
-ghost use Rattle.model.specs.Together.{inSubtrees};
-ghost use Rattle.rules.specs.Engine.{OnAncestry, weight, own, ownOfAccess, ownOfDrop, Owned, Marked, Spread, Downward};
+ghost use Rattle.model.specs.Effects.{inSubtrees};
+ghost use Rattle.rules.specs.Engine.{OnAncestry, weight, own, ownOfAccess, Owned, Marked, Spread, Downward};
 
 fn effect_mark(a: Access) -> u8
     ensures { λ r. ⌜ r ≡ weight (Rattle.model.specs.Strike.effectOf a) ⌝ }
@@ -34,13 +34,13 @@ fn larger(a: u8, b: u8) -> u8
 }
 
 // The rows on the ancestry of the name u have 1.
-fn ancestry_of(words: &[u32; 6144], k: usize, places: &[usize; 1024], u: u32) -> [u8; 1024]
-    requires { ⌜ (k ≤ 1024) × Rise (rowsIn (now words)) k × Places (rowsIn (now words)) k (now places) ⌝ }
-    ensures { λ r. ⌜ OnAncestry (rowsIn (now (words .entry))) k u r ⌝ }
+fn ancestry_of(table: &[[u32; 6]], k: usize, places: &[usize; 1024], u: u32) -> [u8; 1024]
+    requires { ⌜ (k ≤ 1024) × Rise (rowsIn (now table)) k × Places (rowsIn (now table)) k (now places) ⌝ }
+    ensures { λ r. ⌜ OnAncestry (rowsIn (now (table .entry))) k u r ⌝ }
 {
     let mut ancestry = [0u8; 1024];
     let mut top = k;
-    let mut at = find(words, k, u);
+    let mut at = find(table, k, u);
     while at < top {
         ancestry[at] = 1;
         top = at;
@@ -69,20 +69,20 @@ fn mark_below(marks: &[u8; 1024], q: usize, i: usize) -> u8
 
 // Each row's mark is the greater of its own and its parent's: an access to s.
 fn spread_access(
-    words: &[u32; 6144],
+    table: &[[u32; 6]],
     k: usize,
     places: &[usize; 1024],
     ancestry: &[u8; 1024],
     a: Access,
     s: Span,
 ) -> [u8; 1024]
-    requires { ⌜ (k ≤ 1024) × Rise (rowsIn (now words)) k × Places (rowsIn (now words)) k (now places) ⌝ }
-    ensures { λ r. ⌜ Spread (rowsIn (now (words .entry))) k (ownOfAccess (rowsIn (now (words .entry))) (now (ancestry .entry)) a s) r ⌝ }
+    requires { ⌜ (k ≤ 1024) × Rise (rowsIn (now table)) k × Places (rowsIn (now table)) k (now places) ⌝ }
+    ensures { λ r. ⌜ Spread (rowsIn (now (table .entry))) k (ownOfAccess (rowsIn (now (table .entry))) (now (ancestry .entry)) a s) r ⌝ }
 {
     let mut marks = [0u8; 1024];
     let mut i: usize = 0;
     while i < k {
-        let c = row_at(words, i);
+        let c = row_at(table, i);
         let owned = own_mark(a, s, span_of(c), ancestry[i] == 1);
         let up = mark_below(&marks, places[i], i);
         marks[i] = larger(owned, up);
@@ -93,66 +93,33 @@ fn spread_access(
 
 // The marks of an access through the name u.
 pub fn marks_of_access(
-    words: &[u32; 6144],
+    table: &[[u32; 6]],
     k: usize,
     places: &[usize; 1024],
     u: u32,
     a: Access,
     s: Span,
 ) -> [u8; 1024]
-    requires { ⌜ LiveRows (rowsIn (now words)) k × Places (rowsIn (now words)) k (now places) ⌝ }
-    ensures { λ r. ⌜ Marked (rowsIn (now (words .entry))) k r
-        (struck isEnd a (derivations (before (rowsIn (now (words .entry))) k)) u s)
-        (struck isLower a (derivations (before (rowsIn (now (words .entry))) k)) u s)
-        × Downward (rowsIn (now (words .entry))) k r ⌝ }
+    requires { ⌜ LiveRows (rowsIn (now table)) k × Places (rowsIn (now table)) k (now places) ⌝ }
+    ensures { λ r. ⌜ Marked (rowsIn (now (table .entry))) k r
+        (struck isEnd a (derivations (before (rowsIn (now (table .entry))) k)) u s)
+        (struck isLower a (derivations (before (rowsIn (now (table .entry))) k)) u s)
+        × Downward (rowsIn (now (table .entry))) k r ⌝ }
 {
-    let ancestry = ancestry_of(words, k, places, u);
-    spread_access(words, k, places, &ancestry, a, s)
-}
-
-// A row's own mark, where the row at q is dropped.
-fn drop_mark(q: usize, i: usize) -> u8
-    ensures { λ r. ⌜ r ≡ ownOfDrop q i ⌝ }
-{
-    if i == q { 2 } else { 0 }
-}
-
-// The marks of a drop of the row at q: its subtree goes.
-fn spread_drop(words: &[u32; 6144], k: usize, places: &[usize; 1024], q: usize) -> [u8; 1024]
-    requires { ⌜ (k ≤ 1024) × Rise (rowsIn (now words)) k × Places (rowsIn (now words)) k (now places) ⌝ }
-    ensures { λ r. ⌜ Spread (rowsIn (now (words .entry))) k (ownOfDrop q) r ⌝ }
-{
-    let mut marks = [0u8; 1024];
-    let mut i: usize = 0;
-    while i < k {
-        let up = mark_below(&marks, places[i], i);
-        marks[i] = larger(drop_mark(q, i), up);
-        i += 1;
-    }
-    marks
-}
-
-// The marks of a drop of the name u.
-pub fn marks_of_drop(words: &[u32; 6144], k: usize, places: &[usize; 1024], u: u32) -> [u8; 1024]
-    requires { ⌜ LiveRows (rowsIn (now words)) k × Places (rowsIn (now words)) k (now places) ⌝ }
-    ensures { λ r. ⌜ Marked (rowsIn (now (words .entry))) k r
-        (λ x. inSubtree u (ancestry (derivations (before (rowsIn (now (words .entry))) k)) x)) (λ x. false)
-        × Downward (rowsIn (now (words .entry))) k r ⌝ }
-{
-    let q = find(words, k, u);
-    spread_drop(words, k, places, q)
+    let ancestry = ancestry_of(table, k, places, u);
+    spread_access(table, k, places, &ancestry, a, s)
 }
 
 // The rows of names have 2. A name that is not there is noted behind the rows.
-fn own_of_names(words: &[u32; 6144], k: usize, names: &[u32]) -> [u8; 1025]
-    requires { ⌜ LiveRows (rowsIn (now words)) k ⌝ }
-    ensures { λ r. ⌜ Owned (rowsIn (now (words .entry))) k (now (names .entry)) r ⌝ }
+fn own_of_names(table: &[[u32; 6]], k: usize, names: &[u32]) -> [u8; 1025]
+    requires { ⌜ LiveRows (rowsIn (now table)) k ⌝ }
+    ensures { λ r. ⌜ Owned (rowsIn (now (table .entry))) k (now (names .entry)) r ⌝ }
 {
     let mut owned = [0u8; 1025];
     let mut i = names.len();
     while 0 < i {
         i -= 1;
-        let q = find(words, k, names[i]);
+        let q = find(table, k, names[i]);
         owned[q] = 2;
     }
     owned
@@ -160,13 +127,13 @@ fn own_of_names(words: &[u32; 6144], k: usize, names: &[u32]) -> [u8; 1025]
 
 // The marks of a drop of all rows that have 2: their subtrees go, in one pass.
 fn spread_names(
-    words: &[u32; 6144],
+    table: &[[u32; 6]],
     k: usize,
     places: &[usize; 1024],
     owned: &[u8; 1025],
 ) -> [u8; 1024]
-    requires { ⌜ (k ≤ 1024) × Rise (rowsIn (now words)) k × Places (rowsIn (now words)) k (now places) ⌝ }
-    ensures { λ r. ⌜ Spread (rowsIn (now (words .entry))) k (λ i. getD (now (owned .entry)) i 0) r ⌝ }
+    requires { ⌜ (k ≤ 1024) × Rise (rowsIn (now table)) k × Places (rowsIn (now table)) k (now places) ⌝ }
+    ensures { λ r. ⌜ Spread (rowsIn (now (table .entry))) k (λ i. getD (now (owned .entry)) i 0) r ⌝ }
 {
     let mut marks = [0u8; 1024];
     let mut i: usize = 0;
@@ -180,16 +147,16 @@ fn spread_names(
 
 // The marks of names dropped together.
 pub fn marks_of_names(
-    words: &[u32; 6144],
+    table: &[[u32; 6]],
     k: usize,
     places: &[usize; 1024],
     names: &[u32],
 ) -> [u8; 1024]
-    requires { ⌜ LiveRows (rowsIn (now words)) k × Places (rowsIn (now words)) k (now places) ⌝ }
-    ensures { λ r. ⌜ Marked (rowsIn (now (words .entry))) k r
-        (λ x. inSubtrees (now (names .entry)) (ancestry (derivations (before (rowsIn (now (words .entry))) k)) x)) (λ x. false)
-        × Downward (rowsIn (now (words .entry))) k r ⌝ }
+    requires { ⌜ LiveRows (rowsIn (now table)) k × Places (rowsIn (now table)) k (now places) ⌝ }
+    ensures { λ r. ⌜ Marked (rowsIn (now (table .entry))) k r
+        (λ x. inSubtrees (now (names .entry)) (ancestry (derivations (before (rowsIn (now (table .entry))) k)) x)) (λ x. false)
+        × Downward (rowsIn (now (table .entry))) k r ⌝ }
 {
-    let owned = own_of_names(words, k, names);
-    spread_names(words, k, places, &owned)
+    let owned = own_of_names(table, k, names);
+    spread_names(table, k, places, &owned)
 }

@@ -1,85 +1,125 @@
-// The lent table and tally: records to words and back.
+// The lent table as a run of records, and the tally as a struct: one thin function for every request. It takes the records apart into
+// rows, has the engine work on these, and puts the records back. A table of more than 1,024 rows is not touched.
+use crate::Asked;
+use crate::Outcome;
 use crate::steps;
 use crate::steps::step;
 use model::Answer;
 use model::Cap;
-use model::Event;
+use model::Refusal;
 use model::Tally;
 use table::words::row_at;
 use table::words::set_row;
 ghost use mathlib.Core.Path.{_≡_};
-ghost use mathlib.Core.List.{_++_};
-ghost use Prim.Native.Nat.{_≤_, _*_, min};
-ghost use lib.ListN.{length, take, drop};
+ghost use mathlib.Core.List.{_++_, map};
+ghost use Prim.Native.Nat.{_<_, _≤_};
+ghost use lib.ListN.{length, getD, set, take, drop};
 ghost use Rattle.model.specs.Step;
-ghost use Rattle.model.specs.Together.{Group, answerRequest, afterRequest};
+ghost use Rattle.model.specs.Table.{emptyRow};
 ghost use Rattle.model.specs.Answers.{verdictOf};
-ghost use Rattle.table.specs.Words.{flat, rowsOf};
-ghost use Rattle.rules.specs.Steps.{lends};
+ghost use Rattle.table.specs.Words.{six, rowsIn};
+ghost use Rattle.rules.specs.Steps.{lends, Stepped};
+ghost use Rattle.rules.specs.Records;
+ghost use Rattle.rules.specs.Records.{requestOf, Requested};
 
-// `rows_held`, `load` and `store` are for the crates above, each of which has its own thin calls over a lent table. None of
-// them is exported to C.
-
-// How many of n rows there are words for.
-pub fn rows_held(n: usize) -> usize
-    ensures { λ r. ⌜ r ≡ min n 1024 ⌝ }
+// How many of n rows are taken apart.
+fn held(n: usize) -> usize
+    ensures { λ r. ⌜ r ≡ Records.held n ⌝ }
 {
-    if n < 1024 { n } else { 1024 }
+    if n <= 1024 { n } else { 0 }
 }
 
-// The first n rows into words. Internal: the caller keeps n within the table and the words.
-pub fn load(table: &[Cap], n: usize, words: &mut [u32; 6144])
+// A record into the row i.
+fn put(rows: &mut [[u32; 6]; 1024], i: usize, c: Cap)
+    requires { ⌜ (i < 1024) × (length (now rows) ≡ 1024) ⌝ }
+    ensures { λ _. ⌜ now (rows .exit) ≡ set (now (rows .entry)) i (six c) ⌝ }
+{
+    set_row(rows, i, c);
+}
+
+// The record of the row i.
+fn get(rows: &[[u32; 6]; 1024], i: usize) -> Cap
+    requires { ⌜ (i < 1024) × (length (now rows) ≡ 1024) ⌝ }
+    ensures { λ r. ⌜ r ≡ getD (rowsIn (now (rows .entry))) i emptyRow ⌝ }
+{
+    row_at(rows, i)
+}
+
+// The first n records into rows. Internal: the caller keeps n within both.
+fn load(table: &[Cap], n: usize, rows: &mut [[u32; 6]; 1024])
     requires { ⌜ (n ≤ length (now table)) × (n ≤ 1024) ⌝ }
-    ensures { λ _. ⌜ (now (words .exit) ≡ flat (take n (now (table .entry))) ++ drop (n * 6) (now (words .entry)))
-        × (rowsOf (now (words .exit)) n ≡ take n (now (table .entry))) ⌝ }
+    ensures { λ _. ⌜ now (rows .exit) ≡ map six (take n (now (table .entry))) ++ drop n (now (rows .entry)) ⌝ }
 {
     let mut i: usize = 0;
     while i < n {
-        set_row(words, i, table[i]);
+        put(rows, i, table[i]);
         i += 1;
     }
 }
 
 // And back. Internal, in the same way.
-pub fn store(table: &mut [Cap], n: usize, words: &[u32; 6144])
-    requires { ⌜ (n ≤ length (now table)) × (n ≤ 1024) ⌝ }
-    ensures { λ _. ⌜ now (table .exit) ≡ rowsOf (now (words .entry)) n ++ drop n (now (table .entry)) ⌝ }
+fn store(table: &mut [Cap], n: usize, rows: &[[u32; 6]; 1024])
+    requires { ⌜ (n ≤ length (now table)) × (n ≤ 1024) × (length (now rows) ≡ 1024) ⌝ }
+    ensures { λ _. ⌜ now (table .exit) ≡ take n (rowsIn (now (rows .entry))) ++ drop n (now (table .entry)) ⌝ }
 {
     let mut i: usize = 0;
     while i < n {
-        table[i] = row_at(words, i);
+        table[i] = get(rows, i);
         i += 1;
     }
 }
 
-// An event on the table and the tally that are lent.
-pub fn apply(table: &mut [Cap], tally: &mut Tally, event: Event) -> Answer
-    ensures { λ r. ⌜ (now (table .exit) ≡ Step.after (lends (now (table .entry)) (now (tally .entry))) event .table)
-        × (now (tally .exit) ≡ Step.after (lends (now (table .entry)) (now (tally .entry))) event .tally)
-        × (verdictOf r ≡ Step.answer (lends (now (table .entry)) (now (tally .entry))) event) ⌝ }
+// What is asked, on rows of their own.
+fn request(rows: &mut [[u32; 6]], n: usize, t: Tally, asked: Asked, names: &[u32]) -> Outcome
+    requires { ⌜ length (now rows) ≡ n ⌝ }
+    ensures { λ r. ⌜ Stepped (now (rows .entry)) t (requestOf asked (now (names .entry))) (now (rows .exit)) r ⌝ }
 {
-    let mut words = [0u32; 6144];
-    let rows = table.len();
-    let n = rows_held(rows);
-    load(table, n, &mut words);
-    let out = step(&mut words, rows, *tally, event);
-    store(table, n, &words);
-    *tally = out.tally;
-    out.answer
+    match asked {
+        Asked::Single(e) => step(rows, n, t, e),
+        Asked::Group => steps::drop_all(rows, n, t, names),
+    }
 }
 
-// Names dropped together, on the table and the tally that are lent.
-pub fn drop_all(table: &mut [Cap], tally: &mut Tally, names: &[u32]) -> Answer
-    ensures { λ r. ⌜ (now (table .exit) ≡ afterRequest (lends (now (table .entry)) (now (tally .entry))) (Group (now (names .entry))) .table)
-        × (now (tally .exit) ≡ afterRequest (lends (now (table .entry)) (now (tally .entry))) (Group (now (names .entry))) .tally)
-        × (verdictOf r ≡ answerRequest (lends (now (table .entry)) (now (tally .entry))) (Group (now (names .entry)))) ⌝ }
+// What is asked, on the first n of 1,024 rows; above 1,024 it is refusal 1.
+fn request_first(rows: &mut [[u32; 6]], n: usize, t: Tally, asked: Asked, names: &[u32]) -> Outcome
+    requires { ⌜ length (now rows) ≡ 1024 ⌝ }
+    ensures { λ r. ⌜ Requested (now (rows .entry)) n t (requestOf asked (now (names .entry))) (now (rows .exit)) r ⌝ }
 {
-    let mut words = [0u32; 6144];
-    let rows = table.len();
-    let n = rows_held(rows);
-    load(table, n, &mut words);
-    let out = steps::drop_all(&mut words, rows, *tally, names);
-    store(table, n, &words);
+    if n <= 1024 {
+        return request(&mut rows[..n], n, t, asked, names);
+    }
+    Outcome {
+        tally: t,
+        answer: Answer::Refused(Refusal::Disordered),
+    }
+}
+
+// The same, on a whole array.
+fn request_held(
+    rows: &mut [[u32; 6]; 1024],
+    n: usize,
+    t: Tally,
+    asked: Asked,
+    names: &[u32],
+) -> Outcome
+    requires { ⌜ length (now rows) ≡ 1024 ⌝ }
+    ensures { λ r. ⌜ Requested (now (rows .entry)) n t (requestOf asked (now (names .entry))) (now (rows .exit)) r ⌝ }
+{
+    request_first(rows, n, t, asked, names)
+}
+
+// A request on the table and the tally that are lent; the names are those of names dropped together.
+pub fn apply(table: &mut [Cap], tally: &mut Tally, asked: Asked, names: &[u32]) -> Answer
+    ensures { λ r. ⌜ (now (table .exit) ≡ Step.after (lends (now (table .entry)) (now (tally .entry))) (requestOf asked (now (names .entry))) .table)
+        × (now (tally .exit) ≡ Step.after (lends (now (table .entry)) (now (tally .entry))) (requestOf asked (now (names .entry))) .tally)
+        × (verdictOf r ≡ Step.answer (lends (now (table .entry)) (now (tally .entry))) (requestOf asked (now (names .entry)))) ⌝ }
+{
+    let mut rows = [[0u32; 6]; 1024];
+    let n = table.len();
+    let m = held(n);
+    load(table, m, &mut rows);
+    let out = request_held(&mut rows, n, *tally, asked, names);
+    store(table, m, &rows);
     *tally = out.tally;
     out.answer
 }

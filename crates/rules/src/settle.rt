@@ -36,36 +36,34 @@ fn marked_row(c: Cap, mark: u8) -> Cap
 }
 
 // The row i gets `ro`, if its mark is 1. Any other needs no writing: a read changes few rows.
-fn lower_row(words: &mut [u32; 6144], i: usize, mark: u8)
-    requires { ⌜ (i < 1024) × (length (now words) ≡ 6144) ⌝ }
-    ensures { λ _. ⌜ (rowsIn (now (words .exit)) ≡ set (rowsIn (now (words .entry))) i (lowered (eqb mark 1) (getD (rowsIn (now (words .entry))) i emptyRow)))
-        × (length (now (words .exit)) ≡ 6144) ⌝ }
+fn lower_row(table: &mut [[u32; 6]], i: usize, mark: u8)
+    requires { ⌜ i < length (now table) ⌝ }
+    ensures { λ _. ⌜ (rowsIn (now (table .exit)) ≡ set (rowsIn (now (table .entry))) i (lowered (eqb mark 1) (getD (rowsIn (now (table .entry))) i emptyRow))) ⌝ }
 {
     if mark != 1 {
         return;
     }
-    let c = row_at(words, i);
-    set_row(words, i, marked_row(c, mark));
+    let c = row_at(table, i);
+    set_row(table, i, marked_row(c, mark));
 }
 
 // Where no row ends: of the first k rows, those marked 1 get `ro`.
-pub fn lower(words: &mut [u32; 6144], k: usize, marks: &[u8; 1024])
-    requires { ⌜ (k ≤ 1024) × (length (now words) ≡ 6144) ⌝ }
-    ensures { λ _. ⌜ Lowers (now (marks .entry)) (rowsIn (now (words .entry))) (rowsIn (now (words .exit))) k × (length (now (words .exit)) ≡ 6144) ⌝ }
+pub fn lower(table: &mut [[u32; 6]], k: usize, marks: &[u8; 1024])
+    requires { ⌜ (k ≤ 1024) × (k ≤ length (now table)) ⌝ }
+    ensures { λ _. ⌜ Lowers (now (marks .entry)) (rowsIn (now (table .entry))) (rowsIn (now (table .exit))) k ⌝ }
 {
     let mut i: usize = 0;
     while i < k {
-        lower_row(words, i, marks[i]);
+        lower_row(table, i, marks[i]);
         i += 1;
     }
 }
 
 // The row i moves to the place `left`, unless its mark is 2; the answer is the next place.
-fn move_row(words: &mut [u32; 6144], i: usize, left: usize, mark: u8) -> usize
-    requires { ⌜ (left ≤ i) × (i < 1024) × (length (now words) ≡ 6144) ⌝ }
-    ensures { λ r. ⌜ (rowsIn (now (words .exit)) ≡ cond (ltb mark 2) (set (rowsIn (now (words .entry))) left (lowered (eqb mark 1) (getD (rowsIn (now (words .entry))) i emptyRow))) (rowsIn (now (words .entry))))
-        × (r ≡ cond (ltb mark 2) (left + 1) left)
-        × (length (now (words .exit)) ≡ 6144) ⌝ }
+fn move_row(table: &mut [[u32; 6]], i: usize, left: usize, mark: u8) -> usize
+    requires { ⌜ (left ≤ i) × (i < length (now table)) ⌝ }
+    ensures { λ r. ⌜ (rowsIn (now (table .exit)) ≡ cond (ltb mark 2) (set (rowsIn (now (table .entry))) left (lowered (eqb mark 1) (getD (rowsIn (now (table .entry))) i emptyRow))) (rowsIn (now (table .entry))))
+        × (r ≡ cond (ltb mark 2) (left + 1) left) ⌝ }
 {
     if 2 <= mark {
         return left;
@@ -76,17 +74,16 @@ fn move_row(words: &mut [u32; 6144], i: usize, left: usize, mark: u8) -> usize
             return left + 1;
         }
     }
-    let c = row_at(words, i);
-    set_row(words, left, marked_row(c, mark));
+    let c = row_at(table, i);
+    set_row(table, left, marked_row(c, mark));
     left + 1
 }
 
 // The first k rows close up, and the places of their parents with them; the answer is how many are left.
-fn close(words: &mut [u32; 6144], k: usize, marks: &[u8; 1024], places: &mut [usize; 1024]) -> usize
-    requires { ⌜ (k ≤ 1024) × (length (now words) ≡ 6144) × Places (rowsIn (now words)) k (now places) × Downward (rowsIn (now words)) k (now marks) ⌝ }
-    ensures { λ r. ⌜ Closes (now (marks .entry)) (rowsIn (now (words .entry))) (rowsIn (now (words .exit))) k r
-        × Places (rowsIn (now (words .exit))) r (now (places .exit))
-        × (length (now (words .exit)) ≡ 6144) ⌝ }
+fn close(table: &mut [[u32; 6]], k: usize, marks: &[u8; 1024], places: &mut [usize; 1024]) -> usize
+    requires { ⌜ (k ≤ 1024) × (k ≤ length (now table)) × Places (rowsIn (now table)) k (now places) × Downward (rowsIn (now table)) k (now marks) ⌝ }
+    ensures { λ r. ⌜ Closes (now (marks .entry)) (rowsIn (now (table .entry))) (rowsIn (now (table .exit))) k r
+        × Places (rowsIn (now (table .exit))) r (now (places .exit)) ⌝ }
 {
     // Where each row goes. A root has its own place, and a parent stays where a child of it does.
     let mut moved = [0usize; 1024];
@@ -96,36 +93,36 @@ fn close(words: &mut [u32; 6144], k: usize, marks: &[u8; 1024], places: &mut [us
         moved[i] = left;
         let q = places[i];
         places[left] = moved[q];
-        left = move_row(words, i, left, marks[i]);
+        left = move_row(table, i, left, marks[i]);
         i += 1;
     }
     left
 }
 
 // Zeros from one row up to another.
-fn clear(words: &mut [u32; 6144], from: usize, to: usize)
-    requires { ⌜ (from ≤ to) × (to ≤ 1024) × (length (now words) ≡ 6144) ⌝ }
-    ensures { λ _. ⌜ Clears (rowsIn (now (words .entry))) (rowsIn (now (words .exit))) from to × (length (now (words .exit)) ≡ 6144) ⌝ }
+fn clear(table: &mut [[u32; 6]], from: usize, to: usize)
+    requires { ⌜ (from ≤ to) × (to ≤ length (now table)) ⌝ }
+    ensures { λ _. ⌜ Clears (rowsIn (now (table .entry))) (rowsIn (now (table .exit))) from to ⌝ }
 {
     let mut i = from;
     while i < to {
-        set_row(words, i, empty_row());
+        set_row(table, i, empty_row());
         i += 1;
     }
 }
 
 // Of n rows, the first k after their marks; the answer is how many are left.
 pub fn settle(
-    words: &mut [u32; 6144],
+    table: &mut [[u32; 6]],
     n: usize,
     k: usize,
     marks: &[u8; 1024],
     places: &mut [usize; 1024],
 ) -> usize
-    requires { ⌜ Ready (now words) (rowsIn (now words)) n k × Places (rowsIn (now words)) k (now places) × Downward (rowsIn (now words)) k (now marks) ⌝ }
-    ensures { λ r. ⌜ Settled (rowsIn (now (words .exit))) n r (kept (now (marks .entry)) (rowsIn (now (words .entry))) k) (now (places .exit)) × (length (now (words .exit)) ≡ 6144) ⌝ }
+    requires { ⌜ Ready (now table) (rowsIn (now table)) n k × Places (rowsIn (now table)) k (now places) × Downward (rowsIn (now table)) k (now marks) ⌝ }
+    ensures { λ r. ⌜ Settled (rowsIn (now (table .exit))) n r (kept (now (marks .entry)) (rowsIn (now (table .entry))) k) (now (places .exit)) ⌝ }
 {
-    let left = close(words, k, marks, places);
-    clear(words, left, k);
+    let left = close(table, k, marks, places);
+    clear(table, left, k);
     left
 }

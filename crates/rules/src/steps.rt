@@ -1,11 +1,10 @@
-// One event on a table of words and a tally.
+// One event on a lent table and a tally.
 use crate::Outcome;
 use crate::Progress;
 use crate::count::count_allowed;
 use crate::count::count_dropped;
 use crate::count::count_refused;
 use crate::marks::marks_of_access;
-use crate::marks::marks_of_drop;
 use crate::marks::marks_of_names;
 use crate::settle::lower;
 use crate::settle::settle;
@@ -28,17 +27,17 @@ ghost use mathlib.Core.Path.{_≡_};
 ghost use mathlib.Core.Bool.{true, false};
 ghost use mathlib.Core.List.{_∷_};
 ghost use Prim.Native.Nat.{_<_, _≤_};
-ghost use lib.ListN.{length, take};
+ghost use lib.ListN.{length};
 ghost use Rattle.model.specs.Lists.{any};
-ghost use Rattle.model.specs.Derivation.{ancestry, inSubtree};
-ghost use Rattle.model.specs.Table.{row, derivations, named, lookup};
-ghost use Rattle.model.specs.Effects.{revoke, afterAccess, rowsAfter};
+ghost use Rattle.model.specs.Table.{row, named, lookup};
+ghost use Rattle.model.specs.Effects.{afterAccess, rowsWithout, rowsAfter};
 ghost use Rattle.model.specs.Refusals;
-ghost use Rattle.model.specs.Together.{rowsWithout};
+ghost use Rattle.model.specs.Refusals.{viewOf};
+ghost use Rattle.model.specs.Requests.{Single, Group};
 ghost use Rattle.table.specs.Words.{rowsIn};
 ghost use Rattle.table.specs.Rows.{before, Rise, Found, Places, Orderly};
 ghost use Rattle.rules.specs.Engine.{Ready, Settled};
-ghost use Rattle.rules.specs.Steps.{Stepped, Grouped};
+ghost use Rattle.rules.specs.Steps.{Stepped};
 
 // The row of a new capability.
 fn new_row(name: u32, parent: u32, s: Span, right: u32, depth: u32) -> Cap
@@ -57,138 +56,124 @@ fn new_row(name: u32, parent: u32, s: Span, right: u32, depth: u32) -> Cap
 
 // The first empty row gets it, where q is its parent's place; the answer is how many rows live then.
 fn append(
-    words: &mut [u32; 6144],
+    table: &mut [[u32; 6]],
     n: usize,
     k: usize,
     places: &mut [usize; 1024],
     c: Cap,
     q: usize,
 ) -> usize
-    requires { ⌜ (k < n) × Ready (now words) (rowsIn (now words)) n k × Places (rowsIn (now words)) k (now places)
-        × Found (rowsIn (now words)) k (c .parent .0) q × (0 < c .name .0) ⌝ }
-    ensures { λ r. ⌜ Settled (rowsIn (now (words .exit))) n r (c ∷ before (rowsIn (now (words .entry))) k) (now (places .exit)) × (length (now (words .exit)) ≡ 6144) ⌝ }
+    requires { ⌜ (k < n) × Ready (now table) (rowsIn (now table)) n k × Places (rowsIn (now table)) k (now places)
+        × Found (rowsIn (now table)) k (c .parent .0) q × (0 < c .name .0) ⌝ }
+    ensures { λ r. ⌜ Settled (rowsIn (now (table .exit))) n r (c ∷ before (rowsIn (now (table .entry))) k) (now (places .exit)) ⌝ }
 {
-    set_row(words, k, c);
+    set_row(table, k, c);
     places[k] = q;
     k + 1
 }
 
 // The depth of a name that is there, at q.
-fn depth_at(words: &[u32; 6144], k: usize, u: u32, q: usize) -> u32
-    requires { ⌜ (k ≤ 1024) × Rise (rowsIn (now words)) k × (any (named u) (before (rowsIn (now words)) k) ≡ true) × Found (rowsIn (now words)) k u q ⌝ }
-    ensures { λ r. ⌜ r ≡ lookup u (before (rowsIn (now (words .entry))) k) .depth ⌝ }
+fn depth_at(table: &[[u32; 6]], k: usize, u: u32, q: usize) -> u32
+    requires { ⌜ (k ≤ 1024) × Rise (rowsIn (now table)) k × (any (named u) (before (rowsIn (now table)) k) ≡ true) × Found (rowsIn (now table)) k u q ⌝ }
+    ensures { λ r. ⌜ r ≡ lookup u (before (rowsIn (now (table .entry))) k) .depth ⌝ }
 {
-    let c = row_at(words, q);
+    let c = row_at(table, q);
     c.depth
 }
 
 // A read through the name u. No row ends, so each parent stays where it is.
-fn read_rows(words: &mut [u32; 6144], n: usize, k: usize, places: &[usize; 1024], u: u32, s: Span)
-    requires { ⌜ Ready (now words) (rowsIn (now words)) n k × Places (rowsIn (now words)) k (now places) ⌝ }
-    ensures { λ _. ⌜ Settled (rowsIn (now (words .exit))) n k (afterAccess Access.Reading u s (before (rowsIn (now (words .entry))) k)) (now (places .entry)) × (length (now (words .exit)) ≡ 6144) ⌝ }
+fn read_rows(table: &mut [[u32; 6]], n: usize, k: usize, places: &[usize; 1024], u: u32, s: Span)
+    requires { ⌜ Ready (now table) (rowsIn (now table)) n k × Places (rowsIn (now table)) k (now places) ⌝ }
+    ensures { λ _. ⌜ Settled (rowsIn (now (table .exit))) n k (afterAccess Access.Reading u s (before (rowsIn (now (table .entry))) k)) (now (places .entry)) ⌝ }
 {
-    let marks = marks_of_access(words, k, places, u, Access::Reading, s);
-    lower(words, k, &marks);
+    let marks = marks_of_access(table, k, places, u, Access::Reading, s);
+    lower(table, k, &marks);
 }
 
 // A write through the name u.
 fn write_rows(
-    words: &mut [u32; 6144],
+    table: &mut [[u32; 6]],
     n: usize,
     k: usize,
     places: &mut [usize; 1024],
     u: u32,
     s: Span,
 ) -> usize
-    requires { ⌜ Ready (now words) (rowsIn (now words)) n k × Places (rowsIn (now words)) k (now places) ⌝ }
-    ensures { λ r. ⌜ Settled (rowsIn (now (words .exit))) n r (afterAccess Access.Writing u s (before (rowsIn (now (words .entry))) k)) (now (places .exit)) × (length (now (words .exit)) ≡ 6144) ⌝ }
+    requires { ⌜ Ready (now table) (rowsIn (now table)) n k × Places (rowsIn (now table)) k (now places) ⌝ }
+    ensures { λ r. ⌜ Settled (rowsIn (now (table .exit))) n r (afterAccess Access.Writing u s (before (rowsIn (now (table .entry))) k)) (now (places .exit)) ⌝ }
 {
-    let marks = marks_of_access(words, k, places, u, Access::Writing, s);
-    settle(words, n, k, &marks, places)
-}
-
-// A drop of the name u.
-fn drop_rows(
-    words: &mut [u32; 6144],
-    n: usize,
-    k: usize,
-    places: &mut [usize; 1024],
-    u: u32,
-) -> usize
-    requires { ⌜ Ready (now words) (rowsIn (now words)) n k × Places (rowsIn (now words)) k (now places) ⌝ }
-    ensures { λ r. ⌜ Settled (rowsIn (now (words .exit))) n r (revoke (λ x. inSubtree u (ancestry (derivations (before (rowsIn (now (words .entry))) k)) x)) (λ x. false) (before (rowsIn (now (words .entry))) k)) (now (places .exit))
-        × (length (now (words .exit)) ≡ 6144) ⌝ }
-{
-    let marks = marks_of_drop(words, k, places, u);
-    settle(words, n, k, &marks, places)
+    let marks = marks_of_access(table, k, places, u, Access::Writing, s);
+    settle(table, n, k, &marks, places)
 }
 
 // Names dropped together.
 fn drop_names(
-    words: &mut [u32; 6144],
+    table: &mut [[u32; 6]],
     n: usize,
     k: usize,
     places: &mut [usize; 1024],
     names: &[u32],
 ) -> usize
-    requires { ⌜ Ready (now words) (rowsIn (now words)) n k × Places (rowsIn (now words)) k (now places) ⌝ }
-    ensures { λ r. ⌜ Settled (rowsIn (now (words .exit))) n r (rowsWithout (now (names .entry)) (before (rowsIn (now (words .entry))) k)) (now (places .exit))
-        × (length (now (words .exit)) ≡ 6144) ⌝ }
+    requires { ⌜ Ready (now table) (rowsIn (now table)) n k × Places (rowsIn (now table)) k (now places) ⌝ }
+    ensures { λ r. ⌜ Settled (rowsIn (now (table .exit))) n r (rowsWithout (now (names .entry)) (before (rowsIn (now (table .entry))) k)) (now (places .exit)) ⌝ }
 {
-    let marks = marks_of_names(words, k, places, names);
-    settle(words, n, k, &marks, places)
+    let marks = marks_of_names(table, k, places, names);
+    settle(table, n, k, &marks, places)
 }
 
 // What an allowed event does to the rows; the answer is how many live then. A create is a write through its new name, which has no row
 // yet and so is in the subtree of none; then that name's row is added.
 fn change(
-    words: &mut [u32; 6144],
+    table: &mut [[u32; 6]],
     n: usize,
     k: usize,
     places: &mut [usize; 1024],
     issued: u32,
     e: Event,
 ) -> usize
-    requires { ⌜ Orderly (rowsIn (now words)) n k issued × (Refusals.judge (take n (rowsIn (now words))) issued e ≡ 0) × (length (now words) ≡ 6144) × Places (rowsIn (now words)) k (now places) ⌝ }
-    ensures { λ r. ⌜ Settled (rowsIn (now (words .exit))) n r (rowsAfter issued (before (rowsIn (now (words .entry))) k) e) (now (places .exit)) × (length (now (words .exit)) ≡ 6144) ⌝ }
+    requires { ⌜ Orderly (rowsIn (now table)) n k issued × (Refusals.judge (viewOf (rowsIn (now table)) issued) (Single e) ≡ 0) × Places (rowsIn (now table)) k (now places) ⌝ }
+    ensures { λ r. ⌜ Settled (rowsIn (now (table .exit))) n r (rowsAfter issued (before (rowsIn (now (table .entry))) k) (Single e)) (now (places .exit)) ⌝ }
 {
     match e {
         Event::Create(_, s, r) => {
             let c = new_row(issued + 1, 0, s, r as u32, 1);
-            let left = write_rows(words, n, k, places, issued + 1, s);
-            append(words, n, left, places, c, left)
+            let left = write_rows(table, n, k, places, issued + 1, s);
+            append(table, n, left, places, c, left)
         }
         Event::Borrow(_, u, s, r) => {
-            let q = find(words, k, u.0);
-            let d = depth_at(words, k, u.0, q);
+            let q = find(table, k, u.0);
+            let d = depth_at(table, k, u.0, q);
             let c = new_row(issued + 1, u.0, s, r as u32, d + 1);
-            append(words, n, k, places, c, q)
+            append(table, n, k, places, c, q)
         }
         Event::Read(u, s) => {
-            read_rows(words, n, k, places, u.0, s);
+            read_rows(table, n, k, places, u.0, s);
             k
         }
-        Event::Write(u, s) => write_rows(words, n, k, places, u.0, s),
-        Event::Drop(u) => drop_rows(words, n, k, places, u.0),
+        Event::Write(u, s) => write_rows(table, n, k, places, u.0, s),
+        Event::Drop(u) => {
+            let names = [u.0];
+            drop_names(table, n, k, places, &names)
+        }
     }
 }
 
 // An event on a table in order, of which it is known how many rows live and where each row's parent stands. Both are known after it too,
 // so that a run of events looks for them once.
 pub fn step_known(
-    words: &mut [u32; 6144],
+    table: &mut [[u32; 6]],
     n: usize,
     k: usize,
     places: &mut [usize; 1024],
     t: Tally,
     e: Event,
 ) -> Progress
-    requires { ⌜ Orderly (rowsIn (now words)) n k (t .issued) × Places (rowsIn (now words)) k (now places) × (length (now words) ≡ 6144) ⌝ }
-    ensures { λ r. ⌜ Stepped (now (words .entry)) n t e (now (words .exit)) (r .outcome)
-        × Orderly (rowsIn (now (words .exit))) n (r .live) (r .outcome .tally .issued)
-        × Places (rowsIn (now (words .exit))) (r .live) (now (places .exit)) ⌝ }
+    requires { ⌜ Orderly (rowsIn (now table)) n k (t .issued) × Places (rowsIn (now table)) k (now places) ⌝ }
+    ensures { λ r. ⌜ Stepped (now (table .entry)) t (Single e) (now (table .exit)) (r .outcome)
+        × Orderly (rowsIn (now (table .exit))) n (r .live) (r .outcome .tally .issued)
+        × Places (rowsIn (now (table .exit))) (r .live) (now (places .exit)) ⌝ }
 {
-    let a = judge(words, n, k, t.issued, e);
+    let a = judge(table, n, k, t.issued, e);
     match a {
         Answer::Refused(x) => {
             let outcome = Outcome {
@@ -198,7 +183,7 @@ pub fn step_known(
             Progress { outcome, live: k }
         }
         Answer::Allowed(x) => {
-            let live = change(words, n, k, places, t.issued, e);
+            let live = change(table, n, k, places, t.issued, e);
             let outcome = Outcome {
                 tally: count_allowed(e, t),
                 answer: Answer::Allowed(x),
@@ -209,15 +194,15 @@ pub fn step_known(
 }
 
 // An event on any table; above 1,024 rows it is refusal 1.
-pub fn step(words: &mut [u32; 6144], n: usize, t: Tally, e: Event) -> Outcome
-    requires { ⌜ length (now words) ≡ 6144 ⌝ }
-    ensures { λ r. ⌜ Stepped (now (words .entry)) n t e (now (words .exit)) r ⌝ }
+pub fn step(table: &mut [[u32; 6]], n: usize, t: Tally, e: Event) -> Outcome
+    requires { ⌜ length (now table) ≡ n ⌝ }
+    ensures { λ r. ⌜ Stepped (now (table .entry)) t (Single e) (now (table .exit)) r ⌝ }
 {
     if n <= 1024 {
-        let k = live_count(words, n);
+        let k = live_count(table, n);
         let mut places = [0usize; 1024];
-        if check_order(words, n, k, t.issued, &mut places) {
-            let p = step_known(words, n, k, &mut places, t, e);
+        if check_order(table, n, k, t.issued, &mut places) {
+            let p = step_known(table, n, k, &mut places, t, e);
             let outcome = p.outcome;
             return outcome;
         }
@@ -230,19 +215,19 @@ pub fn step(words: &mut [u32; 6144], n: usize, t: Tally, e: Event) -> Outcome
 
 // Names dropped together, as `step_known` takes an event.
 pub fn drop_known(
-    words: &mut [u32; 6144],
+    table: &mut [[u32; 6]],
     n: usize,
     k: usize,
     places: &mut [usize; 1024],
     t: Tally,
     names: &[u32],
 ) -> Progress
-    requires { ⌜ Orderly (rowsIn (now words)) n k (t .issued) × Places (rowsIn (now words)) k (now places) × (length (now words) ≡ 6144) ⌝ }
-    ensures { λ r. ⌜ Grouped (now (words .entry)) n t (now (names .entry)) (now (words .exit)) (r .outcome)
-        × Orderly (rowsIn (now (words .exit))) n (r .live) (r .outcome .tally .issued)
-        × Places (rowsIn (now (words .exit))) (r .live) (now (places .exit)) ⌝ }
+    requires { ⌜ Orderly (rowsIn (now table)) n k (t .issued) × Places (rowsIn (now table)) k (now places) ⌝ }
+    ensures { λ r. ⌜ Stepped (now (table .entry)) t (Group (now (names .entry))) (now (table .exit)) (r .outcome)
+        × Orderly (rowsIn (now (table .exit))) n (r .live) (r .outcome .tally .issued)
+        × Places (rowsIn (now (table .exit))) (r .live) (now (places .exit)) ⌝ }
 {
-    let a = judge_group(words, n, k, t.issued, names);
+    let a = judge_group(table, n, k, t.issued, names);
     match a {
         Answer::Refused(why) => {
             let outcome = Outcome {
@@ -252,7 +237,7 @@ pub fn drop_known(
             Progress { outcome, live: k }
         }
         Answer::Allowed(x) => {
-            let left = drop_names(words, n, k, places, names);
+            let left = drop_names(table, n, k, places, names);
             let outcome = Outcome {
                 tally: count_dropped(t),
                 answer: Answer::Allowed(x),
@@ -266,15 +251,15 @@ pub fn drop_known(
 }
 
 // Names dropped together, on any table; above 1,024 rows it is refusal 1.
-pub fn drop_all(words: &mut [u32; 6144], rows: usize, t: Tally, names: &[u32]) -> Outcome
-    requires { ⌜ length (now words) ≡ 6144 ⌝ }
-    ensures { λ r. ⌜ Grouped (now (words .entry)) rows t (now (names .entry)) (now (words .exit)) r ⌝ }
+pub fn drop_all(table: &mut [[u32; 6]], rows: usize, t: Tally, names: &[u32]) -> Outcome
+    requires { ⌜ length (now table) ≡ rows ⌝ }
+    ensures { λ r. ⌜ Stepped (now (table .entry)) t (Group (now (names .entry))) (now (table .exit)) r ⌝ }
 {
     if rows <= 1024 {
-        let k = live_count(words, rows);
+        let k = live_count(table, rows);
         let mut places = [0usize; 1024];
-        if check_order(words, rows, k, t.issued, &mut places) {
-            let p = drop_known(words, rows, k, &mut places, t, names);
+        if check_order(table, rows, k, t.issued, &mut places) {
+            let p = drop_known(table, rows, k, &mut places, t, names);
             let outcome = p.outcome;
             return outcome;
         }

@@ -6,11 +6,11 @@ use model::Name;
 use model::Refusal;
 ghost use mathlib.Core.Path.{_≡_};
 ghost use Prim.Native.Nat.{_≤_};
-ghost use lib.ListN.{take};
 ghost use Rattle.model.specs.Lists.{first};
 ghost use Rattle.model.specs.Step.{verdict};
 ghost use Rattle.model.specs.Answers.{verdictOf};
-ghost use Rattle.model.specs.Together.{isGroup, standings, judgeGroup};
+ghost use Rattle.model.specs.Requests.{Group, isGroup};
+ghost use Rattle.model.specs.Refusals.{judge, standings, viewOf};
 ghost use Rattle.table.specs.Words.{rowsIn};
 ghost use Rattle.table.specs.Rows.{before, Rise, Orderly};
 
@@ -35,13 +35,13 @@ pub fn is_group(names: &[u32]) -> bool
 }
 
 // Refusals 4 and 5, of the first name that gets one.
-fn judge_names(words: &[u32; 6144], k: usize, issued: u32, names: &[u32]) -> Answer
-    requires { ⌜ (k ≤ 1024) × Rise (rowsIn (now words)) k ⌝ }
-    ensures { λ a. ⌜ verdictOf a ≡ verdict (first (standings (before (rowsIn (now (words .entry))) k) issued (now (names .entry)))) 0 ⌝ }
+fn judge_names(table: &[[u32; 6]], k: usize, issued: u32, names: &[u32]) -> Answer
+    requires { ⌜ (k ≤ 1024) × Rise (rowsIn (now table)) k ⌝ }
+    ensures { λ a. ⌜ verdictOf a ≡ verdict (first (standings (before (rowsIn (now (table .entry))) k) issued (now (names .entry)))) 0 ⌝ }
 {
     let mut i = 0;
     while i < names.len() {
-        let place = place_of(words, k, issued, Name(names[i]));
+        let place = place_of(table, k, issued, Name(names[i]));
         if let Place::Not(x) = place {
             return Answer::Refused(x);
         }
@@ -51,12 +51,12 @@ fn judge_names(words: &[u32; 6144], k: usize, issued: u32, names: &[u32]) -> Ans
 }
 
 // Internal. The answer to a group of names.
-pub fn judge_group(words: &[u32; 6144], n: usize, k: usize, issued: u32, names: &[u32]) -> Answer
-    requires { ⌜ Orderly (rowsIn (now words)) n k issued ⌝ }
-    ensures { λ a. ⌜ verdictOf a ≡ verdict (judgeGroup (take n (rowsIn (now (words .entry)))) issued (now (names .entry))) 0 ⌝ }
+pub fn judge_group(table: &[[u32; 6]], n: usize, k: usize, issued: u32, names: &[u32]) -> Answer
+    requires { ⌜ Orderly (rowsIn (now table)) n k issued ⌝ }
+    ensures { λ a. ⌜ verdictOf a ≡ verdict (judge (viewOf (rowsIn (now (table .entry))) issued) (Group (now (names .entry)))) 0 ⌝ }
 {
     if !is_group(names) {
         return Answer::Refused(Refusal::Misgrouped);
     }
-    judge_names(words, k, issued, names)
+    judge_names(table, k, issued, names)
 }

@@ -14,14 +14,14 @@ use model::Span;
 ghost use mathlib.Core.Path.{_≡_};
 ghost use mathlib.Core.List.{_∷_};
 ghost use Prim.Native.Nat.{suc, _≤_};
-ghost use lib.ListN.{take};
 ghost use Rattle.model.specs.Lists.{first};
-ghost use Rattle.model.specs.Refusals.{notARight, illegalSpan, misnamed, checks};
+ghost use Rattle.model.specs.Refusals.{notARight, illegalSpan, misnamed, checks, viewOf};
 ghost use Rattle.model.specs.Effects.{newName};
 ghost use Rattle.model.specs.Step.{verdict};
 ghost use Rattle.model.specs.Refusals;
 ghost use Rattle.model.specs.declared.Event;
 ghost use Rattle.model.specs.Answers.{verdictOf};
+ghost use Rattle.model.specs.Requests.{Single};
 ghost use Rattle.table.specs.Words.{rowsIn};
 ghost use Rattle.table.specs.Rows.{before, Rise, Orderly};
 ghost use Rattle.table.specs.Stands.{Stands, Serves, saidOf, roomFor};
@@ -33,9 +33,9 @@ pub enum Place {
 }
 
 // Internal. Refusals 4 and 5.
-pub fn place_of(words: &[u32; 6144], k: usize, issued: u32, u: Name) -> Place
-    requires { ⌜ (k ≤ 1024) × Rise (rowsIn (now words)) k ⌝ }
-    ensures { λ r. ⌜ Stands (rowsIn (now (words .entry))) k issued u r ⌝ }
+pub fn place_of(table: &[[u32; 6]], k: usize, issued: u32, u: Name) -> Place
+    requires { ⌜ (k ≤ 1024) × Rise (rowsIn (now table)) k ⌝ }
+    ensures { λ r. ⌜ Stands (rowsIn (now (table .entry))) k issued u r ⌝ }
 {
     if u.0 == 0 {
         return Place::Not(Refusal::Unissued);
@@ -43,7 +43,7 @@ pub fn place_of(words: &[u32; 6144], k: usize, issued: u32, u: Name) -> Place
     if issued < u.0 {
         return Place::Not(Refusal::Unissued);
     }
-    let q = find(words, k, u.0);
+    let q = find(table, k, u.0);
     if q < k {
         Place::At(q)
     } else {
@@ -52,17 +52,17 @@ pub fn place_of(words: &[u32; 6144], k: usize, issued: u32, u: Name) -> Place
 }
 
 // Refusals 3 to 7: a name to be used on a span, with a right.
-fn usable_place(words: &[u32; 6144], k: usize, issued: u32, u: Name, s: Span, right: u32) -> Place
-    requires { ⌜ (k ≤ 1024) × Rise (rowsIn (now words)) k ⌝ }
-    ensures { λ r. ⌜ Serves (rowsIn (now (words .entry))) k issued u s right r ⌝ }
+fn usable_place(table: &[[u32; 6]], k: usize, issued: u32, u: Name, s: Span, right: u32) -> Place
+    requires { ⌜ (k ≤ 1024) × Rise (rowsIn (now table)) k ⌝ }
+    ensures { λ r. ⌜ Serves (rowsIn (now (table .entry))) k issued u s right r ⌝ }
 {
     if !is_legal(s) {
         return Place::Not(Refusal::IllegalSpan);
     }
-    match place_of(words, k, issued, u) {
+    match place_of(table, k, issued, u) {
         Place::Not(x) => Place::Not(x),
         Place::At(q) => {
-            let c = row_at(words, q);
+            let c = row_at(table, q);
             if !is_inside(s, span_of(c)) {
                 return Place::Not(Refusal::OutsideSpan);
             }
@@ -127,7 +127,7 @@ fn judge_create(n: usize, k: usize, issued: u32, w: NewName, s: Span, r: u8) -> 
 }
 
 fn judge_borrow(
-    words: &[u32; 6144],
+    table: &[[u32; 6]],
     n: usize,
     k: usize,
     issued: u32,
@@ -136,16 +136,16 @@ fn judge_borrow(
     s: Span,
     r: u8,
 ) -> Answer
-    requires { ⌜ (k ≤ 1024) × Rise (rowsIn (now words)) k × (issued ≤ 1000000) ⌝ }
-    ensures { λ a. ⌜ verdictOf a ≡ verdict (first (checks (before (rowsIn (now (words .entry))) k) issued n (Event.Borrow w u s r))) (suc issued) ⌝ }
+    requires { ⌜ (k ≤ 1024) × Rise (rowsIn (now table)) k × (issued ≤ 1000000) ⌝ }
+    ensures { λ a. ⌜ verdictOf a ≡ verdict (first (checks (before (rowsIn (now (table .entry))) k) issued n (Single (Event.Borrow w u s r)))) (suc issued) ⌝ }
 {
     if !is_right(r as u32) {
         return Answer::Refused(Refusal::Misspelt);
     }
-    match usable_place(words, k, issued, u, s, r as u32) {
+    match usable_place(table, k, issued, u, s, r as u32) {
         Place::Not(x) => Answer::Refused(x),
         Place::At(q) => {
-            let c = row_at(words, q);
+            let c = row_at(table, q);
             if 64 <= c.depth {
                 return Answer::Refused(Refusal::TooDeep);
             }
@@ -155,15 +155,15 @@ fn judge_borrow(
 }
 
 // The answer to an event. Internal: the caller shows that the table is in order.
-pub fn judge(words: &[u32; 6144], n: usize, k: usize, issued: u32, e: Event) -> Answer
-    requires { ⌜ Orderly (rowsIn (now words)) n k issued ⌝ }
-    ensures { λ a. ⌜ verdictOf a ≡ verdict (Refusals.judge (take n (rowsIn (now (words .entry)))) issued e) (newName issued e) ⌝ }
+pub fn judge(table: &[[u32; 6]], n: usize, k: usize, issued: u32, e: Event) -> Answer
+    requires { ⌜ Orderly (rowsIn (now table)) n k issued ⌝ }
+    ensures { λ a. ⌜ verdictOf a ≡ verdict (Refusals.judge (viewOf (rowsIn (now (table .entry))) issued) (Single e)) (newName issued (Single e)) ⌝ }
 {
     match e {
         Event::Create(w, s, r) => judge_create(n, k, issued, w, s, r),
-        Event::Borrow(w, u, s, r) => judge_borrow(words, n, k, issued, w, u, s, r),
-        Event::Read(u, s) => place_answer(usable_place(words, k, issued, u, s, 1)),
-        Event::Write(u, s) => place_answer(usable_place(words, k, issued, u, s, 2)),
-        Event::Drop(u) => place_answer(place_of(words, k, issued, u)),
+        Event::Borrow(w, u, s, r) => judge_borrow(table, n, k, issued, w, u, s, r),
+        Event::Read(u, s) => place_answer(usable_place(table, k, issued, u, s, 1)),
+        Event::Write(u, s) => place_answer(usable_place(table, k, issued, u, s, 2)),
+        Event::Drop(u) => place_answer(place_of(table, k, issued, u)),
     }
 }

@@ -8,7 +8,7 @@ use model::Cap;
 ghost use mathlib.Core.Path.{_≡_};
 ghost use mathlib.Core.Bool.{true};
 ghost use Prim.Native.Nat.{suc, _<_, _≤_};
-ghost use lib.ListN.{length, take, drop};
+ghost use lib.ListN.{length, drop};
 ghost use Rattle.model.specs.Lists.{all};
 ghost use Rattle.model.specs.Table.{isEmptyRow, isRight, rowFitsParent, rowInOrder, rowsInOrder, inOrder};
 ghost use Rattle.table.specs.Words.{rowsIn};
@@ -36,13 +36,13 @@ fn is_empty_row(c: Cap) -> bool
 }
 
 // The rows from k to n are all zeros.
-fn rest_is_empty(words: &[u32; 6144], k: usize, n: usize) -> bool
-    requires { ⌜ (k ≤ n) × (n ≤ 1024) ⌝ }
-    ensures { λ r. ⌜ r ≡ all isEmptyRow (drop k (take n (rowsIn (now (words .entry))))) ⌝ }
+fn rest_is_empty(table: &[[u32; 6]], k: usize, n: usize) -> bool
+    requires { ⌜ (k ≤ n) × (length (now table) ≡ n) ⌝ }
+    ensures { λ r. ⌜ r ≡ all isEmptyRow (drop k (rowsIn (now (table .entry)))) ⌝ }
 {
     let mut i = k;
     while i < n {
-        let c = row_at(words, i);
+        let c = row_at(table, i);
         if !is_empty_row(c) {
             return false;
         }
@@ -74,9 +74,9 @@ fn row_fits_parent(c: Cap, p: Cap) -> bool
 }
 
 // A row against the i rows before it, where q is its parent's place.
-fn row_in_order(words: &[u32; 6144], i: usize, c: Cap, q: usize) -> bool
-    requires { ⌜ (i ≤ 1024) × Rise (rowsIn (now words)) i × Found (rowsIn (now words)) i (c .parent .0) q ⌝ }
-    ensures { λ r. ⌜ r ≡ rowInOrder c (before (rowsIn (now (words .entry))) i) ⌝ }
+fn row_in_order(table: &[[u32; 6]], i: usize, c: Cap, q: usize) -> bool
+    requires { ⌜ (i ≤ 1024) × Rise (rowsIn (now table)) i × Found (rowsIn (now table)) i (c .parent .0) q ⌝ }
+    ensures { λ r. ⌜ r ≡ rowInOrder c (before (rowsIn (now (table .entry))) i) ⌝ }
 {
     if !is_legal(span_of(c)) {
         return false;
@@ -88,7 +88,7 @@ fn row_in_order(words: &[u32; 6144], i: usize, c: Cap, q: usize) -> bool
         return c.depth == 1;
     }
     if q < i {
-        let p = row_at(words, q);
+        let p = row_at(table, q);
         row_fits_parent(c, p)
     } else {
         false
@@ -110,22 +110,22 @@ pub fn wide(x: u16) -> usize
 }
 
 // Each of the first k rows against the rows before it. The place of each row's parent is noted.
-fn rows_in_order(words: &[u32; 6144], k: usize, issued: u32, places: &mut [usize; 1024]) -> bool
-    requires { ⌜ (k ≤ 1024) × Filled (rowsIn (now words)) k × (length (now places) ≡ 1024) ⌝ }
-    ensures { λ r. ⌜ (r ≡ rowsInOrder (suc issued) (before (rowsIn (now (words .entry))) k)) × PlacesIf r (rowsIn (now (words .entry))) k (now (places .exit)) ⌝ }
+fn rows_in_order(table: &[[u32; 6]], k: usize, issued: u32, places: &mut [usize; 1024]) -> bool
+    requires { ⌜ (k ≤ 1024) × Filled (rowsIn (now table)) k × (length (now places) ≡ 1024) ⌝ }
+    ensures { λ r. ⌜ (r ≡ rowsInOrder (suc issued) (before (rowsIn (now (table .entry))) k)) × PlacesIf r (rowsIn (now (table .entry))) k (now (places .exit)) ⌝ }
 {
     // Where names were seen last, for a first guess at a parent's place.
     let mut seen = [0u16; 2048];
     let mut last: u32 = 0;
     let mut i: usize = 0;
     while i < k {
-        let c = row_at(words, i);
+        let c = row_at(table, i);
         if c.name.0 <= last {
             return false;
         }
         let guess = wide(seen[slot(c.parent.0)]);
-        let q = find_near(words, i, c.parent.0, guess);
-        if !row_in_order(words, i, c, q) {
+        let q = find_near(table, i, c.parent.0, guess);
+        if !row_in_order(table, i, c, q) {
             return false;
         }
         places[i] = q;
@@ -139,29 +139,29 @@ fn rows_in_order(words: &[u32; 6144], k: usize, issued: u32, places: &mut [usize
 // The first n rows are in order, where k of them stand before the first with name 0. If they are, the place of each row's parent is noted.
 // Internal: the caller counts the live rows.
 pub fn check_order(
-    words: &[u32; 6144],
+    table: &[[u32; 6]],
     n: usize,
     k: usize,
     issued: u32,
     places: &mut [usize; 1024],
 ) -> bool
-    requires { ⌜ (n ≤ 1024) × Front (rowsIn (now words)) n k × (length (now places) ≡ 1024) ⌝ }
-    ensures { λ r. ⌜ (r ≡ inOrder (take n (rowsIn (now (words .entry)))) issued) × PlacesIf r (rowsIn (now (words .entry))) k (now (places .exit)) ⌝ }
+    requires { ⌜ (n ≤ 1024) × Front (rowsIn (now table)) n k × (length (now places) ≡ 1024) × (length (now table) ≡ n) ⌝ }
+    ensures { λ r. ⌜ (r ≡ inOrder (rowsIn (now (table .entry))) issued) × PlacesIf r (rowsIn (now (table .entry))) k (now (places .exit)) ⌝ }
 {
     if 1000000 < issued {
         return false;
     }
-    if !rest_is_empty(words, k, n) {
+    if !rest_is_empty(table, k, n) {
         return false;
     }
-    rows_in_order(words, k, issued, places)
+    rows_in_order(table, k, issued, places)
 }
 
 // The same, for a caller that has no use for the places. Internal, in the same way.
-pub fn in_order(words: &[u32; 6144], n: usize, k: usize, issued: u32) -> bool
-    requires { ⌜ (n ≤ 1024) × Front (rowsIn (now words)) n k ⌝ }
-    ensures { λ r. ⌜ r ≡ inOrder (take n (rowsIn (now (words .entry)))) issued ⌝ }
+pub fn in_order(table: &[[u32; 6]], n: usize, k: usize, issued: u32) -> bool
+    requires { ⌜ (n ≤ 1024) × Front (rowsIn (now table)) n k × (length (now table) ≡ n) ⌝ }
+    ensures { λ r. ⌜ r ≡ inOrder (rowsIn (now (table .entry))) issued ⌝ }
 {
     let mut places = [0usize; 1024];
-    check_order(words, n, k, issued, &mut places)
+    check_order(table, n, k, issued, &mut places)
 }

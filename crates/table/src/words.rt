@@ -1,4 +1,4 @@
-// The words of a table: six for each row, in the record's order. Only these two functions know the layout.
+// The rows of a lent table: six words each, in the record's order. Only these two functions know the layout.
 use model::Addr;
 use model::Cap;
 use model::Name;
@@ -6,37 +6,30 @@ ghost use mathlib.Core.Path.{_≡_};
 ghost use Prim.Native.Nat.{_<_};
 ghost use lib.ListN.{length, getD, set};
 ghost use Rattle.model.specs.Table.{emptyRow};
-ghost use Rattle.table.specs.Words.{rowsIn, setRow};
+ghost use Rattle.table.specs.Words.{six, rowsIn};
 
-// The row that the words have at i. Internal: the caller keeps i below 1,024.
-pub fn row_at(words: &[u32; 6144], i: usize) -> Cap
-    requires { ⌜ i < 1024 ⌝ }
-    ensures { λ r. ⌜ r ≡ getD (rowsIn (now (words .entry))) i emptyRow ⌝ }
+// The row at i. Internal: the caller keeps i within the table.
+pub fn row_at(table: &[[u32; 6]], i: usize) -> Cap
+    requires { ⌜ i < length (now table) ⌝ }
+    ensures { λ r. ⌜ r ≡ getD (rowsIn (now (table .entry))) i emptyRow ⌝ }
 {
-    let k = i * 6;
+    let row = table[i];
     Cap {
-        name: Name(words[k]),
-        parent: Name(words[k + 1]),
-        start: Addr(words[k + 2]),
-        length: words[k + 3],
-        right: words[k + 4],
-        depth: words[k + 5],
+        name: Name(row[0]),
+        parent: Name(row[1]),
+        start: Addr(row[2]),
+        length: row[3],
+        right: row[4],
+        depth: row[5],
     }
 }
 
 // Puts a row there. Internal, in the same way.
-pub fn set_row(words: &mut [u32; 6144], i: usize, c: Cap)
-    requires { ⌜ (i < 1024) × (length (now words) ≡ 6144) ⌝ }
-    ensures { λ _. ⌜ (rowsIn (now (words .exit)) ≡ set (rowsIn (now (words .entry))) i c) × (length (now (words .exit)) ≡ 6144)
-        × (now (words .exit) ≡ setRow (now (words .entry)) i c) ⌝ }
+pub fn set_row(table: &mut [[u32; 6]], i: usize, c: Cap)
+    requires { ⌜ i < length (now table) ⌝ }
+    ensures { λ _. ⌜ (rowsIn (now (table .exit)) ≡ set (rowsIn (now (table .entry))) i c) × (now (table .exit) ≡ set (now (table .entry)) i (six c)) ⌝ }
 {
-    let k = i * 6;
-    words[k] = c.name.0;
-    words[k + 1] = c.parent.0;
-    words[k + 2] = c.start.0;
-    words[k + 3] = c.length;
-    words[k + 4] = c.right;
-    words[k + 5] = c.depth;
+    table[i] = [c.name.0, c.parent.0, c.start.0, c.length, c.right, c.depth];
 }
 
 // The row of no capability.

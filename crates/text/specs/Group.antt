@@ -9,7 +9,8 @@ use lib.Dec.{leb}
 use lib.ListN.{length, take}
 use lib.Seq.{sets}
 use Rattle.model.specs.Answers.{number}
-use Rattle.model.specs.Together.{isGroup, misgrouped}
+use Rattle.model.specs.Requests.{isGroup}
+use Rattle.model.specs.Refusals.{misgrouped}
 use Rattle.text.specs.Result.{Result, value, refused}
 use Rattle.text.specs.Line.{afterSpace}
 use Rattle.text.specs.Decimal.{numberOf}

@@ -1,11 +1,10 @@
 pub mod Turn
 pub mod Names
 pub mod Header
-pub mod Lent
 pub mod Order
 pub mod History
-pub mod Spellings
 pub mod Report
+pub mod Spellings
 pub mod Stops
 pub mod Fits
 pub mod CheckExamples

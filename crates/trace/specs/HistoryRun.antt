@@ -7,15 +7,15 @@ use Rattle.model.specs.declared.Tally.{Tally}
 use Rattle.model.specs.Table.{inOrder}
 use Rattle.model.specs.Step.{initial}
 use Rattle.model.specs.History.{History, emptyHistory, table}
-use Rattle.model.specs.Together.{answerNoted, afterNoted}
+use Rattle.model.specs.History
 use Rattle.trace.specs.Run.{Checker, Ran, runFrom, run}
 
 -- the history over n rows takes lines as the rules do; "A refused event changes nothing.", and so a misspelt line
 abbrev pub noted : ℕ → Checker History
 noted n = record {
   ordered = λ h. inOrder (table n (h .notes)) (h .count);
-  answer = answerNoted n;
-  after = afterNoted n;
+  answer = History.answer n;
+  after = History.after n;
   misspelt = λ h. h;
 }
 

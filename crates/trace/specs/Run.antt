@@ -6,18 +6,18 @@ use mathlib.Core.Path.{_≡_}
 use mathlib.Core.Bool.{Bool, cond}
 use mathlib.Core.List.{List, [], _∷_}
 use lib.Dec.{eqb}
-use lib.ListN.{length}
 use Rattle.model.specs.declared.Event.{Event}
-use Rattle.model.specs.Together.{Request, Single, Group, answerRequest, afterRequest}
+use Rattle.model.specs.Requests.{Request, Single, Group}
 use Rattle.model.specs.declared.Tally.{Tally}
 use Rattle.model.specs.Table.{inOrder}
 use Rattle.model.specs.Counts.{countRefused}
 use Rattle.model.specs.Step.{Verdict, State}
+use Rattle.model.specs.Step
 use Rattle.model.specs.Answers.{number, verdictOf}
 use Rattle.rules.specs.declared.Outcome.{Outcome}
 use Rattle.table.specs.Words.{rowsIn}
 use Rattle.table.specs.Rows.{Places, Orderly}
-use Rattle.rules.specs.Steps.{heldIn}
+use Rattle.rules.specs.Steps.{lends}
 use Rattle.text.specs.Result.{Result, value, refused}
 use Rattle.text.specs.Line.{linesOf}
 use Rattle.text.specs.Event.{bytes}
@@ -95,8 +95,8 @@ module _ {S : Type 0} (c : Checker S) where
 abbrev pub lent : Checker State
 lent = record {
   ordered = λ h. inOrder (h .table) (h .tally .issued);
-  answer = answerRequest;
-  after = afterRequest;
+  answer = Step.answer;
+  after = Step.after;
   misspelt = λ h. record { table = h .table; tally = countRefused (h .tally) };
 }
 
@@ -109,30 +109,25 @@ abbrev pub ranOf : RunAnswer → State → Ran State
 ranOf (Allowed lines) h = record { refusal = 0; number = lines; state = h }
 ranOf (Refused r line) h = record { refusal = number r; number = line; state = h }
 
--- a run on the words ws of a table of n rows leaves the words ws′
-pub record Runs (ws : List ℕ) (n : ℕ) (t : Tally) (text ws′ : List ℕ) (r : RunOutcome) : Type 0 where
-  pub ran : ranOf (r .answer) (heldIn ws′ n (r .tally)) ≡ run (heldIn ws n t) text
-  pub long : length ws′ ≡ 6144
+-- a run on the words ws of a table leaves the words ws′
+pub record Runs (ws : List (List ℕ)) (t : Tally) (text : List ℕ) (ws′ : List (List ℕ)) (r : RunOutcome) : Type 0 where
+  pub ran : ranOf (r .answer) (lends (rowsIn ws′) (r .tally)) ≡ run (lends (rowsIn ws) t) text
 
 -- the lines of a text on the words ws, in one spelling, where so many lines were taken before them
-pub record RunsLines (k : Spelling) (before : ℕ) (ws : List ℕ) (n : ℕ) (t : Tally) (text ws′ : List ℕ) (r : RunOutcome) : Type 0 where
-  pub ran : ranOf (r .answer) (heldIn ws′ n (r .tally)) ≡ runLines lent k before (heldIn ws n t) (linesOf text)
-  pub long : length ws′ ≡ 6144
+pub record RunsLines (k : Spelling) (before : ℕ) (ws : List (List ℕ)) (t : Tally) (text : List ℕ) (ws′ : List (List ℕ)) (r : RunOutcome) : Type 0 where
+  pub ran : ranOf (r .answer) (lends (rowsIn ws′) (r .tally)) ≡ runLines lent k before (lends (rowsIn ws) t) (linesOf text)
 
 -- words of a table of n rows in order, of which so many live; places has where the parent of each stands
-pub record Known (ws : List ℕ) (n live issued : ℕ) (places : List ℕ) : Type 0 where
+pub record Known (ws : List (List ℕ)) (n live issued : ℕ) (places : List ℕ) : Type 0 where
   pub orderly : Orderly (rowsIn ws) n live issued
   pub placed : Places (rowsIn ws) live places
-  pub long : length ws ≡ 6144
 
--- a line that is no event, on the words ws of a table of n rows, leaves the words ws′
-pub record TakesGroup (ws : List ℕ) (n : ℕ) (t : Tally) (line ws′ : List ℕ) (r : Outcome) : Type 0 where
-  pub refusal : verdictOf (r .answer) .refusal ≡ takeRead lent (heldIn ws n t) (groupOf (readGroup line)) .refusal
-  pub state : heldIn ws′ n (r .tally) ≡ takeRead lent (heldIn ws n t) (groupOf (readGroup line)) .state
-  pub long : length ws′ ≡ 6144
+-- a line that is no event, on the words ws of a table, leaves the words ws′
+pub record TakesGroup (ws : List (List ℕ)) (t : Tally) (line : List ℕ) (ws′ : List (List ℕ)) (r : Outcome) : Type 0 where
+  pub refusal : verdictOf (r .answer) .refusal ≡ takeRead lent (lends (rowsIn ws) t) (groupOf (readGroup line)) .refusal
+  pub state : lends (rowsIn ws′) (r .tally) ≡ takeRead lent (lends (rowsIn ws) t) (groupOf (readGroup line)) .state
 
--- a line on the words ws of a table of n rows leaves the words ws′: its refusal, and the state after it
-pub record Takes (k : Spelling) (ws : List ℕ) (n : ℕ) (t : Tally) (line ws′ : List ℕ) (r : Outcome) : Type 0 where
-  pub refusal : verdictOf (r .answer) .refusal ≡ takeLine lent k (heldIn ws n t) line .refusal
-  pub state : heldIn ws′ n (r .tally) ≡ takeLine lent k (heldIn ws n t) line .state
-  pub long : length ws′ ≡ 6144
+-- a line on the words ws of a table leaves the words ws′: its refusal, and the state after it
+pub record Takes (k : Spelling) (ws : List (List ℕ)) (t : Tally) (line : List ℕ) (ws′ : List (List ℕ)) (r : Outcome) : Type 0 where
+  pub refusal : verdictOf (r .answer) .refusal ≡ takeLine lent k (lends (rowsIn ws) t) line .refusal
+  pub state : lends (rowsIn ws′) (r .tally) ≡ takeLine lent k (lends (rowsIn ws) t) line .state

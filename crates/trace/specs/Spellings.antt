@@ -6,14 +6,15 @@ use mathlib.Core.Path.{_≡_}
 use mathlib.Core.Bool.{true, false}
 use mathlib.Core.List.{List, [], _∷_, _++_, map}
 use lib.ListN.{length}
-use Rattle.model.specs.Together.{Request, Single, Group, isGroup}
+use Rattle.model.specs.Requests.{Request, Single, Group, isGroup}
 use Rattle.model.specs.Step.{State, initial}
-use Rattle.model.specs.Named.{unnamed, unnamedRequest, allRightlyNamedRequests}
+use Rattle.model.specs.Named.{unnamed, allRightlyNamed}
 use Rattle.text.specs.Event.{spell, hasSpelling, Below32, InRange}
 use Rattle.text.specs.Group.{spellGroup}
 use Rattle.text.specs.Line.{nextLine}
 use Rattle.text.specs.Read.{same}
 use Rattle.text.specs.Result.{refused}
+use Rattle.text.specs.declared.spelling.Spelling.{Spelling}
 use Rattle.text.specs.declared.spelling.Spelling.the-variants.{Plain, Named}
 use Rattle.listing.specs.Listing.{listing}
 use Rattle.trace.specs.Run.{header, readRequest, Ran, run}
@@ -30,15 +31,18 @@ textOf (q ∷ qs) = spellRequest q ++ textOf qs
 
 -- a trace of document 01, and the same with its names written out, when so many have been issued
 abbrev pub plainText : List Request → List ℕ
-plainText qs = textOf (map unnamedRequest qs)
+plainText qs = textOf (map unnamed qs)
 
 abbrev pub namedText : ℕ → List Request → List ℕ
-namedText issued qs = header ++ textOf (allRightlyNamedRequests issued qs)
+namedText issued qs = header ++ textOf (allRightlyNamed issued qs)
 
--- a request can be spelled; names dropped together are two or more, since one name is an event
+-- a request has a line in one of the two spellings; names dropped together are two or more, since one name is an event
+abbrev pub HasLine : Spelling → Request → Type 0
+HasLine k (Single e) = (hasSpelling k e ≡ true) × InRange e
+HasLine k (Group names) = (2 ≤ length names) × (isGroup names ≡ true) × Below32 names
+
 abbrev pub Spellable : Request → Type 0
-Spellable (Single e) = (hasSpelling Plain (unnamed e) ≡ true) × InRange (unnamed e)
-Spellable (Group names) = (2 ≤ length names) × (isGroup names ≡ true) × Below32 names
+Spellable q = HasLine Plain (unnamed q)
 
 abbrev pub Spelled : List Request → Type 0
 Spelled [] = Unit {0}

@@ -1,5 +1,4 @@
 // Traces: event lines run on a table, document 01, "What each event does", last paragraph; and what `capcheck` prints of a run.
-pub mod records;
 mod report;
 pub mod run;
 
@@ -7,3 +6,4 @@ pub use report::Printed;
 pub use report::check;
 pub use report::check_text;
 pub use report::number_of;
+

@@ -13,7 +13,7 @@ ghost use Prim.Native.Nat.{_≤_};
 ghost use lib.ListN.{length, take};
 ghost use Rattle.model.specs.Answers.{number};
 ghost use Rattle.model.specs.Table.{inOrder};
-ghost use Rattle.table.specs.Words.{rowsOf};
+ghost use Rattle.table.specs.Words.{rowsIn};
 ghost use Rattle.text.specs.Event.{bytes, spaced};
 ghost use Rattle.text.specs.Put.{Room, Put};
 ghost use Rattle.text.specs.Write.{Writes};
@@ -81,20 +81,20 @@ fn put_answer(refusal: u32, number: u32, out: &mut [u8]) -> usize
 // Writes the line of an answer and the listing of a table in order. The listing, which is measured before it is written, goes first:
 // where it does not fit, nothing is written.
 fn write_report(
-    words: &[u32; 6144],
+    table: &[[u32; 6]],
     issued: u32,
     refusal: u32,
     number: u32,
     out: &mut [u8],
 ) -> Written
-    requires { ⌜ inOrder (rowsOf (now words) 1024) issued ≡ true ⌝ }
-    ensures { λ r. ⌜ Writes true (answerLine refusal number ++ listing (rowsOf (now (words .entry)) 1024) issued) (now (out .entry)) (now (out .exit)) r ⌝ }
+    requires { ⌜ inOrder (rowsIn (now table)) issued ≡ true ⌝ }
+    ensures { λ r. ⌜ Writes true (answerLine refusal number ++ listing (rowsIn (now (table .entry))) issued) (now (out .entry)) (now (out .exit)) r ⌝ }
 {
     let start = answer_length(refusal, number);
     if out.len() < start {
         return Written::Refused(Refusal::BufferTooShort);
     }
-    let written = writing::write_listing(words, 1024, issued, &mut out[start..]);
+    let written = writing::write_listing(table, issued, &mut out[start..]);
     match written {
         Written::Length(length) => {
             put_answer(refusal, number, out);
@@ -130,14 +130,14 @@ pub fn check(input: &[u8], out: &mut [u8]) -> Written
         drops: 0,
         refused: 0,
     };
-    let mut words = [0u32; 6144];
-    let ran = run::run_words(&mut words, 1024, none, input);
+    let mut table = [[0u32; 6]; 1024];
+    let ran = run::run_lent(&mut table, none, input);
     let answer = ran.answer;
     let issued = ran.tally.issued;
     match answer {
-        RunAnswer::Allowed(lines) => write_report(&words, issued, 0, lines as u32, out),
+        RunAnswer::Allowed(lines) => write_report(&table, issued, 0, lines as u32, out),
         RunAnswer::Refused(refusal, line) => write_report(
-            &words,
+            &table,
             issued,
             number_of(refusal),
             line as u32,

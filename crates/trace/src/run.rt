@@ -5,6 +5,8 @@ use model::Tally;
 use rules::Outcome;
 use rules::Progress;
 use rules::count;
+use table::lent::set_tally;
+use table::lent::tally_at;
 use rules::steps;
 use table::find;
 use table::ordered;
@@ -16,10 +18,11 @@ use text::read::EventRead;
 use text::spelling::Spelling;
 ghost use mathlib.Core.Path.{_≡_};
 ghost use Prim.Native.Nat.{_≤_};
-ghost use lib.ListN.{length};
 ghost use Rattle.text.specs.Line.{nextLine};
 ghost use Rattle.text.specs.Read.{same};
-ghost use Rattle.trace.specs.Run.{header, Known, TakesGroup, Takes, RunsLines, Runs};
+ghost use Rattle.table.specs.Lent;
+ghost use Rattle.trace.specs.Run;
+ghost use Rattle.trace.specs.Run.{header, ranOf, Known, TakesGroup, Takes, RunsLines, Runs};
 
 // What a run answers: the number of lines allowed, or the refusal and its line number from 1 (0 for refusal 1).
 pub enum RunAnswer {
@@ -35,22 +38,22 @@ pub struct RunOutcome {
 
 // A line that is no event, on a table in order: the names that it drops together, or refusal 2.
 fn take_group(
-    words: &mut [u32; 6144],
-    rows: usize,
+    table: &mut [[u32; 6]],
+    n: usize,
     live: usize,
     places: &mut [usize; 1024],
     tally: Tally,
     line: &[u8],
 ) -> Progress
-    requires { ⌜ Known (now words) rows live (tally .issued) (now places) ⌝ }
-    ensures { λ r. ⌜ TakesGroup (now (words .entry)) rows tally (now (line .entry)) (now (words .exit)) (r .outcome)
-        × Known (now (words .exit)) rows (r .live) (r .outcome .tally .issued) (now (places .exit)) ⌝ }
+    requires { ⌜ Known (now table) n live (tally .issued) (now places) ⌝ }
+    ensures { λ r. ⌜ TakesGroup (now (table .entry)) tally (now (line .entry)) (now (table .exit)) (r .outcome)
+        × Known (now (table .exit)) n (r .live) (r .outcome .tally .issued) (now (places .exit)) ⌝ }
 {
     let mut names = [0u32; 64];
     let found = group::read_group(line, &mut names);
     match found {
         GroupRead::Count(count) => {
-            steps::drop_known(words, rows, live, places, tally, &names[..count])
+            steps::drop_known(table, n, live, places, tally, &names[..count])
         }
         GroupRead::Refused(_) => {
             let counted = count::count_refused(tally);
@@ -65,30 +68,30 @@ fn take_group(
 
 // A line on a table in order: the event that it spells, or names dropped together, or refusal 2.
 fn take_line(
-    words: &mut [u32; 6144],
-    rows: usize,
+    table: &mut [[u32; 6]],
+    n: usize,
     live: usize,
     places: &mut [usize; 1024],
     tally: Tally,
     spelling: Spelling,
     line: &[u8],
 ) -> Progress
-    requires { ⌜ Known (now words) rows live (tally .issued) (now places) ⌝ }
-    ensures { λ r. ⌜ Takes spelling (now (words .entry)) rows tally (now (line .entry)) (now (words .exit)) (r .outcome)
-        × Known (now (words .exit)) rows (r .live) (r .outcome .tally .issued) (now (places .exit)) ⌝ }
+    requires { ⌜ Known (now table) n live (tally .issued) (now places) ⌝ }
+    ensures { λ r. ⌜ Takes spelling (now (table .entry)) tally (now (line .entry)) (now (table .exit)) (r .outcome)
+        × Known (now (table .exit)) n (r .live) (r .outcome .tally .issued) (now (places .exit)) ⌝ }
 {
     let found = read::read_event(spelling, line);
     match found {
-        EventRead::Event(event) => steps::step_known(words, rows, live, places, tally, event),
-        EventRead::Refused(_) => take_group(words, rows, live, places, tally, line),
+        EventRead::Event(event) => steps::step_known(table, n, live, places, tally, event),
+        EventRead::Refused(_) => take_group(table, n, live, places, tally, line),
     }
 }
 
 // The lines of a text on a table in order, where so many lines were taken before them. An event keeps the order, and what is known of
 // the table, so neither is looked for again.
 fn run_ordered(
-    words: &mut [u32; 6144],
-    rows: usize,
+    table: &mut [[u32; 6]],
+    n: usize,
     live: usize,
     places: &mut [usize; 1024],
     tally: Tally,
@@ -96,8 +99,8 @@ fn run_ordered(
     before: usize,
     text: &[u8],
 ) -> RunOutcome
-    requires { ⌜ Known (now words) rows live (tally .issued) (now places) × (before ≤ 1) ⌝ }
-    ensures { λ r. ⌜ RunsLines spelling before (now (words .entry)) rows tally (now (text .entry)) (now (words .exit)) r ⌝ }
+    requires { ⌜ Known (now table) n live (tally .issued) (now places) × (before ≤ 1) ⌝ }
+    ensures { λ r. ⌜ RunsLines spelling before (now (table .entry)) tally (now (text .entry)) (now (table .exit)) r ⌝ }
 {
     let mut left = tally;
     let mut alive = live;
@@ -105,7 +108,7 @@ fn run_ordered(
     let mut count = before;
     while at < text.len() {
         let line = lines::next_line(&text[at..]);
-        let taken = take_line(words, rows, alive, places, left, spelling, line);
+        let taken = take_line(table, n, alive, places, left, spelling, line);
         let outcome = taken.outcome;
         alive = taken.live;
         left = outcome.tally;
@@ -135,20 +138,20 @@ fn is_named(text: &[u8]) -> bool
 
 // A text on a table in order. Its first line may say that new names are written out; that line is counted, and is no event.
 fn run_text(
-    words: &mut [u32; 6144],
-    rows: usize,
+    table: &mut [[u32; 6]],
+    n: usize,
     live: usize,
     places: &mut [usize; 1024],
     tally: Tally,
     text: &[u8],
 ) -> RunOutcome
-    requires { ⌜ Known (now words) rows live (tally .issued) (now places) ⌝ }
-    ensures { λ r. ⌜ Runs (now (words .entry)) rows tally (now (text .entry)) (now (words .exit)) r ⌝ }
+    requires { ⌜ Known (now table) n live (tally .issued) (now places) ⌝ }
+    ensures { λ r. ⌜ Runs (now (table .entry)) tally (now (text .entry)) (now (table .exit)) r ⌝ }
 {
     if is_named(text) {
         run_ordered(
-            words,
-            rows,
+            table,
+            n,
             live,
             places,
             tally,
@@ -157,24 +160,36 @@ fn run_text(
             &text[10..],
         )
     } else {
-        run_ordered(words, rows, live, places, tally, Spelling::Plain, 0, text)
+        run_ordered(table, n, live, places, tally, Spelling::Plain, 0, text)
     }
 }
 
-// A run of a text on a table of words; above 1,024 rows it is refusal 1. Internal: the caller shows that there are 6,144 words.
-pub fn run_words(words: &mut [u32; 6144], rows: usize, tally: Tally, text: &[u8]) -> RunOutcome
-    requires { ⌜ length (now words) ≡ 6144 ⌝ }
-    ensures { λ r. ⌜ Runs (now (words .entry)) rows tally (now (text .entry)) (now (words .exit)) r ⌝ }
+// A run on any table and a tally by value; above 1,024 rows it is refusal 1.
+pub fn run_lent(table: &mut [[u32; 6]], tally: Tally, text: &[u8]) -> RunOutcome
+    ensures { λ r. ⌜ Runs (now (table .entry)) tally (now (text .entry)) (now (table .exit)) r ⌝ }
 {
-    if rows <= 1024 {
-        let live = find::live_count(words, rows);
+    let n = table.len();
+    if n <= 1024 {
+        let live = find::live_count(table, n);
         let mut places = [0usize; 1024];
-        if ordered::check_order(words, rows, live, tally.issued, &mut places) {
-            return run_text(words, rows, live, &mut places, tally, text);
+        if ordered::check_order(table, n, live, tally.issued, &mut places) {
+            return run_text(table, n, live, &mut places, tally, text);
         }
     }
     RunOutcome {
         tally,
         answer: RunAnswer::Refused(Refusal::Disordered, 0),
     }
+}
+
+// A run of a text on the table and the tally that are lent: the number of lines allowed, or the refusal and its line.
+pub fn run(table: &mut [[u32; 6]], tally: &mut [u32; 7], text: &[u8]) -> RunAnswer
+    ensures { λ r. ⌜ ranOf r (Lent.lent (now (table .exit)) (now (tally .exit))) ≡ Run.run (Lent.lent (now (table .entry)) (now (tally .entry))) (now (text .entry)) ⌝ }
+{
+    let t = tally_at(tally);
+    let out = run_lent(table, t, text);
+    let after = out.tally;
+    set_tally(tally, after);
+    let answer = out.answer;
+    answer
 }

@@ -2,12 +2,9 @@
 // of them.
 use libc::STDOUT_FILENO;
 use listing::reading;
-use listing::reading::ListingRead;
 use model::Tally;
 use trace::run;
 use trace::run::RunAnswer;
-ghost use mathlib.Core.Path.{_≡_};
-ghost use lib.ListN.{length};
 
 fn print(text: &[u8]) {
     io::write_all(STDOUT_FILENO, text);
@@ -33,38 +30,50 @@ fn print_numbers(refusal: u32, line: usize) {
     print(b"\n");
 }
 
-// Runs a trace on so many rows of a table, and prints the refusal, 0 where every line is allowed, and the number of lines or the line.
-fn run_on(words: &mut [u32; 6144], rows: usize, issued: u32, input: &[u8])
-    requires { ⌜ length (now words) ≡ 6144 ⌝ }
-{
-    let ran = run::run_words(words, rows, issued_so_far(issued), input);
-    let answer = ran.answer;
+fn print_answer(answer: RunAnswer) {
     match answer {
         RunAnswer::Allowed(lines) => print_numbers(0, lines),
         RunAnswer::Refused(refusal, line) => print_numbers(trace::number_of(refusal), line),
     }
 }
 
+// Runs a trace on a table, and prints the refusal, 0 where every line is allowed, and the number of lines or the line.
+fn run_on(table: &mut [[u32; 6]], issued: u32, input: &[u8]) {
+    let ran = run::run_lent(table, issued_so_far(issued), input);
+    let answer = ran.answer;
+    print_answer(answer);
+}
+
+// The same on the first rows of a table, or on all where it has no more.
+fn run_on_first(table: &mut [[u32; 6]], rows: usize, issued: u32, input: &[u8]) {
+    if rows < table.len() {
+        run_on(&mut table[..rows], issued, input);
+    } else {
+        run_on(table, issued, input);
+    }
+}
+
+// The same on so many empty rows, up to 1,025.
 fn run_on_empty(rows: usize, issued: u32, input: &[u8]) {
-    let mut words = [0u32; 6144];
-    run_on(&mut words, rows, issued, input);
+    let mut table = [[0u32; 6]; 1025];
+    run_on_first(&mut table, rows, issued, input);
 }
 
 // The table of refusal 1: rows both named 3.
 fn run_on_disordered(input: &[u8]) {
-    let mut words = [0u32; 6144];
-    words[0] = 3;
-    words[6] = 3;
-    run_on(&mut words, 2, 3, input);
+    let mut table = [[0u32; 6]; 2];
+    table[0] = [3, 0, 0, 0, 0, 0];
+    table[1] = [3, 0, 0, 0, 0, 0];
+    run_on(&mut table, 3, input);
 }
 
 // Trace 11, its second half: the listing of an empty table with all names but one issued is read, and two are asked for.
 fn last_name() {
-    let mut words = [0u32; 6144];
-    let read = reading::read_listing(b"(issued 999999)\n", &mut words, 1024);
-    if let ListingRead::Issued(issued) = read {
-        run_on_empty(1024, issued, b"(create 0 8 rw)\n(create 0 8 rw)\n");
-    }
+    let mut table = [[0u32; 6]; 1024];
+    let mut tally = [0u32; 7];
+    reading::read_listing(b"(issued 999999)\n", &mut table, &mut tally);
+    let answer = run::run(&mut table, &mut tally, b"(create 0 8 rw)\n(create 0 8 rw)\n");
+    print_answer(answer);
 }
 
 fn traces() {

@@ -6,18 +6,19 @@ use mathlib.Core.List.{List, [], _∷_, reverse, reverse-reverse}
 use Prim.Native.Nat.{ℕ, suc, _≤_}
 use native.Mathlib.Omega.{arith}
 use lib.Dec.{leb}
-use lib.ListN.{length, take, length-reverse}
-use lib.Seq.{take-all}
+use lib.ListN.{length, length-reverse}
 use borrow.Author.Tests.{leb-true}
 use Rattle.model.specs.declared.Cap.{Cap}
 use Rattle.model.specs.Lists.{all}
 use Rattle.model.specs.Table.{named, liveRows, liveRowsFirst, rowsInOrder, inOrder}
-use Rattle.table.specs.Words.{rowsOf, rowsIn}
+use Rattle.table.specs.Words.{rowsIn}
+use Rattle.listing.specs.First.{firstRows}
 use Rattle.table.specs.Rows.{Front}
 use Rattle.model.proofs.Lists.{All-reverse, and-both}
 use Rattle.model.proofs.Lent.{Named}
 use Rattle.model.proofs.Order.{rowsInOrder-wider, live-named}
-use Rattle.table.proofs.Laws.Words.{length-rows, length-in, in-first}
+use Rattle.table.proofs.Laws.Words.{length-in}
+use Rattle.listing.proofs.Laws.First.{length-first}
 use Rattle.table.proofs.Laws.Ordered.{before-reverse, liveRowsFirst-front, live-front}
 use Rattle.listing.specs.Listing.{listed, listing}
 use Rattle.listing.specs.Links.{Live}
@@ -37,9 +38,6 @@ order {table} {issued} h =
     let r = and-both (leb (length table) 1024) (liveRowsFirst table) (q .0) in
     record { few = leb-true (length table) 1024 (r .0); arrange = r .1; names = leb-true issued 1000000 (q .1); rises = p .1 }
 
-pub all-rows : (ws : List ℕ) → take 1024 (rowsIn ws) ≡ rowsIn ws
-all-rows ws = take-all 1024 (rowsIn ws) (omega (arith, length-in ws))
-
 all-named : (rows : List Cap) → Named rows → all (λ c. not (named 0 c)) rows ≡ true
 all-named [] h = refl
 all-named (c ∷ rows) h = rw (h .0) (all-named rows (h .1))
@@ -53,25 +51,23 @@ order-live table issued h =
       rises = rw (reverse-reverse (liveRows table)) (rowsInOrder-wider (suc issued) 1000001 (liveRows table) (omega (arith, o .names)) (o .rises));
     }
 
--- where k of the n rows that words have are live
-module _ (ws : List ℕ) (n k : ℕ) (few : n ≤ 1024) (f : Front (rowsIn ws) n k) where
+-- where k of the n rows of a table are live
+module _ (ws : List (List ℕ)) (n k : ℕ) (whole : length ws ≡ n) (f : Front (rowsIn ws) n k) where
   abbrev table : List Cap
-  table = take n (rowsIn ws)
+  table = rowsIn ws
 
-  pub front-rows : liveRowsFirst table ≡ true → reverse (liveRows table) ≡ rowsOf ws k
+  pub front-rows : liveRowsFirst table ≡ true → reverse (liveRows table) ≡ firstRows ws k
   front-rows a =
-      let fits : k ≤ 1024 = omega (arith, f .fits) in
-      let long : n ≤ length (rowsIn ws) = omega (arith, length-in ws) in
-      ap reverse (live-front (rowsIn ws) n k f long (sym (liveRowsFirst-front (rowsIn ws) n k f long) ∙ a) ∙ sym (before-reverse (rowsIn ws) k (omega (arith, length-in ws))))
-      ∙ reverse-reverse (take k (rowsIn ws))
-      ∙ in-first ws k fits
+      let long : length (rowsIn ws) ≡ n = length-in ws ∙ whole in
+      ap reverse (live-front (rowsIn ws) n k f long (sym (liveRowsFirst-front (rowsIn ws) n k f long) ∙ a) ∙ sym (before-reverse (rowsIn ws) k (omega (arith, f .fits))))
+      ∙ reverse-reverse (firstRows ws k)
 
   pub front-count : liveRowsFirst table ≡ true → length (liveRows table) ≡ k
-  front-count a = sym (length-reverse (liveRows table)) ∙ ap length (front-rows a) ∙ length-rows ws k
+  front-count a = sym (length-reverse (liveRows table)) ∙ ap length (front-rows a) ∙ length-first ws k (omega (arith, f .fits))
 
   module _ (issued : ℕ) (h : inOrder table issued ≡ true) where
-    pub front-live : Live (rowsOf ws k)
+    pub front-live : Live (firstRows ws k)
     front-live = subst Live (front-rows (order h .arrange)) (order-live table issued h)
 
-    pub front-listing : listing table issued ≡ listed (rowsOf ws k) issued
+    pub front-listing : listing table issued ≡ listed (firstRows ws k) issued
     front-listing = ap (λ (rows : List Cap). listed rows issued) (front-rows (order h .arrange))

@@ -7,15 +7,17 @@ use Prim.Native.Nat.{ℕ, suc, _+_, _≤_, _<_}
 use native.Mathlib.Omega.{arith}
 use lib.Dec.{eqb}
 use lib.ListN.{length, getD, length-append, drop-of-length-le}
-use lib.Seq.{drop-cons}
+use lib.Seq.{drop-cons, take-suc}
 use borrow.Author.Tests.{eq-eqb}
 use Rattle.model.specs.declared.Cap.{Cap}
 use Rattle.model.specs.Table.{emptyRow}
-use Rattle.table.proofs.Laws.Words.{length-rows}
-use Rattle.table.specs.Words.{rowAt, rowsOf}
+use Rattle.table.specs.Words.{rowsIn}
+use Rattle.table.proofs.Laws.Words.{length-in}
 use Rattle.table.specs.Rows.{nameAt, parentAt}
 use Rattle.text.specs.Event.{bytes, spaced}
+use Rattle.listing.specs.First.{firstRows}
 use Rattle.listing.specs.Listing.{right, pieces, form, children, roots, formAt, childrenFrom, rootsFrom, issuedLine, listed, formLength, total, formsLength}
+use Rattle.listing.proofs.Laws.First.{length-first}
 use Rattle.listing.proofs.Laws.Sorted.{preorder, InOrder, sorted-preorder, total-sorted}
 
 pub length-right : (r : ℕ) → length (right r) ≡ 3
@@ -38,9 +40,11 @@ unfolding total
 forms-append [] b = omega arith
 forms-append (c ∷ a) b = omega (arith, forms-append a b)
 
-pub forms-more : (ws : List ℕ) (n : ℕ) → formsLength (rowsOf ws (suc n)) ≡ formsLength (rowsOf ws n) + formLength (rowAt ws n)
-unfolding rowsOf total
-forms-more ws n = omega (arith, forms-append (rowsOf ws n) (rowAt ws n ∷ []))
+pub forms-more : (ws : List (List ℕ)) (n : ℕ) → n < length ws → formsLength (firstRows ws (suc n)) ≡ formsLength (firstRows ws n) + formLength (getD (rowsIn ws) n emptyRow)
+unfolding total
+forms-more ws n l =
+    let c = getD (rowsIn ws) n emptyRow in
+    omega (arith, forms-append (firstRows ws n) (c ∷ []), ap formsLength (take-suc (rowsIn ws) n emptyRow (omega (arith, length-in ws))))
 
 -- the forms below p have the bytes of their rows
 pub length-children : (p : ℕ) (rows : List Cap) → length (children p rows) ≡ formsLength (preorder p rows)
@@ -71,11 +75,11 @@ roots-length rows h = length-roots rows ∙ sym (total-sorted formLength (preord
 
 -- ---- by place
 
-pub within : (ws : List ℕ) (n k : ℕ) → k < n → k < length (rowsOf ws n)
-within ws n k l = omega (arith, length-rows ws n)
+pub within : (ws : List (List ℕ)) (n k : ℕ) → n ≤ length ws → k < n → k < length (firstRows ws n)
+within ws n k inside l = omega (arith, length-first ws n inside)
 
-pub beyond : (ws : List ℕ) (n k : ℕ) → n ≤ k → length (rowsOf ws n) ≤ k
-beyond ws n k l = omega (arith, length-rows ws n)
+pub beyond : (ws : List (List ℕ)) (n k : ℕ) → n ≤ length ws → n ≤ k → length (firstRows ws n) ≤ k
+beyond ws n k inside l = omega (arith, length-first ws n inside)
 
 module _ (rows : List Cap) (k : ℕ) where
   pub form-text : (t : List ℕ) → formAt rows k ++ t ≡ 40 ∷ (pieces (getD rows k emptyRow) ++ (childrenFrom (nameAt rows k) rows (suc k) ++ (41 ∷ t)))

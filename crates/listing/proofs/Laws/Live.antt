@@ -8,14 +8,15 @@ use Prim.Native.Nat.{ℕ, zero, suc, _≤_, _<_}
 use native.Mathlib.Omega.{arith}
 use native.Mathlib.Nat.{not-suc-le-zero, le-of-suc-le-suc}
 use lib.Dec.{eqb, ltb}
-use lib.ListN.{length, getD}
+use lib.ListN.{length}
 use borrow.Author.Tests.{eqb-true, eqb-false, ltb-true, ltb-false, not-true}
 use Rattle.model.specs.declared.Cap.{Cap}
 use Rattle.model.specs.Lists.{any, all}
-use Rattle.model.specs.Table.{emptyRow, named, rowsInOrder}
-use Rattle.table.specs.Words.{rowsOf, rowsIn}
+use Rattle.model.specs.Table.{named, rowsInOrder}
+use Rattle.table.specs.Words.{rowsIn}
+use Rattle.listing.specs.First.{firstRows}
 use Rattle.table.specs.Rows.{nameAt, parentAt, Rise}
-use Rattle.table.proofs.Laws.Words.{length-rows, rows-at, in-at}
+use Rattle.listing.proofs.Laws.First.{length-first, first-at}
 use Rattle.model.proofs.Lists.{All, All-map, All-reverse, test, clash, and-both}
 use Rattle.model.proofs.Order.{rises, place, parentInOrder-rowFitsParent}
 use Rattle.listing.specs.Links.{Live}
@@ -105,17 +106,14 @@ ordered-rise os (c ∷ rows) h i zero lt l = absurd (not-suc-le-zero lt)
 ordered-rise os (c ∷ rows) h zero (suc j) lt l = above-at (c .name .0) rows (h .1) j (le-of-suc-le-suc l)
 ordered-rise os (c ∷ rows) h (suc i) (suc j) lt l = ordered-rise (c .name .0 ∷ os) rows (h .2) i j (le-of-suc-le-suc lt) (le-of-suc-le-suc l)
 
--- the rows that words have
-pub row-in : (ws : List ℕ) (n i : ℕ) → n ≤ 1024 → i < n → getD (rowsOf ws n) i emptyRow ≡ getD (rowsIn ws) i emptyRow
-row-in ws n i few l = rows-at ws n i l ∙ sym (in-at ws i (omega arith))
-
-pub rise-in : (ws : List ℕ) (n : ℕ) → n ≤ 1024 → InOrder (rowsOf ws n) → Rise (rowsIn ws) n
-rise-in ws n few h =
-    let long = length-rows ws n in
-    let name : (i : ℕ) → i < n → nameAt (rowsOf ws n) i ≡ nameAt (rowsIn ws) i = λ i l. ap (λ (c : Cap). c .name .0) (row-in ws n i few l) in
+-- the first rows of a table
+pub rise-in : (ws : List (List ℕ)) (n : ℕ) → n ≤ length ws → InOrder (firstRows ws n) → Rise (rowsIn ws) n
+rise-in ws n inside h =
+    let long = length-first ws n inside in
+    let name : (i : ℕ) → i < n → nameAt (firstRows ws n) i ≡ nameAt (rowsIn ws) i = λ i l. ap (λ (c : Cap). c .name .0) (first-at ws n i l) in
     record {
-      positive = λ i l. omega (arith, name i l, above-at 0 (rowsOf ws n) (h .0) i (omega arith));
-      sorted = λ i j lt l. omega (arith, name i (omega arith), name j l, ordered-rise (0 ∷ []) (rowsOf ws n) (h .1) i j lt (omega arith));
+      positive = λ i l. omega (arith, name i l, above-at 0 (firstRows ws n) (h .0) i (omega arith));
+      sorted = λ i j lt l. omega (arith, name i (omega arith), name j l, ordered-rise (0 ∷ []) (firstRows ws n) (h .1) i j lt (omega arith));
     }
 
 pub name-above : (rows : List Cap) → InOrder rows → (j : ℕ) → j < length rows → 0 < nameAt rows j

@@ -6,13 +6,14 @@ use mathlib.Core.List.{List, [], _∷_, _++_, reverse, reverse-reverse}
 use Prim.Native.Nat.{ℕ, zero, suc, _-_, _≤_}
 use native.Mathlib.Omega.{arith}
 use lib.Dec.{leb}
-use lib.ListN.{length, take, replicate, length-append}
+use lib.ListN.{length, replicate, length-append}
 use borrow.Author.Tests.{le-leb}
 use Rattle.model.specs.declared.Cap.{Cap}
 use Rattle.model.specs.Lists.{filter, consIf, all}
 use Rattle.model.specs.Table.{emptyRow, named, isEmptyRow, liveRows, liveRowsFirst, lentTable, rowsInOrder, inOrder}
-use Rattle.table.specs.Words.{rowsOf, rowsIn}
-use Rattle.table.proofs.Laws.Words.{length-in, in-first}
+use Rattle.table.specs.Words.{rowsIn}
+use Rattle.listing.specs.First.{firstRows}
+use Rattle.table.proofs.Laws.Words.{length-in}
 use Rattle.listing.specs.Stored.{newest, Stored}
 
 zeros-empty : (k : ℕ) → all isEmptyRow (replicate k emptyRow) ≡ true
@@ -46,18 +47,18 @@ order-more rows k issued few =
     let sizes : leb (length (rows ++ replicate k emptyRow)) 1024 ≡ leb (length rows) 1024 = le-leb _ _ few ∙ sym (le-leb _ _ fewer) in
     λ i. sizes i && first-more rows k i && leb issued 1000000 && rowsInOrder (suc issued) (live-more rows k i)
 
--- the rows that words have, of which only the first count were stored
-module _ {ws : List ℕ} {count : ℕ} (st : Stored ws count) where
-  stored-rows : rowsIn ws ≡ take count (rowsIn ws) ++ replicate (1024 - length (newest ws count)) emptyRow
+-- a table of which only the first count rows were stored
+module _ {ws : List (List ℕ)} {count : ℕ} (st : Stored ws count) where
+  stored-rows : rowsIn ws ≡ firstRows ws count ++ replicate (1024 - length (newest ws count)) emptyRow
   unfolding lentTable
   stored-rows =
       st .table
-      ∙ ap (λ (t : List Cap). t ++ replicate (1024 - length (newest ws count)) emptyRow) (reverse-reverse (rowsOf ws count) ∙ sym (in-first ws count (st .few)))
+      ∙ ap (λ (t : List Cap). t ++ replicate (1024 - length (newest ws count)) emptyRow) (reverse-reverse (firstRows ws count))
 
-  pub stored-live : liveRows (rowsIn ws) ≡ liveRows (take count (rowsIn ws))
-  stored-live = ap liveRows stored-rows ∙ live-more (take count (rowsIn ws)) (1024 - length (newest ws count))
+  pub stored-live : liveRows (rowsIn ws) ≡ liveRows (firstRows ws count)
+  stored-live = ap liveRows stored-rows ∙ live-more (firstRows ws count) (1024 - length (newest ws count))
 
-  pub stored-order : (issued : ℕ) → inOrder (rowsIn ws) issued ≡ inOrder (take count (rowsIn ws)) issued
+  pub stored-order : (issued : ℕ) → inOrder (rowsIn ws) issued ≡ inOrder (firstRows ws count) issued
   stored-order issued =
       ap (λ (t : List Cap). inOrder t issued) stored-rows
-      ∙ order-more (take count (rowsIn ws)) (1024 - length (newest ws count)) issued (omega (arith, ap length stored-rows, length-in ws))
+      ∙ order-more (firstRows ws count) (1024 - length (newest ws count)) issued (omega (arith, ap length stored-rows, length-in ws, st .long))

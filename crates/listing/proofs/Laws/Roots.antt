@@ -15,15 +15,14 @@ use Rattle.listing.proofs.Laws.Reading.{last-last, tail, tail-length}
 use Rattle.listing.proofs.Laws.Stored.{length-newest}
 
 -- the lines of the last bytes are left to read, where count rows are stored
-pub record Left (text : List ℕ) (ws : List ℕ) (left count : ℕ) : Type 0 where
+pub record Left (text : List ℕ) (ws : List (List ℕ)) (left count : ℕ) : Type 0 where
   pub inside : left ≤ length text
   pub stored : Stored ws count
   pub k : ℕ
   pub enough : 1024 ≤ k + count
   pub same : readLines k (record { rest = tail text left; rows = newest ws count }) ≡ readLines 1024 (record { rest = text; rows = [] })
 
-pub all-left : (text ws : List ℕ) → Stored ws 0 → Left text ws (length text) 0
-unfolding Rattle.table.specs.Words.rowsOf
+pub all-left : (text : List ℕ) (ws : List (List ℕ)) → Stored ws 0 → Left text ws (length text) 0
 all-left text ws s =
     let z : length text - length text ≡ 0 = omega arith in
     record { inside = omega arith; stored = s; k = 1024; enough = omega arith; same = ap (λ (n : ℕ). readLines 1024 (record { rest = drop n text; rows = [] })) z }
@@ -47,12 +46,12 @@ unfolding readLines
 line-none zero r h = refl
 line-none (suc k) r h = rw h
 
-module _ {text ws : List ℕ} {left count : ℕ} (l : Left text ws left count) where
+module _ {text : List ℕ} {ws : List (List ℕ)} {left count : ℕ} (l : Left text ws left count) where
   abbrev here : Reading
   here = record { rest = tail text left; rows = newest ws count }
 
   -- one line more
-  pub line-read : {s ws′ : List ℕ} {line count′ : ℕ} → 0 < left → count < 1024 → s ≡ tail text left → count < count′ → Stored ws′ count′
+  pub line-read : {s : List ℕ} {ws′ : List (List ℕ)} {line count′ : ℕ} → 0 < left → count < 1024 → s ≡ tail text left → count < count′ → Stored ws′ count′
       → Reads (λ (k : ℕ). readForm k 0 1 (record { rest = s; rows = newest ws count })) (2 * length s + 1) s line (newest ws′ count′)
       → Left text ws′ (line - 1) count′
   line-read {s} {ws′} {line} {count′} some room es up st r = go (l .k) (l .enough) (l .same)
@@ -79,7 +78,7 @@ module _ {text ws : List ℕ} {left count : ℕ} (l : Left text ws left count) w
         stored = st;
         k = k;
         enough = omega arith;
-        same = ap (readLines k) (sym after) ∙ sym (line-more k here (goes-on here (omega (arith, long)) (omega (arith, length-newest ws count)))) ∙ h;
+        same = ap (readLines k) (sym after) ∙ sym (line-more k here (goes-on here (omega (arith, long)) (omega (arith, length-newest (l .stored))))) ∙ h;
       }
 
   -- the text ends, or the table is full
@@ -87,7 +86,7 @@ module _ {text ws : List ℕ} {left count : ℕ} (l : Left text ws left count) w
   ended z = sym (line-none (l .k) here (rw (le-ltb 0 (length (tail text left)) (omega (arith, tail-length text left (l .inside)))))) ∙ l .same
 
   pub full : 1024 ≤ count → newest ws count ≡ readLines 1024 (record { rest = text; rows = [] })
-  full h = sym (line-none (l .k) here (rw (le-ltb (length (newest ws count)) 1024 (omega (arith, length-newest ws count))) (either (ltb 0 (length (tail text left)))))) ∙ l .same
+  full h = sym (line-none (l .k) here (rw (le-ltb (length (newest ws count)) 1024 (omega (arith, length-newest (l .stored)))) (either (ltb 0 (length (tail text left)))))) ∙ l .same
     where
       either : (b : Bool) → (b && false) ≡ false
       either true = refl

@@ -20,15 +20,16 @@ use Rattle.model.specs.Derivation.{Derivation, ancestry, inSubtree, onAncestry}
 use Rattle.model.specs.Strike.{Effect, Keep, Lower, End, isLower, isEnd, effectOf, strike, reached, struck}
 use Rattle.model.specs.Values.{touches}
 use Rattle.model.specs.Table.{emptyRow, span, derivation, derivations, named, parentInOrder}
-use Rattle.model.specs.Together.{inSubtrees}
+use Rattle.model.specs.Effects.{inSubtrees}
 use Rattle.table.specs.Rows.{nameAt, parentAt, before, Rise, Found, LiveRows}
-use Rattle.rules.specs.Engine.{OnAncestry, weight, own, ownOfAccess, ownOfDrop, ownOfNames, Owned, mark, Marked, Spread, Downward}
+use Rattle.rules.specs.Engine.{OnAncestry, weight, own, ownOfAccess, ownOfNames, Owned, mark, Marked, Spread, Downward}
 use Rattle.model.proofs.Lists.{test, clash, or-neither}
 use Rattle.model.proofs.Ancestries.{below-differs, ancestry-here, ancestry-past}
 use Rattle.model.proofs.Lent.{Named}
 use Rattle.model.proofs.Order.{place, parentInOrder-rowFitsParent}
-use Rattle.model.proofs.Together.{group-none, group-step}
-use Rattle.model.proofs.Rows.{struck-step, below-step, no-ancestry}
+use Rattle.model.proofs.Together.{group-none}
+use Rattle.model.proofs.Order.{group-step}
+use Rattle.model.proofs.Rows.{struck-step, no-ancestry}
 use Rattle.table.proofs.Laws.Prefix.{last, all-before, at-before, none-named, named-none, place-of}
 use Rattle.table.proofs.Laws.Ordered.{rise-sub, rowsInOrder-rise, rowsInOrder-at}
 
@@ -242,20 +243,6 @@ module _ (T : List Cap) (k : ℕ) (st : LiveRows T k) where
   both true false = refl
   both false true = refl
   both false false = refl
-
-  -- a drop
-  module _ (u q : ℕ) (marks : List ℕ) (f : Found T k u q) (s : Spread T k (ownOfDrop q) marks) where
-    abbrev dropped : ℕ → Bool
-    dropped x = inSubtree u (ancestry B x)
-
-    step-dropped : (i : ℕ) → i < k → mark dropped (λ x. false) (nameAt T i) ≡ max (ownOfDrop q i) (mark dropped (λ x. false) (parentAt T i))
-    step-dropped i l =
-        let g : dropped (nameAt T i) ≡ eqb u (nameAt T i) || dropped (parentAt T i) = at-before _ T k (below-step (st .bound) (before T k) stand-named (st .rise) u) i l in
-        let o : ownOfDrop q i ≡ cond (eqb u (nameAt T i)) 2 0 = ap (λ (b : Bool). cond b 2 0) (at-place u q f i l) in
-        rw (g, o) (both (eqb u (nameAt T i)) (dropped (parentAt T i)))
-
-    pub marked-drop : Marked T k marks dropped (λ x. false)
-    marked-drop = marked dropped (λ x. false) (ownOfDrop q) marks s (rw (no-ancestry (st .bound) (before T k) stand-named (st .rise))) step-dropped
 
   -- names dropped together: their own marks, one more name at a time
   pub owned-none : (names : List ℕ) (i : ℕ) → length names ≤ i → Owned T k (drop i names) (replicate 1025 0)

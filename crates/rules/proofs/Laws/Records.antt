@@ -1,153 +1,158 @@
--- Records to words and back: what `load` and `store` have done after i turns, and that one more turn does one row more.
+-- Records to rows and back: what `load` and `store` have done after i turns, that one more turn does one record more, and what is left of
+-- the records by way of rows.
 -- Assumes nothing.
-use mathlib.Core.Path.{_≡_, refl, sym, ap, _∙_}
-use mathlib.Core.Bool.{false}
-use mathlib.Core.List.{List, [], _∷_, _++_, append-assoc, append-nil}
-use Prim.Native.Nat.{ℕ, zero, suc, _+_, _*_, _≤_, _<_, min}
-use native.Mathlib.Nat.{not-suc-le-zero, le-of-suc-le-suc}
+use mathlib.Core.Path.{_≡_, refl, sym, ap, subst, _∙_}
+use mathlib.Core.Logic.{_⊎_, inl, inr}
+use mathlib.Core.Bool.{true, false}
+use mathlib.Core.List.{List, [], _∷_, _++_, map, append-nil}
+use Prim.Native.Nat.{ℕ, zero, suc, _≤_, _<_}
 use native.Mathlib.Omega.{arith}
-use lib.ListN.{length, getD, set, take, drop, length-append, length-drop, take-append-drop}
-use lib.Seq.{length-take-le, take-suc, drop-cons, take-at, drop-append-add, drop-drop, take-length, set-at, append-snoc, getD-append-add, ext-getD, getD-take, drop-length}
-use borrow.Author.Tests.{lt-leb}
+use lib.Dec.{leb}
+use lib.ListN.{length, getD, set, take, drop, length-append, length-drop, length-map}
+use lib.Seq.{length-take-le, take-suc, drop-cons, take-at, take-length, set-at, append-snoc, drop-length}
+use borrow.Author.Tests.{leb-true, leb-false, le-leb, lt-leb}
 use Rattle.model.specs.declared.Cap.{Cap}
-use Rattle.model.specs.Table.{emptyRow, inOrder}
-use Rattle.table.specs.Words.{six, setRow, flat, rowAt, rowsOf}
-use Rattle.table.proofs.Laws.Words.{setRow-eq, length-rows, rows-at}
+use Rattle.model.specs.declared.Tally.{Tally}
+use Rattle.model.specs.declared.Answer.the-variants.{Refused}
+use Rattle.model.specs.declared.Refusal.the-variants.{Disordered}
+use Rattle.model.specs.Table.{emptyRow}
+use Rattle.model.specs.Requests.{Request}
+use Rattle.model.specs.Step.{State, after}
+use Rattle.model.specs.Step
+use Rattle.model.specs.Answers.{verdictOf}
+use Rattle.model.proofs.Lists.{test}
+use Rattle.table.specs.Words.{capOf, six, rowsIn}
+use Rattle.table.proofs.Laws.Words.{length-in}
+use Rattle.rules.specs.declared.Outcome.{Outcome}
+use Rattle.rules.specs.Steps.{lends, Stepped}
+use Rattle.rules.specs.Records.{held, Requested}
+use Rattle.rules.proofs.Laws.Steps.{too-many, stepped-disordered}
 
-pub length-flat : (cs : List Cap) → length (flat cs) ≡ length cs * 6
-unfolding flat
-length-flat [] = refl
-length-flat (c ∷ cs) = let h : length (flat cs) ≡ length cs * 6 = length-flat cs in omega arith
+map-append : {A B : Type 0} (f : A → B) (xs ys : List A) → map f (xs ++ ys) ≡ map f xs ++ map f ys
+map-append f [] ys = refl
+map-append {A} {B} f (x ∷ xs) ys = ap {B = List B} (λ l. f x ∷ l) (map-append f xs ys)
 
-flat-snoc : (cs : List Cap) (c : Cap) → flat (cs ++ (c ∷ [])) ≡ flat cs ++ six c
-unfolding flat
-flat-snoc [] c = refl
-flat-snoc (d ∷ cs) c = ap (λ (r : List ℕ). six d ++ r) (flat-snoc cs c)
+-- a row's words are the row
+pub rows-six : (ys : List Cap) → rowsIn (map six ys) ≡ ys
+unfolding rowsIn
+rows-six [] = refl
+rows-six (c ∷ ys) = ap {B = List Cap} (λ l. c ∷ l) (rows-six ys)
 
-abbrev pub loaded : List Cap → List ℕ → ℕ → List ℕ
-loaded ys ws i = flat (take i ys) ++ drop (i * 6) ws
+pub rows-take : (ws : List (List ℕ)) (n : ℕ) → rowsIn (take n ws) ≡ take n (rowsIn ws)
+unfolding rowsIn
+rows-take ws zero = refl
+rows-take [] (suc n) = refl
+rows-take (w ∷ ws) (suc n) = ap {B = List Cap} (λ l. capOf w ∷ l) (rows-take ws n)
 
-pub loaded-none : (ys : List Cap) (ws : List ℕ) → loaded ys ws 0 ≡ ws
-unfolding flat
+-- ---- `load`
+
+abbrev pub loaded : List Cap → List (List ℕ) → ℕ → List (List ℕ)
+loaded ys ws i = map six (take i ys) ++ drop i ws
+
+pub loaded-none : (ys : List Cap) (ws : List (List ℕ)) → loaded ys ws 0 ≡ ws
 loaded-none ys ws = refl
 
-module _ (ys : List Cap) (ws : List ℕ) (i : ℕ) (l : i < length ys) (fits : i * 6 + 6 ≤ length ws) where
-  here : length (flat (take i ys)) ≡ i * 6
-  here = length-flat (take i ys) ∙ ap (λ (n : ℕ). n * 6) (length-take-le i ys (omega arith))
+length-front : (ys : List Cap) (i : ℕ) → i ≤ length ys → length (map six (take i ys)) ≡ i
+length-front ys i l = length-map (take i ys) six ∙ length-take-le i ys l
 
-  long : i * 6 + 6 ≤ length (loaded ys ws i)
-  long = let a : length (flat (take i ys)) ≡ i * 6 = here in omega (arith, length-append (flat (take i ys)) (drop (i * 6) ws), length-drop (i * 6) ws)
+pub length-loaded : (ys : List Cap) (ws : List (List ℕ)) (i : ℕ) → i ≤ length ys → i ≤ length ws → length (loaded ys ws i) ≡ length ws
+length-loaded ys ws i l h = omega (arith, length-append (map six (take i ys)) (drop i ws), length-front ys i l, length-drop i ws)
 
-  front : take (i * 6) (loaded ys ws i) ≡ flat (take i ys)
-  front = take-at (flat (take i ys)) (drop (i * 6) ws) (i * 6) here
+pub loaded-suc : (ys : List Cap) (ws : List (List ℕ)) (i : ℕ) → i < length ys → i < length ws → set (loaded ys ws i) i (six (getD ys i emptyRow)) ≡ loaded ys ws (suc i)
+loaded-suc ys ws i l h =
+    ap (λ (r : List (List ℕ)). set (map six (take i ys) ++ r) i (six (getD ys i emptyRow))) (drop-cons ws i [] h)
+    ∙ set-at (map six (take i ys)) (getD ws i []) (drop (suc i) ws) (six (getD ys i emptyRow)) i (length-front ys i (omega arith))
+    ∙ sym (append-snoc (map six (take i ys)) (six (getD ys i emptyRow)) (drop (suc i) ws))
+    ∙ ap (λ (r : List (List ℕ)). r ++ drop (suc i) ws) (sym (map-append six (take i ys) (getD ys i emptyRow ∷ [])))
+    ∙ ap (λ (r : List Cap). map six r ++ drop (suc i) ws) (sym (take-suc ys i emptyRow l))
 
-  back : drop (i * 6 + 6) (loaded ys ws i) ≡ drop (suc i * 6) ws
-  back =
-      let e : suc i * 6 ≡ i * 6 + 6 = omega arith in
-      ap (λ (n : ℕ). drop (n + 6) (loaded ys ws i)) (sym here) ∙ drop-append-add (flat (take i ys)) (drop (i * 6) ws) 6 ∙ drop-drop 6 (i * 6) ws ∙ ap (λ (n : ℕ). drop n ws) (sym e)
+-- ---- `store`
 
-  pub loaded-suc : setRow (loaded ys ws i) i (getD ys i emptyRow) ≡ loaded ys ws (suc i)
-  loaded-suc =
-      setRow-eq (loaded ys ws i) i (getD ys i emptyRow) long ∙ ap (λ (r : List ℕ). r ++ six (getD ys i emptyRow) ++ drop (i * 6 + 6) (loaded ys ws i)) front
-      ∙ ap (λ (r : List ℕ). flat (take i ys) ++ six (getD ys i emptyRow) ++ r) back
-      ∙ ap (λ (r : List ℕ). r ++ drop (suc i * 6) ws) (sym (flat-snoc (take i ys) (getD ys i emptyRow)))
-      ∙ ap (λ (r : List Cap). flat r ++ drop (suc i * 6) ws) (sym (take-suc ys i emptyRow l))
+abbrev pub stored : List Cap → List (List ℕ) → ℕ → List Cap
+stored ys ws i = take i (rowsIn ws) ++ drop i ys
 
-pub length-loaded : (ys : List Cap) (ws : List ℕ) (i : ℕ) → i ≤ length ys → i * 6 ≤ length ws → length (loaded ys ws i) ≡ length ws
-length-loaded ys ws i l h = omega (arith, length-append (flat (take i ys)) (drop (i * 6) ws), length-flat (take i ys), length-take-le i ys l, length-drop (i * 6) ws)
-
-abbrev pub stored : List Cap → List ℕ → ℕ → List Cap
-stored ys ws i = rowsOf ws i ++ drop i ys
-
-pub stored-none : (ys : List Cap) (ws : List ℕ) → stored ys ws 0 ≡ ys
-unfolding rowsOf
+pub stored-none : (ys : List Cap) (ws : List (List ℕ)) → stored ys ws 0 ≡ ys
 stored-none ys ws = refl
 
-pub length-stored : (ys : List Cap) (ws : List ℕ) (i : ℕ) → i ≤ length ys → length (stored ys ws i) ≡ length ys
-length-stored ys ws i h = let a : length (rowsOf ws i) ≡ i = length-rows ws i in omega (arith, length-append (rowsOf ws i) (drop i ys), length-drop i ys)
+pub length-stored : (ys : List Cap) (ws : List (List ℕ)) (i : ℕ) → i ≤ length ys → i ≤ length ws → length (stored ys ws i) ≡ length ys
+length-stored ys ws i l h = omega (arith, length-append (take i (rowsIn ws)) (drop i ys), length-take-le i (rowsIn ws) (omega (arith, length-in ws)), length-drop i ys)
 
-pub stored-suc : (ys : List Cap) (ws : List ℕ) (i : ℕ) → i < length ys → set (stored ys ws i) i (rowAt ws i) ≡ stored ys ws (suc i)
-unfolding rowsOf
-stored-suc ys ws i l =
-    ap (λ (r : List Cap). set (rowsOf ws i ++ r) i (rowAt ws i)) (drop-cons ys i emptyRow l)
-    ∙ set-at (rowsOf ws i) (getD ys i emptyRow) (drop (suc i) ys) (rowAt ws i) i (length-rows ws i)
-    ∙ sym (append-snoc (rowsOf ws i) (rowAt ws i) (drop (suc i) ys))
+pub stored-suc : (ys : List Cap) (ws : List (List ℕ)) (i : ℕ) → i < length ys → i < length ws → set (stored ys ws i) i (getD (rowsIn ws) i emptyRow) ≡ stored ys ws (suc i)
+stored-suc ys ws i l h =
+    let in-rows : i < length (rowsIn ws) = omega (arith, length-in ws) in
+    ap (λ (r : List Cap). set (take i (rowsIn ws) ++ r) i (getD (rowsIn ws) i emptyRow)) (drop-cons ys i emptyRow l)
+    ∙ set-at (take i (rowsIn ws)) (getD ys i emptyRow) (drop (suc i) ys) (getD (rowsIn ws) i emptyRow) i (length-take-le i (rowsIn ws) (omega arith))
+    ∙ sym (append-snoc (take i (rowsIn ws)) (getD (rowsIn ws) i emptyRow) (drop (suc i) ys))
+    ∙ ap (λ (r : List Cap). r ++ drop (suc i) ys) (sym (take-suc (rowsIn ws) i emptyRow in-rows))
 
--- ---- the rows of what is flattened
-module _ (c : Cap) (r : List ℕ) where
-  past : (i k p : ℕ) → p ≡ 6 + (i * 6 + k) → getD (six c ++ r) p 0 ≡ getD r (i * 6 + k) 0
-  past i k p e = ap (λ (m : ℕ). getD (six c ++ r) m 0) e ∙ getD-append-add (six c) r (i * 6 + k) 0
+-- ---- a request on the first rows
 
-  later : (i : ℕ) → rowAt (six c ++ r) (suc i) ≡ rowAt r i
-  later i =
-      let e : i * 6 + 0 ≡ i * 6 = omega arith in
-      let w₀ : getD (six c ++ r) (suc i * 6) 0 ≡ getD r (i * 6) 0 = past i 0 (suc i * 6) (omega arith) ∙ ap (λ (m : ℕ). getD r m 0) e in
-      let w₁ : getD (six c ++ r) (suc i * 6 + 1) 0 ≡ getD r (i * 6 + 1) 0 = past i 1 (suc i * 6 + 1) (omega arith) in
-      let w₂ : getD (six c ++ r) (suc i * 6 + 2) 0 ≡ getD r (i * 6 + 2) 0 = past i 2 (suc i * 6 + 2) (omega arith) in
-      let w₃ : getD (six c ++ r) (suc i * 6 + 3) 0 ≡ getD r (i * 6 + 3) 0 = past i 3 (suc i * 6 + 3) (omega arith) in
-      let w₄ : getD (six c ++ r) (suc i * 6 + 4) 0 ≡ getD r (i * 6 + 4) 0 = past i 4 (suc i * 6 + 4) (omega arith) in
-      let w₅ : getD (six c ++ r) (suc i * 6 + 5) 0 ≡ getD r (i * 6 + 5) 0 = past i 5 (suc i * 6 + 5) (omega arith) in
-      λ j. record { name = record { 0 = w₀ j }; parent = record { 0 = w₁ j }; start = record { 0 = w₂ j }; length = w₃ j; right = w₄ j; depth = w₅ j }
+pub held-few : (n : ℕ) → n ≤ 1024 → held n ≡ n
+held-few n l = rw (le-leb n 1024 l) refl
 
-row-flat : (ys : List Cap) (d : List ℕ) (i : ℕ) → i < length ys → rowAt (flat ys ++ d) i ≡ getD ys i emptyRow
-unfolding flat
-row-flat [] d i l = absurd (not-suc-le-zero l)
-row-flat (c ∷ cs) d zero l = ap (λ (r : List ℕ). rowAt r 0) (append-assoc (six c) (flat cs) d)
-row-flat (c ∷ cs) d (suc i) l = ap (λ (r : List ℕ). rowAt r (suc i)) (append-assoc (six c) (flat cs) d) ∙ later c (flat cs ++ d) i ∙ row-flat cs d i (le-of-suc-le-suc l)
+pub held-many : (n : ℕ) → 1024 < n → held n ≡ 0
+held-many n l = rw (lt-leb n 1024 l) refl
 
-rows-take : (ys : List Cap) (d : List ℕ) (i : ℕ) → i ≤ length ys → rowsOf (flat ys ++ d) i ≡ take i ys
-unfolding rowsOf
-rows-take ys d zero l = refl
-rows-take ys d (suc i) l = (λ j. rows-take ys d i (omega arith) j ++ (row-flat ys d i l j ∷ [])) ∙ sym (take-suc ys i emptyRow l)
-
-rows-flat : (ys : List Cap) (d : List ℕ) → rowsOf (flat ys ++ d) (length ys) ≡ ys
-rows-flat ys d = rows-take ys d (length ys) (omega arith) ∙ take-length ys
-
-pub loaded-rows : (ys : List Cap) (ws : List ℕ) (n : ℕ) → n ≤ length ys → rowsOf (loaded ys ws n) n ≡ take n ys
-loaded-rows ys ws n l = ap (λ (m : ℕ). rowsOf (loaded ys ws n) m) (sym (length-take-le n ys l)) ∙ rows-flat (take n ys) (drop (n * 6) ws)
-
--- ---- a lent table and its words
-
--- the first m of n rows
-pub rows-first : (ws : List ℕ) (m n : ℕ) → m ≤ n → take m (rowsOf ws n) ≡ rowsOf ws m
-rows-first ws m n l =
-    ext-getD emptyRow (take m (rowsOf ws n)) (rowsOf ws m) (long ∙ sym (length-rows ws m)) (λ j h.
-    let b : j < m = omega (arith, long) in
-    getD-take m (rowsOf ws n) j emptyRow b ∙ rows-at ws n j (omega arith) ∙ sym (rows-at ws m j b))
+pub held-least : (n : ℕ) → (held n ≤ n) × (held n ≤ 1024)
+held-least n = go (test (leb n 1024))
   where
-    long : length (take m (rowsOf ws n)) ≡ m
-    long = length-take-le m (rowsOf ws n) (omega (arith, length-rows ws n))
+    go : (leb n 1024 ≡ true) ⊎ (leb n 1024 ≡ false) → (held n ≤ n) × (held n ≤ 1024)
+    go (inl y) = let l : n ≤ 1024 = leb-true n 1024 y in (omega (arith, held-few n l), omega (arith, held-few n l))
+    go (inr f) = let l : 1024 < n = leb-false n 1024 f in (omega (arith, held-many n l), omega (arith, held-many n l))
 
--- a table of more than 1,024 rows is not in order
-pub many-disordered : (rows : List Cap) (issued : ℕ) → 1024 < length rows → inOrder rows issued ≡ false
-unfolding inOrder
-many-disordered rows issued l = rw (lt-leb (length rows) 1024 l)
+pub requested-few : (ws zs : List (List ℕ)) (n : ℕ) (t : Tally) (q : Request) (r : Outcome) → length ws ≡ 1024 → n ≤ 1024 → length zs ≡ n → Stepped (take n ws) t q zs r → Requested ws n t q (zs ++ drop n ws) r
+requested-few ws zs n t q r full l long s = record {
+  long = omega (arith, length-append zs (drop n ws), length-drop n ws);
+  few = λ _. subst (λ (z : List (List ℕ)). Stepped (take n ws) t q z r) (sym (take-at zs (drop n ws) n long)) s;
+  many = λ m. absurd (omega arith);
+}
 
-pub too-many : (ws : List ℕ) (n issued : ℕ) → 1024 < n → inOrder (rowsOf ws n) issued ≡ false
-too-many ws n issued l = many-disordered (rowsOf ws n) issued (omega (arith, length-rows ws n))
+pub requested-many : (ws : List (List ℕ)) (n : ℕ) (t : Tally) (q : Request) → 1024 < n → Requested ws n t q ws (record { tally = t; answer = Refused Disordered })
+requested-many ws n t q l = record { long = refl; few = λ h. absurd (omega arith); many = λ _. (refl, refl) }
 
-module _ (ys : List Cap) where
-  -- how many of its rows are loaded
-  abbrev count : ℕ
-  count = min (length ys) 1024
+-- what is left of the records, by way of rows
+module _ (ys : List Cap) (t : Tally) (q : Request) (w ws : List (List ℕ)) (r : Outcome) (s : Requested (loaded ys w (held (length ys))) (length ys) t q ws r) where
+  abbrev Left : Type 0
+  Left =
+      (stored ys ws (held (length ys)) ≡ after (lends ys t) q .table) × (r .tally ≡ after (lends ys t) q .tally)
+      × (verdictOf (r .answer) ≡ Step.answer (lends ys t) q)
 
-  abbrev Holds : List ℕ → Type 0
-  Holds w = rowsOf w count ≡ take count ys
+  module _ (l : length ys ≤ 1024) where
+    abbrev w₁ : List (List ℕ)
+    w₁ = take (length ys) (loaded ys w (held (length ys)))
 
-  module _ (few : length ys ≤ 1024) where
-    all-held : count ≡ length ys
-    all-held = omega arith
+    all-held : held (length ys) ≡ length ys
+    all-held = held-few (length ys) l
 
-    -- the words have the whole table
-    pub loaded-all : (w : List ℕ) → Holds w → rowsOf w (length ys) ≡ ys
-    loaded-all w same = sym (ap (rowsOf w) all-held) ∙ same ∙ ap (λ (k : ℕ). take k ys) all-held ∙ take-length ys
+    all-loaded : rowsIn w₁ ≡ ys
+    all-loaded =
+        ap (λ (k : ℕ). rowsIn (take (length ys) (loaded ys w k))) all-held
+        ∙ ap rowsIn (take-at (map six (take (length ys) ys)) (drop (length ys) w) (length ys) (length-front ys (length ys) (omega arith)))
+        ∙ rows-six (take (length ys) ys) ∙ take-length ys
 
-    pub stored-all : (ws : List ℕ) → stored ys ws count ≡ rowsOf ws (length ys)
-    stored-all ws = rw (all-held, drop-length ys) (append-nil (rowsOf ws (length ys)))
+    all-stored : stored ys ws (held (length ys)) ≡ rowsIn (take (length ys) ws)
+    all-stored =
+        ap (stored ys ws) all-held ∙ ap (λ (z : List Cap). take (length ys) (rowsIn ws) ++ z) (drop-length ys)
+        ∙ append-nil (take (length ys) (rowsIn ws)) ∙ sym (rows-take ws (length ys))
 
-  -- the rows of a longer one are put back where the words are as at first
-  pub stored-same : (w ws : List ℕ) → Holds w → 1024 < length ys → rowsOf ws (length ys) ≡ rowsOf w (length ys) → stored ys ws count ≡ ys
-  stored-same w ws same many q =
-      let e : count ≡ 1024 = omega arith in
-      let f : rowsOf ws 1024 ≡ take 1024 ys = sym (rows-first ws 1024 (length ys) (omega arith)) ∙ ap (take 1024) q ∙ rows-first w 1024 (length ys) (omega arith) ∙ sym (ap (rowsOf w) e) ∙ same ∙ ap (λ (k : ℕ). take k ys) e in
-      rw (e, f) (take-append-drop 1024 ys)
+    left-few : Left
+    left-few =
+        let a : Stepped w₁ t q (take (length ys) ws) r = s .few l in
+        let h : lends (rowsIn w₁) t ≡ lends ys t = ap (λ (rows : List Cap). lends rows t) all-loaded in
+        (all-stored ∙ a .table ∙ ap (λ (x : State). after x q .table) h, a .tally ∙ ap (λ (x : State). after x q .tally) h, a .answer ∙ ap (λ (x : State). Step.answer x q) h)
+
+  -- a longer table is not in order
+  left-many : 1024 < length ys → Left
+  left-many l =
+      let long : 1024 < length (map six ys) = omega (arith, length-map ys six) in
+      let d : Stepped (map six ys) t q (map six ys) (record { tally = t; answer = Refused Disordered }) = stepped-disordered (map six ys) t q (too-many (map six ys) (t .issued) long) in
+      let h : lends (rowsIn (map six ys)) t ≡ lends ys t = ap (λ (rows : List Cap). lends rows t) (rows-six ys) in
+      let kept : stored ys ws (held (length ys)) ≡ rowsIn (map six ys) = ap (stored ys ws) (held-many (length ys) l) ∙ sym (rows-six ys) in
+      (kept ∙ d .table ∙ ap (λ (x : State). after x q .table) h, s .many l .0 ∙ d .tally ∙ ap (λ (x : State). after x q .tally) h, s .many l .1 ∙ d .answer ∙ ap (λ (x : State). Step.answer x q) h)
+
+  pub left : Left
+  left = go (test (leb (length ys) 1024))
+    where
+      go : (leb (length ys) 1024 ≡ true) ⊎ (leb (length ys) 1024 ≡ false) → Left
+      go (inl y) = left-few (leb-true (length ys) 1024 y)
+      go (inr f) = left-many (leb-false (length ys) 1024 f)

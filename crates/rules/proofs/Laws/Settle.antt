@@ -9,8 +9,8 @@ use native.Mathlib.Nat.{not-suc-le-zero}
 use native.Mathlib.Numerals.{add-one}
 use native.Mathlib.Omega.{arith}
 use lib.Dec.{eqb, ltb}
-use lib.ListN.{length, getD, set, take, drop, replicate, length-set, length-drop, length-replicate, getD-replicate}
-use lib.Seq.{getD-set-same, getD-set-other, take-add, ext-getD, getD-take, getD-drop, length-take-le}
+use lib.ListN.{length, getD, set, take, drop, replicate, length-set, length-drop, take-append-drop, length-replicate, getD-replicate}
+use lib.Seq.{getD-set-same, getD-set-other, ext-getD, getD-drop}
 use borrow.Author.Tests.{ltb-true, ltb-false, lt-ltb}
 use Rattle.model.specs.declared.Cap.{Cap}
 use Rattle.model.specs.Lists.{any}
@@ -98,20 +98,19 @@ clears-more T U from i b l c = record {
 -- ---- the lent table
 
 -- rows that stand first, and zeros after them
-pub before-lent : (T : List Cap) (n r : ℕ) → r ≤ n → n ≤ length T → ((j : ℕ) → r ≤ j → j < n → getD T j emptyRow ≡ emptyRow) → take n T ≡ lentTable n (before T r)
+pub before-lent : (T : List Cap) (n r : ℕ) → r ≤ n → length T ≡ n → ((j : ℕ) → r ≤ j → j < n → getD T j emptyRow ≡ emptyRow) → T ≡ lentTable n (before T r)
 unfolding lentTable
 before-lent T n r b l z =
-    let e : n ≡ r + (n - r) = omega arith in
-    ap (λ (m : ℕ). take m T) e ∙ take-add r (n - r) T
+    sym (take-append-drop r T)
     ∙ rw (← before-reverse T r (omega arith), reverse-reverse (take r T), before-reverse T r (omega arith), length-before T r) (ap (λ (m : List Cap). take r T ++ m) zeros)
   where
-    long : length (take (n - r) (drop r T)) ≡ n - r
-    long = length-take-le (n - r) (drop r T) (omega (arith, length-drop r T))
+    long : length (drop r T) ≡ n - r
+    long = omega (arith, length-drop r T)
 
-    zeros : take (n - r) (drop r T) ≡ replicate (n - r) emptyRow
-    zeros = ext-getD emptyRow (take (n - r) (drop r T)) (replicate (n - r) emptyRow) (long ∙ sym (length-replicate (n - r) emptyRow)) (λ j h.
+    zeros : drop r T ≡ replicate (n - r) emptyRow
+    zeros = ext-getD emptyRow (drop r T) (replicate (n - r) emptyRow) (long ∙ sym (length-replicate (n - r) emptyRow)) (λ j h.
         let s : j < n - r = omega (arith, long) in
-        getD-take (n - r) (drop r T) j emptyRow s ∙ getD-drop r T j emptyRow ∙ z (r + j) (omega arith) (omega arith) ∙ sym (getD-replicate (n - r) j emptyRow emptyRow s))
+        getD-drop r T j emptyRow ∙ z (r + j) (omega arith) (omega arith) ∙ sym (getD-replicate (n - r) j emptyRow emptyRow s))
 
 -- ---- no row ends
 
@@ -136,7 +135,7 @@ unfolding before kept
 lowers-kept marks T U zero h c = refl
 lowers-kept marks T U (suc k) h c = let e = lowers-kept marks T U k (λ j l. h j (omega arith)) (λ j l. c j (omega arith)) in rw (lt-ltb (getD marks k 0) 2 (h k (omega arith)), c k (omega arith), e)
 
-module _ (marks : List ℕ) (T U : List Cap) (n k : ℕ) (places : List ℕ) (b : k ≤ n) (l : n ≤ length U) (z : (j : ℕ) → k ≤ j → j < n → getD T j emptyRow ≡ emptyRow) (f : Filled T k) (c : Lowers marks T U k) where
+module _ (marks : List ℕ) (T U : List Cap) (n k : ℕ) (places : List ℕ) (b : k ≤ n) (l : length U ≡ n) (z : (j : ℕ) → k ≤ j → j < n → getD T j emptyRow ≡ emptyRow) (f : Filled T k) (c : Lowers marks T U k) where
   alike : Alike T U k
   alike j m = (ap (λ (d : Cap). d .name .0) (c .low j m), ap (λ (d : Cap). d .parent .0) (c .low j m))
 
@@ -261,7 +260,7 @@ module _ (marks first : List ℕ) (T U : List Cap) (places spots : List ℕ) (i 
 
 -- ---- rows closed up, and the rest cleared
 
-module _ (marks : List ℕ) (T U W : List Cap) (n k r : ℕ) (b : k ≤ n) (l : n ≤ length W) (z : (j : ℕ) → k ≤ j → j < n → getD T j emptyRow ≡ emptyRow) (c : Closes marks T U k r) (d : Clears U W r k) where
+module _ (marks : List ℕ) (T U W : List Cap) (n k r : ℕ) (b : k ≤ n) (l : length W ≡ n) (z : (j : ℕ) → k ≤ j → j < n → getD T j emptyRow ≡ emptyRow) (c : Closes marks T U k r) (d : Clears U W r k) where
   empty-on : (j : ℕ) → r ≤ j → j < n → getD W j emptyRow ≡ emptyRow
   empty-on j m h = go (test (ltb j k))
     where

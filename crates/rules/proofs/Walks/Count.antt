@@ -38,8 +38,8 @@ module _ {M : Type 1} (𝓤 : URA M) (H : Heap 𝓤) (L : Laws 𝓤 H) (𝓣 : T
   abbrev Below : ℕ → SProp 𝓤
   Below t = ex 𝓤 (λ (u : ℕ). guard 𝓤 (u < t) (Inv u))
 
-  inSubtree : (t : ℕ) → n - t < n → ent 𝓤 (At (suc (n - t))) (Below t)
-  inSubtree t l =
+  goes-down : (t : ℕ) → n - t < n → ent 𝓤 (At (suc (n - t))) (Below t)
+  goes-down t l =
       let e : n - (n - suc (n - t)) ≡ suc (n - t) = omega arith in
       subst (λ (k : ℕ). ent 𝓤 (At k) (Below t)) e
       (via 𝓤 (guard 𝓤 (n - suc (n - t) < t) (Inv (n - suc (n - t)))) (guardI 𝓤 (n - suc (n - t) < t) (Inv (n - suc (n - t))) (omega arith)) (exI 𝓤 (λ (u : ℕ). guard 𝓤 (u < t) (Inv u)) (n - suc (n - t))))
@@ -49,5 +49,5 @@ module _ {M : Type 1} (𝓤 : URA M) (H : Heap 𝓤) (L : Laws 𝓤 H) (𝓣 : T
       let e : n - n ≡ 0 = omega arith in
       subst (λ (k : ℕ). ent 𝓤 (At k) (Wp 𝓤 H (𝓣 .C) (𝓣 .Λ) E (loop b) Q)) e
       (loop-rule 𝓤 H L 𝓣 _<_ (Nat·lt-wfRel .wf) E b Q Inv
-      (λ t. either (ltb (n - t) n) (λ h. more (n - t) (Below t) (ltb→lt (n - t) n h) (inSubtree t (ltb→lt (n - t) n h)))
+      (λ t. either (ltb (n - t) n) (λ h. more (n - t) (Below t) (ltb→lt (n - t) n h) (goes-down t (ltb→lt (n - t) n h)))
       (λ h. let g : n ≤ n - t = nltb→le (n - t) n h in let same : n ≡ n - t = omega arith in subst (λ (k : ℕ). Turn k (Below t)) same (ends (Below t)))) n)

@@ -12,8 +12,8 @@ use lib.Seq.{drop-cons}
 use borrow.Author.Tests.{lt-ltb, le-ltb}
 use Rattle.model.specs.declared.Cap.{Cap}
 use Rattle.model.specs.Lists.{first}
-use Rattle.model.specs.Refusals.{standing}
-use Rattle.model.specs.Together.{risesAbove, risesStrictly, isGroup, standings, groupRefusals, judgeGroup}
+use Rattle.model.specs.Refusals.{standing, judge, refusals, standings, viewOf}
+use Rattle.model.specs.Requests.{Group, isGroup, risesAbove, risesStrictly}
 use Rattle.model.proofs.Lists.{clash}
 use Rattle.model.proofs.Together.{name-refused, name-passed}
 use Rattle.table.specs.Rows.{before, Orderly}
@@ -57,7 +57,7 @@ module _ (rows : List Cap) (issued : ℕ) (names : List ℕ) (i : ℕ) where
   names-end h = rw (drop-of-length-le names h)
 
 -- a group is judged by its names alone, on a table in order
-pub group-judged : (T : List Cap) (n k issued : ℕ) → n ≤ length T → Orderly T n k issued → (names : List ℕ) → isGroup names ≡ true
-    → first (standings (before T k) issued names) ≡ judgeGroup (take n T) issued names
-unfolding judgeGroup groupRefusals
-group-judged T n k issued l o names g = rw (o .ordered, g, orderly-live T n k issued l o)
+pub group-judged : (T : List Cap) (n k issued : ℕ) → Orderly T n k issued → (names : List ℕ) → isGroup names ≡ true
+    → first (standings (before T k) issued names) ≡ judge (viewOf T issued) (Group names)
+unfolding judge refusals
+group-judged T n k issued o names g = rw (o .ordered, g, orderly-live T n k issued o)

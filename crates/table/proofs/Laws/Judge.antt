@@ -9,7 +9,7 @@ use native.Mathlib.Nat.{not-suc-le-zero, le-of-suc-le-suc}
 use native.Mathlib.Omega.{arith}
 use lib.Dec.{eqb, ltb, leb}
 use lib.ListN.{length, getD, take, drop, length-drop}
-use lib.Seq.{length-take-le, getD-take, getD-drop}
+use lib.Seq.{getD-drop}
 use borrow.Author.Tests.{eqb-true, not-false, ltb-true, ne-eqb, le-ltb, lt-ltb, leb-true, le-leb, lt-leb}
 use Rattle.model.specs.declared.Name.{Name}
 use Rattle.model.specs.declared.NewName.{NewName}
@@ -24,9 +24,10 @@ use Rattle.table.specs.declared.judge.Place.the-variants.{At, Not}
 use Rattle.model.specs.Lists.{first, any, all}
 use Rattle.model.specs.Values.{legal, inside}
 use Rattle.model.specs.Table.{emptyRow, span, named, liveRows, lookup, isRight, isEmptyRow, rowsInOrder}
-use Rattle.model.specs.Refusals.{notARight, illegalSpan, outsideSpan, readOnly, tooDeep, standing, within, usable, room, checks, refusals, judge}
+use Rattle.model.specs.Refusals.{notARight, illegalSpan, outsideSpan, readOnly, tooDeep, standing, within, usable, room, checks, refusals, judge, viewOf}
 use Rattle.model.specs.Step.{verdict}
 use Rattle.model.specs.Answers.{number}
+use Rattle.model.specs.Requests.{Request, Single}
 use Rattle.table.specs.Rows.{before, Rise, LiveRows, Orderly}
 use Rattle.table.specs.Stands.{Passes, saidOf, roomFor}
 use Rattle.model.proofs.Lists.{test, and-both, first-none}
@@ -88,18 +89,15 @@ passed T k x cs (Not r) h = rw (h, numbered r)
 
 -- ---- a table in order
 
-module _ (T : List Cap) (n k issued : ℕ) (l : n ≤ length T) (o : Orderly T n k issued) where
-  abbrev t : List Cap
-  t = take n T
+module _ (T : List Cap) (n k issued : ℕ) (o : Orderly T n k issued) where
+  is : Ordered T issued
+  is = ordered T issued (o .ordered)
 
-  is : Ordered t issued
-  is = ordered t issued (o .ordered)
+  zeros : all isEmptyRow (drop k T) ≡ true
+  zeros = sym (liveRowsFirst-front T n k (o .front) (o .all)) ∙ is .rest-is-empty
 
-  zeros : all isEmptyRow (drop k t) ≡ true
-  zeros = sym (liveRowsFirst-front T n k (o .front) l) ∙ is .rest-is-empty
-
-  pub orderly-live : liveRows t ≡ before T k
-  orderly-live = live-front T n k (o .front) l zeros
+  pub orderly-live : liveRows T ≡ before T k
+  orderly-live = live-front T n k (o .front) (o .all) zeros
 
   pub orderly-issued : issued ≤ 1000000
   orderly-issued = leb-true issued 1000000 (is .names-left)
@@ -116,19 +114,16 @@ module _ (T : List Cap) (n k issued : ℕ) (l : n ≤ length T) (o : Orderly T n
   pub orderly-rise : Rise T k
   orderly-rise = rowsInOrder-rise T (suc issued) k (o .front .filled) orderly-rowsInOrder
 
-  pub orderly-long : length t ≡ n
-  orderly-long = length-take-le n T l
-
-  pub orderly-judge : (e : Event) → judge t issued e ≡ first (checks (before T k) issued n e)
+  pub orderly-judge : (q : Request) → judge (viewOf T issued) q ≡ first (checks (before T k) issued n q)
   unfolding judge refusals
-  orderly-judge e = rw (o .ordered) (ap₂ (λ (rows : List Cap) (m : ℕ). first (checks rows issued m e)) orderly-live orderly-long)
+  orderly-judge q = rw (o .ordered) (ap₂ (λ (rows : List Cap) (m : ℕ). first (checks rows issued m q)) orderly-live (o .all))
 
   -- the rows after the live ones are zeros
   pub orderly-zeros : (j : ℕ) → k ≤ j → j < n → getD T j emptyRow ≡ emptyRow
   orderly-zeros j b m =
       let e : k + (j - k) ≡ j = omega arith in
-      let a : isEmptyRow (getD (drop k t) (j - k) emptyRow) ≡ true = all-at (drop k t) (j - k) zeros (omega (arith, length-drop k t, orderly-long)) in
-      let d : getD (drop k t) (j - k) emptyRow ≡ getD T j emptyRow = getD-drop k t (j - k) emptyRow ∙ ap (λ (i : ℕ). getD t i emptyRow) e ∙ getD-take n T j emptyRow m in
+      let a : isEmptyRow (getD (drop k T) (j - k) emptyRow) ≡ true = all-at (drop k T) (j - k) zeros (omega (arith, length-drop k T, o .all)) in
+      let d : getD (drop k T) (j - k) emptyRow ≡ getD T j emptyRow = getD-drop k T (j - k) emptyRow ∙ ap (λ (i : ℕ). getD T i emptyRow) e in
       emptyRow-empty (getD T j emptyRow) (ap isEmptyRow (sym d) ∙ a)
     where
       all-at : (l : List Cap) (i : ℕ) → all isEmptyRow l ≡ true → i < length l → isEmptyRow (getD l i emptyRow) ≡ true
@@ -156,14 +151,14 @@ module _ (T : List Cap) (n k issued : ℕ) (l : n ≤ length T) (o : Orderly T n
       go (inr f) = rw f
 
   -- the answers of the events
-  pub answer-create : (w : NewName) (s : Span) (r y : ℕ) → verdict (first ((2, notARight r) ∷ (3, illegalSpan s) ∷ roomFor n k issued w)) y ≡ verdict (judge t issued (Create w s r)) y
-  answer-create w s r y = ap (λ (j : ℕ). verdict j y) (sym (orderly-judge (Create w s r) ∙ rw (length-before T k)))
+  pub answer-create : (w : NewName) (s : Span) (r y : ℕ) → verdict (first ((2, notARight r) ∷ (3, illegalSpan s) ∷ roomFor n k issued w)) y ≡ verdict (judge (viewOf T issued) (Single (Create w s r))) y
+  answer-create w s r y = ap (λ (j : ℕ). verdict j y) (sym (orderly-judge (Single (Create w s r)) ∙ rw (length-before T k)))
 
-  pub answer-other : (e : Event) (y : ℕ) → verdict (first (checks (before T k) issued n e)) y ≡ verdict (judge t issued e) y
-  answer-other e y = ap (λ (j : ℕ). verdict j y) (sym (orderly-judge e))
+  pub answer-other : (e : Event) (y : ℕ) → verdict (first (checks (before T k) issued n (Single e))) y ≡ verdict (judge (viewOf T issued) (Single e)) y
+  answer-other e y = ap (λ (j : ℕ). verdict j y) (sym (orderly-judge (Single e)))
 
-  pub answer-read : (u : Name) (s : Span) (y : ℕ) → verdict (first (usable (before T k) issued u s 1)) y ≡ verdict (judge t issued (Read u s)) y
-  answer-read u s y = ap (λ (j : ℕ). verdict j y) (orderly-read u s ∙ sym (orderly-judge (Read u s)))
+  pub answer-read : (u : Name) (s : Span) (y : ℕ) → verdict (first (usable (before T k) issued u s 1)) y ≡ verdict (judge (viewOf T issued) (Single (Read u s))) y
+  answer-read u s y = ap (λ (j : ℕ). verdict j y) (orderly-read u s ∙ sym (orderly-judge (Single (Read u s))))
 
 -- ---- a borrow
 
@@ -172,7 +167,7 @@ module _ (T : List Cap) (n k issued : ℕ) (w : NewName) (u : Name) (s : Span) (
   rest = (8, tooDeep (before T k) issued u) ∷ room (before T k) issued n w
 
   abbrev first-of : ℕ
-  first-of = first (checks (before T k) issued n (Borrow w u s r))
+  first-of = first (checks (before T k) issued n (Single (Borrow w u s r)))
 
   pub borrow-not : (x : Refusal) → first (usable (before T k) issued u s r) ≡ number x → first-of ≡ number x
   borrow-not x e = rw h (first-append (usable (before T k) issued u s r) rest refl ∙ rw (e, numbered x))

@@ -10,7 +10,7 @@ use native.Mathlib.Numerals.{add-one}
 use native.Mathlib.Omega.{arith}
 use lib.Dec.{eqb, leb}
 use lib.ListN.{length, getD, take, drop}
-use lib.Seq.{drop-cons, drop-length, take-suc, take-take, length-take-le, getD-take}
+use lib.Seq.{drop-cons, drop-length, take-suc}
 use borrow.Author.Tests.{eq-eqb, leb-true, le-leb, lt-leb, leb-false}
 use Rattle.model.specs.declared.Cap.{Cap}
 use Rattle.model.specs.Lists.{filter, any, all}
@@ -131,46 +131,29 @@ before-reverse T zero l = refl
 before-reverse T (suc k) l = rw (take-suc T k emptyRow, reverse-append, before-reverse T k (omega arith))
 
 -- one row more is all zeros, or not
-pub emptyRow-step : (T : List Cap) (n i : ℕ) → n ≤ length T → i < n → all isEmptyRow (drop i (take n T)) ≡ isEmptyRow (getD T i emptyRow) && all isEmptyRow (drop (i + 1) (take n T))
-emptyRow-step T n i l m =
-    let b : i < length (take n T) = omega (arith, length-take-le n T l) in
-    rw (drop-cons (take n T) i emptyRow b, getD-take n T i emptyRow m, add-one)
+pub emptyRow-step : (T : List Cap) (i : ℕ) → i < length T → all isEmptyRow (drop i T) ≡ isEmptyRow (getD T i emptyRow) && all isEmptyRow (drop (i + 1) T)
+emptyRow-step T i m = rw (drop-cons T i emptyRow m, add-one)
 
-pub emptyRow-end : (T : List Cap) (n i : ℕ) → n ≤ length T → n ≤ i → i ≤ n → all isEmptyRow (drop i (take n T)) ≡ true
-emptyRow-end T n i l m h = let e : i ≡ length (take n T) = omega (arith, length-take-le n T l) in rw (e, drop-length)
+pub emptyRow-end : (T : List Cap) (i : ℕ) → i ≡ length T → all isEmptyRow (drop i T) ≡ true
+emptyRow-end T i e = rw (e, drop-length)
 
--- k of the first n rows are live
-module _ (T : List Cap) (n k : ℕ) (h : Front T n k) (l : n ≤ length T) where
-  abbrev t : List Cap
-  t = take n T
+-- k of the n rows are live
+module _ (T : List Cap) (n k : ℕ) (h : Front T n k) (l : length T ≡ n) where
+  pub liveRowsFirst-front : liveRowsFirst T ≡ all isEmptyRow (drop k T)
+  liveRowsFirst-front = liveRowsFirst-from T k (h .filled) (λ m. h .stop (omega arith))
 
-  long : length t ≡ n
-  long = length-take-le n T l
-
-  filled : Filled t k
-  filled i m = let b : i < n = omega (arith, h .fits) in rw (getD-take n T i emptyRow b, nameAt) (h .filled i m)
-
-  pub liveRowsFirst-front : liveRowsFirst t ≡ all isEmptyRow (drop k t)
-  liveRowsFirst-front = liveRowsFirst-from t k filled (λ m. stops (omega (arith, long)))
-    where
-      stops : k < n → nameAt t k ≡ 0
-      stops m = ap (λ (c : Cap). c .name .0) (getD-take n T k emptyRow m) ∙ h .stop m
-
-  pub live-front : all isEmptyRow (drop k t) ≡ true → liveRows t ≡ before T k
+  pub live-front : all isEmptyRow (drop k T) ≡ true → liveRows T ≡ before T k
   unfolding liveRows
-  live-front b = rw (filter-from t k filled b (omega (arith, long, h .fits)), take-take k n T (h .fits)) (before-reverse T k (omega (arith, h .fits)))
+  live-front b = rw (filter-from T k (h .filled) b (omega (arith, h .fits))) (before-reverse T k (omega (arith, h .fits)))
 
-  few : n ≤ 1024 → leb (length t) 1024 ≡ true
-  few m = le-leb (length t) 1024 (omega (arith, long))
-
-  pub order-names : (issued : ℕ) → 1000000 < issued → inOrder t issued ≡ false
+  pub order-names : (issued : ℕ) → 1000000 < issued → inOrder T issued ≡ false
   unfolding inOrder
   order-names issued m = rw (lt-leb issued 1000000 m, and-false)
 
-  pub order-zeros : (issued : ℕ) → all isEmptyRow (drop k t) ≡ false → inOrder t issued ≡ false
+  pub order-zeros : (issued : ℕ) → all isEmptyRow (drop k T) ≡ false → inOrder T issued ≡ false
   unfolding inOrder
   order-zeros issued b = rw (liveRowsFirst-front, b, and-false)
 
-  pub order-rest : (issued : ℕ) → n ≤ 1024 → issued ≤ 1000000 → all isEmptyRow (drop k t) ≡ true → inOrder t issued ≡ rowsInOrder (suc issued) (before T k)
+  pub order-rest : (issued : ℕ) → n ≤ 1024 → issued ≤ 1000000 → all isEmptyRow (drop k T) ≡ true → inOrder T issued ≡ rowsInOrder (suc issued) (before T k)
   unfolding inOrder
-  order-rest issued m i b = rw (few m, liveRowsFirst-front, b, le-leb issued 1000000 i, live-front b)
+  order-rest issued m i b = rw (le-leb (length T) 1024 (omega arith), liveRowsFirst-front, b, le-leb issued 1000000 i, live-front b)

@@ -12,6 +12,7 @@ use Rattle.model.specs.declared.Event.{Event}
 use Rattle.text.specs.declared.spelling.Spelling.{Spelling}
 use Rattle.text.specs.declared.spelling.Spelling.the-variants.{Plain, Named}
 use Rattle.model.specs.declared.Event.the-variants.{Create, Borrow, Read, Write, Drop}
+use Rattle.model.specs.Requests.{isGroup, risesAbove, risesStrictly}
 use Rattle.text.specs.Result.{Result, value, refused}
 use Rattle.text.specs.Class.{classOf}
 use Rattle.text.specs.Line.{through, nextLine}
@@ -20,7 +21,6 @@ use Rattle.text.specs.Event.{bytes, spaced, spell, writesName, hasSpelli
 use Rattle.text.specs.Write.{written, stored, writeEvent}
 use Rattle.text.specs.Read.{same, guess, readEvent}
 use Rattle.text.specs.Group.{spellGroup, namesFrom, guessNames, readGroup, writeGroup}
-use Rattle.model.specs.Together.{risesAbove, risesStrictly, isGroup}
 
 abbrev name : ℕ → Name
 name n = record { 0 = n }

@@ -12,9 +12,9 @@ use lib.Dec.{leb}
 use lib.ListN.{length, take, drop, set, length-drop, drop-of-length-le}
 use lib.Seq.{drop-drop, append-snoc, take-suc-set, sets-eq}
 use borrow.Author.Tests.{leb-true, le-leb}
-use Rattle.model.specs.Together.{risesStrictly, isGroup}
 use Rattle.model.proofs.Lists.{and-both}
 use Rattle.model.specs.declared.Refusal.{Refusal}
+use Rattle.model.specs.Requests.{isGroup, risesStrictly}
 use Rattle.text.specs.Result.{value, refused}
 use Rattle.text.specs.Class.{space}
 use Rattle.text.specs.Line.{through, afterSpace}

@@ -10,7 +10,7 @@ use lib.ListN.{length, take, length-append}
 use borrow.Author.Tests.{eqb-false}
 use Rattle.model.specs.declared.Name.{Name}
 use Rattle.model.specs.declared.Event.the-variants.{Drop}
-use Rattle.model.specs.Together.{risesAbove, risesStrictly, isGroup}
+use Rattle.model.specs.Requests.{isGroup, risesAbove, risesStrictly}
 use Rattle.model.proofs.Lists.{clash}
 use Rattle.text.specs.Result.{value, refused}
 use Rattle.text.specs.Class.{classOf}

@@ -8,10 +8,10 @@ use Rattle.model.specs.Lists.{all}
 use Rattle.model.specs.Derivation.{ancestry, onAncestry}
 use Rattle.model.specs.Strike.{strike, reached, struck}
 use Rattle.model.specs.Table.{liveRows, lentTable, lookup, isEmptyRow, liveRowsFirst, rowFitsParent, parentInOrder, rowInOrder, rowsInOrder, inOrder}
-use Rattle.model.specs.Refusals.{refusals, judge}
-use Rattle.model.specs.Effects.{revoke, afterAccess, rowsAfter}
+use Rattle.model.specs.Requests.{risesAbove, risesStrictly, isGroup}
+use Rattle.model.specs.Refusals.{standings, refusals, judge}
+use Rattle.model.specs.Effects.{revoke, afterAccess, rowsWithout, rowsAfter}
 use Rattle.model.specs.Step.{answer, after}
-use Rattle.model.specs.Together.{risesAbove, risesStrictly, isGroup, standings, groupRefusals, judgeGroup, rowsWithout, answerRequest, afterRequest}
 use Rattle.text.specs.Group.{spellGroup, namesFrom, guessNames, readGroup}
 use Rattle.text.specs.Class.{classOf}
 use Rattle.text.specs.Line.{through, push, linesOf}
@@ -35,5 +35,5 @@ examples =
     ∷ []
 
 printed : all (λ e. same (checkText (bytes (e .0))) (bytes (e .1))) examples ≡ true
-unfolding examples ancestry onAncestry strike reached struck liveRows lentTable lookup isEmptyRow liveRowsFirst rowFitsParent parentInOrder rowInOrder rowsInOrder inOrder refusals judge revoke afterAccess rowsAfter answer after risesAbove risesStrictly isGroup standings groupRefusals judgeGroup rowsWithout answerRequest afterRequest spellGroup namesFrom guessNames readGroup classOf through push linesOf numeral decimal numberFrom spaced spell hasSpelling writesName same guess readEvent pieces form children roots listed runLines runTrace runFrom answerLine checkText
+unfolding examples ancestry onAncestry strike reached struck liveRows lentTable lookup isEmptyRow liveRowsFirst rowFitsParent parentInOrder rowInOrder rowsInOrder inOrder refusals judge revoke afterAccess rowsAfter answer after risesAbove risesStrictly isGroup standings rowsWithout spellGroup namesFrom guessNames readGroup classOf through push linesOf numeral decimal numberFrom spaced spell hasSpelling writesName same guess readEvent pieces form children roots listed runLines runTrace runFrom answerLine checkText
 printed = refl

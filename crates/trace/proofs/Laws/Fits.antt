@@ -13,9 +13,9 @@ use Rattle.model.specs.declared.Event.{Event}
 use Rattle.model.specs.declared.Event.the-variants.{Create, Borrow, Read, Write, Drop}
 use Rattle.model.specs.Lists.{all, first}
 use Rattle.model.specs.Table.{liveRows, inOrder}
-use Rattle.model.specs.Refusals.{refusals, judge}
+use Rattle.model.specs.Requests.{Request, Single, Group}
+use Rattle.model.specs.Refusals.{viewOf, standings, refusals, judge}
 use Rattle.model.specs.Step.{State, initial, answer}
-use Rattle.model.specs.Together.{standings, groupRefusals, judgeGroup, answerRequest}
 use Rattle.model.proofs.Lists.{and-both}
 use Rattle.text.specs.Event.{spaced}
 use Rattle.text.specs.Line.{linesOf}
@@ -50,37 +50,34 @@ first-most (c ∷ cs) h =
     go true l ih = l
     go false l ih = ih
 
-refusals-most : (t : List Cap) (i : ℕ) (e : Event) → upTo13 (refusals t i e) ≡ true
-unfolding refusals
-refusals-most t i (Create w s r) = refl
-refusals-most t i (Borrow w u s r) = refl
-refusals-most t i (Read u s) = refl
-refusals-most t i (Write u s) = refl
-refusals-most t i (Drop u) = refl
-
 standings-most : (rows : List Cap) (i : ℕ) (names : List ℕ) → upTo13 (standings rows i names) ≡ true
 unfolding standings
 standings-most rows i [] = refl
 standings-most rows i (u ∷ names) = standings-most rows i names
 
-judge-most : (t : List Cap) (i : ℕ) (e : Event) → judge t i e ≤ 13
-unfolding judge
-judge-most t i e = first-most (refusals t i e) (refusals-most t i e)
+refusals-most : (t : List Cap) (i : ℕ) (q : Request) → upTo13 (refusals (viewOf t i) q) ≡ true
+unfolding refusals
+refusals-most t i (Single (Create w s r)) = refl
+refusals-most t i (Single (Borrow w u s r)) = refl
+refusals-most t i (Single (Read u s)) = refl
+refusals-most t i (Single (Write u s)) = refl
+refusals-most t i (Single (Drop u)) = refl
+refusals-most t i (Group names) = standings-most (liveRows t) i names
 
-group-most : (t : List Cap) (i : ℕ) (names : List ℕ) → judgeGroup t i names ≤ 13
-unfolding judgeGroup groupRefusals
-group-most t i names = first-most (groupRefusals t i names) (standings-most (liveRows t) i names)
+judge-most : (t : List Cap) (i : ℕ) (q : Request) → judge (viewOf t i) q ≤ 13
+unfolding judge
+judge-most t i q = first-most (refusals (viewOf t i) q) (refusals-most t i q)
 
 line-most : (k : Spelling) (h : State) (l : List ℕ) → takeLine lent k h l .refusal ≤ 13
-unfolding answerRequest answer
+unfolding answer
 line-most k h l = event (readEvent k l)
   where
     group : (r : Result (List ℕ)) → ((n : ℕ) → r ≡ refused n → n ≡ 2) → takeRead lent h (groupOf r) .refusal ≤ 13
-    group (value names) two = group-most (h .table) (h .tally .issued) names
+    group (value names) two = judge-most (h .table) (h .tally .issued) (Group names)
     group (refused n) two = omega (arith, two n refl)
 
     event : (r : Result Event) → takeRead lent h (requestOf l r) .refusal ≤ 13
-    event (value e) = judge-most (h .table) (h .tally .issued) e
+    event (value e) = judge-most (h .table) (h .tally .issued) (Single e)
     event (refused n) = group (readGroup l) (refused-group-is-2 l)
 
 lines-most : (k : Spelling) (before : ℕ) (h : State) (ls : List (List ℕ)) → runLines lent k before h ls .refusal ≤ 13

@@ -11,8 +11,8 @@ use Rattle.model.specs.declared.Tally.{Tally}
 use Rattle.model.specs.Step.{State}
 use Rattle.model.specs.Table.{inOrder}
 use Rattle.model.proofs.Lists.{clash}
-use Rattle.table.specs.Words.{rowsOf}
-use Rattle.rules.specs.Steps.{heldIn}
+use Rattle.table.specs.Words.{rowsIn}
+use Rattle.rules.specs.Steps.{lends}
 use Rattle.text.specs.Class.{newline}
 use Rattle.text.specs.Line.{through, nextLine, linesOf}
 use Rattle.text.specs.Read.{same}
@@ -47,13 +47,13 @@ trace-plain [] h c s = refl
 trace-plain (b ∷ t) h c s = rw (lines-next (b ∷ t) (omega arith), h)
 
 -- a run of a table in order goes by its lines
-in-order : (ws : List ℕ) (n : ℕ) (t : Tally) (text : List ℕ) → inOrder (rowsOf ws n) (t .issued) ≡ true → runTrace lent (heldIn ws n t) (linesOf text) ≡ run (heldIn ws n t) text
+in-order : (ws : List (List ℕ)) (t : Tally) (text : List ℕ) → inOrder (rowsIn ws) (t .issued) ≡ true → runTrace lent (lends (rowsIn ws) t) (linesOf text) ≡ run (lends (rowsIn ws) t) text
 unfolding runFrom
-in-order ws n t text o = rw o
+in-order ws t text o = rw o
 
-module _ (ws : List ℕ) (n : ℕ) (t : Tally) (text : List ℕ) (o : inOrder (rowsOf ws n) (t .issued) ≡ true) {ws′ : List ℕ} {r : RunOutcome} where
-  pub runs-named : same (nextLine text) header ≡ true → {rest : List ℕ} → rest ≡ drop 10 text → RunsLines Named 1 ws n t rest ws′ r → Runs ws n t text ws′ r
-  runs-named h e k = record { ran = k .ran ∙ ap (λ (l : List ℕ). runLines lent Named 1 (heldIn ws n t) (linesOf l)) e ∙ sym (trace-named text h lent (heldIn ws n t)) ∙ in-order ws n t text o; long = k .long }
+module _ (ws : List (List ℕ)) (t : Tally) (text : List ℕ) (o : inOrder (rowsIn ws) (t .issued) ≡ true) {ws′ : List (List ℕ)} {r : RunOutcome} where
+  pub runs-named : same (nextLine text) header ≡ true → {rest : List ℕ} → rest ≡ drop 10 text → RunsLines Named 1 ws t rest ws′ r → Runs ws t text ws′ r
+  runs-named h e k = record { ran = k .ran ∙ ap (λ (l : List ℕ). runLines lent Named 1 (lends (rowsIn ws) t) (linesOf l)) e ∙ sym (trace-named text h lent (lends (rowsIn ws) t)) ∙ in-order ws t text o }
 
-  pub runs-plain : same (nextLine text) header ≡ false → RunsLines Plain 0 ws n t text ws′ r → Runs ws n t text ws′ r
-  runs-plain h k = record { ran = k .ran ∙ sym (trace-plain text h lent (heldIn ws n t)) ∙ in-order ws n t text o; long = k .long }
+  pub runs-plain : same (nextLine text) header ≡ false → RunsLines Plain 0 ws t text ws′ r → Runs ws t text ws′ r
+  runs-plain h k = record { ran = k .ran ∙ sym (trace-plain text h lent (lends (rowsIn ws) t)) ∙ in-order ws t text o }

@@ -1,16 +1,15 @@
 -- A run of a trace from an empty table has the history's verdicts: by the theorem about lists of events, line by line.
 -- Assumes nothing.
-use mathlib.Core.Path.{_≡_, refl, ap₂}
+use mathlib.Core.Path.{_≡_, refl, ap, ap₂}
 use mathlib.Core.Bool.{Bool, true, false, cond}
 use mathlib.Core.List.{List, [], _∷_}
 use Prim.Native.Nat.{ℕ, _+_}
 use lib.Dec.{eqb}
 use Rattle.model.specs.declared.Cap.{Cap}
-use Rattle.model.specs.Together.{Request, answerRequest, answerNoted}
-use Rattle.model.proofs.Requests.{run-requests}
+use Rattle.model.specs.Requests.{Request}
 use Rattle.model.specs.declared.Tally.{Tally}
 use Rattle.model.specs.Table.{inOrder}
-use Rattle.model.specs.Step.{State, initial}
+use Rattle.model.specs.Step.{Verdict, State, initial}
 use Rattle.model.specs.Step
 use Rattle.model.specs.History.{History, emptyHistory}
 use Rattle.model.specs.History
@@ -40,9 +39,7 @@ module _ (n : ℕ) where
     where
       go : (r : Result Request) → SameLine (takeRead lent h r) (takeRead (noted n) H r)
       go (value q) =
-          let r = run-requests n (q ∷ []) h H m in
-          let same : answerRequest h q ≡ answerNoted n H q = cc in
-          record { refusals = cc; match = r .1 }
+          record { refusals = ap (λ (v : Verdict). v .refusal) (Match.same-answer n h H m q); match = Match.match-after n h H m q }
       go (refused x) = record { refusals = refl; match = record { same-table = m .same-table; same-issued = m .same-issued; kept = m .kept } }
 
   same-lines : (k : Spelling) (before : ℕ) (h : State) (H : History) → Match n h H → (ls : List (List ℕ)) → Same (runLines lent k before h ls) (runLines (noted n) k before H ls)

@@ -2,8 +2,8 @@
 -- Assumes nothing.
 use mathlib.Core.Path.{_≡_, refl, sym, ap, ap₂, _∙_, subst}
 use mathlib.Core.Bool.{Bool, true, false, cond}
-use mathlib.Core.List.{List, [], _∷_, _++_, append-assoc, append-nil}
-use Prim.Native.Nat.{ℕ, _+_, _-_, _≤_, _<_}
+use mathlib.Core.List.{List, [], _∷_, _++_, map, append-assoc, append-nil}
+use Prim.Native.Nat.{ℕ, zero, suc, _+_, _-_, _≤_, _<_}
 use native.Mathlib.Nat.{zero-add}
 use native.Mathlib.Omega.{arith}
 use lib.Dec.{leb}
@@ -13,11 +13,11 @@ use borrow.Author.Tests.{le-leb, lt-leb, leb-true, leb-false, eq-eqb, ne-eqb}
 use Rattle.model.specs.declared.Cap.{Cap}
 use Rattle.model.specs.declared.Refusal.{Refusal}
 use Rattle.model.specs.Answers.{number}
-use Rattle.model.specs.Table.{emptyRow, lentTable, inOrder}
+use Rattle.model.specs.Table.{emptyRow, inOrder}
 use Rattle.model.specs.Step.{State, initial}
 use Rattle.model.proofs.Order.{order-fresh}
-use Rattle.table.specs.Words.{rowsOf, rowsIn}
-use Rattle.rules.specs.Steps.{heldIn}
+use Rattle.table.specs.Words.{capOf, rowsIn}
+use Rattle.rules.specs.Steps.{lends}
 use Rattle.text.specs.Event.{bytes, line}
 use Rattle.text.specs.Result.{value, refused}
 use Rattle.text.specs.Put.{Room, Put}
@@ -26,7 +26,6 @@ use Rattle.text.specs.declared.write.Written.{Written}
 use Rattle.text.specs.declared.write.Written.the-variants.{Length, Refused}
 use Rattle.listing.specs.Listing.{listing}
 use Rattle.listing.specs.WriteListing.{listingWritten, listingStored, WritesListing}
-use Rattle.listing.proofs.Laws.ReadListing.{stored-none}
 use Rattle.trace.specs.declared.run.RunAnswer.{RunAnswer}
 use Rattle.trace.specs.declared.run.RunOutcome.{RunOutcome}
 use Rattle.trace.specs.Run.{Ran, run, ranOf, Runs}
@@ -119,18 +118,21 @@ pub long-text : (input : List ℕ) → 65536 < length input → bytes "(long)\n"
 unfolding checkText
 long-text input l = sym (rw (lt-leb (length input) 65536 l))
 
-none : rowsOf (replicate 6144 0) 0 ≡ []
-unfolding rowsOf
-none = refl
+-- 1,024 rows of zeros are 1,024 empty rows
+abbrev zeros : List (List ℕ)
+zeros = replicate 1024 (replicate 6 0)
 
--- the words at the start have 1,024 empty rows
-empty-rows : rowsOf (replicate 6144 0) 1024 ≡ replicate 1024 emptyRow
-unfolding rowsIn lentTable
-empty-rows = rw none at (stored-none .table)
+rows-empty : (n : ℕ) → map capOf (replicate n (replicate 6 0)) ≡ replicate n emptyRow
+rows-empty zero = refl
+rows-empty (suc n) = ap (λ (l : List Cap). emptyRow ∷ l) (rows-empty n)
 
-pub ran-is : {input ws′ : List ℕ} {r : RunOutcome} → Runs (replicate 6144 0) 1024 noCounts input ws′ r → {a : RunAnswer} → r .answer ≡ a → ranOf a (heldIn ws′ 1024 (r .tally)) ≡ run (initial 1024 noCounts) input
+empty-rows : rowsIn zeros ≡ replicate 1024 emptyRow
+unfolding rowsIn
+empty-rows = rows-empty 1024
+
+pub ran-is : {input : List ℕ} {ws′ : List (List ℕ)} {r : RunOutcome} → Runs zeros noCounts input ws′ r → {a : RunAnswer} → r .answer ≡ a → ranOf a (lends (rowsIn ws′) (r .tally)) ≡ run (initial 1024 noCounts) input
 ran-is {input} {ws′} {r} k e =
-    ap (λ (a : RunAnswer). ranOf a (heldIn ws′ 1024 (r .tally))) (sym e) ∙ k .ran ∙ ap (λ (t : List Cap). run (record { table = t; tally = noCounts }) input) empty-rows
+    ap (λ (a : RunAnswer). ranOf a (lends (rowsIn ws′) (r .tally))) (sym e) ∙ k .ran ∙ ap (λ (t : List Cap). run (record { table = t; tally = noCounts }) input) empty-rows
 
 module _ (input : List ℕ) (s : Ran State) (is : s ≡ run (initial 1024 noCounts) input) where
   pub ran-order : inOrder (s .state .table) (s .state .tally .issued) ≡ true

@@ -10,23 +10,23 @@ use native.Mathlib.Omega.{arith}
 use lib.Dec.{eqb}
 use lib.ListN.{length, length-take}
 use borrow.Author.Tests.{leb-true, eqb-true}
-use Rattle.model.specs.declared.Event.{Event}
 use Rattle.model.specs.declared.Event.the-variants.{Create, Borrow, Read, Write, Drop}
-use Rattle.model.specs.Step.{State, initial}
-use Rattle.model.specs.Together.{Request, Single, Group, risesAbove, risesStrictly, isGroup, answerRequest, afterRequest}
+use Rattle.model.specs.Requests.{Request, Single, Group, risesAbove, risesStrictly, isGroup}
+use Rattle.model.specs.Effects.{issuedAfter}
+use Rattle.model.specs.Step.{State, initial, answer, after}
 use Rattle.model.specs.Table.{inOrder}
-use Rattle.model.specs.Named.{unnamed, rightlyNamed, unnamedRequest, rightlyNamedRequest, issuedAfterRequest, allRightlyNamedRequests}
+use Rattle.model.specs.Named.{unnamed, rightlyNamed, allRightlyNamed}
 use Rattle.model.proofs.Lists.{test}
-use Rattle.model.proofs.Named.{same-request-answer, same-request-after, issued-request-allowed}
-use Rattle.model.proofs.Order.{ordered}
-use Rattle.model.proofs.Together.{order-request}
+use Rattle.model.proofs.Named.{same-answer, same-after, issued-allowed}
+use Rattle.model.proofs.Order.{ordered, order-after}
 use Rattle.text.specs.Class.{classOf, newline}
 use Rattle.text.specs.Line.{through, nextLine, linesOf}
 use Rattle.text.specs.Decimal.{numeral, decimal, numberFrom}
-use Rattle.text.specs.Event.{bytes, spaced, spell, hasSpelling, writesName, InRange}
+use Rattle.text.specs.Event.{bytes, spaced, spell, hasSpelling, writesName}
 use Rattle.text.specs.Group.{spellGroup, namesFrom, guessNames, readGroup}
 use Rattle.text.specs.Read.{same, guess, readEvent}
 use Rattle.text.specs.Result.{value, refused}
+use Rattle.text.specs.declared.spelling.Spelling.{Spelling}
 use Rattle.text.specs.declared.spelling.Spelling.the-variants.{Plain, Named}
 use Rattle.text.proofs.Laws.Line.{lines-next, next-some}
 use Rattle.text.proofs.Laws.OneLine.{spell-is-line, header-is-no-event}
@@ -35,28 +35,21 @@ use Rattle.text.proofs.Laws.Read.{same-true}
 use Rattle.text.proofs.Laws.OneSpelling.{spelling-reads-back}
 use Rattle.trace.specs.Run.{header, Ran, readRequest, runLines, runFrom, lent, run}
 use Rattle.trace.specs.Check.{report, noCounts, checkText}
-use Rattle.trace.specs.Spellings.{spellRequest, textOf, plainText, namedText, Spellable, Spelled, oneHigher, Rests, none, misspelt, OldTrace, SameVerdicts, checked, SameChecks}
+use Rattle.trace.specs.Spellings.{spellRequest, textOf, plainText, namedText, HasLine, Spellable, Spelled, oneHigher, Rests, none, misspelt, OldTrace, SameVerdicts, checked, SameChecks}
 use Rattle.trace.proofs.Laws.Header.{trace-plain, trace-named}
 use Rattle.trace.proofs.Laws.Order.{refused-line, refused-run}
 use Rattle.trace.proofs.Laws.Report.{ran-report}
 
--- ---- an event that has a spelling without its name has one with its right name
+-- ---- a request that has a line without its name has one with its right name
 
-named-spelled : (i : ℕ) (e : Event) → hasSpelling Plain (unnamed e) ≡ true → hasSpelling Named (rightlyNamed i e) ≡ true
+named-line : (i : ℕ) → suc i < 2 ^ 32 → (q : Request) → Spellable q → HasLine Named (rightlyNamed i q)
 unfolding hasSpelling writesName unnamed rightlyNamed
-named-spelled i (Create w s r) h = h
-named-spelled i (Borrow w u s r) h = h
-named-spelled i (Read u s) h = h
-named-spelled i (Write u s) h = h
-named-spelled i (Drop u) h = h
-
-named-in-range : (i : ℕ) → suc i < 2 ^ 32 → (e : Event) → InRange (unnamed e) → InRange (rightlyNamed i e)
-unfolding unnamed rightlyNamed
-named-in-range i l (Create w s r) k = (l, k)
-named-in-range i l (Borrow w u s r) k = (l, k)
-named-in-range i l (Read u s) k = k
-named-in-range i l (Write u s) k = k
-named-in-range i l (Drop u) k = k
+named-line i l (Single (Create w s r)) sp = (sp .0, (l, sp .1))
+named-line i l (Single (Borrow w u s r)) sp = (sp .0, (l, sp .1))
+named-line i l (Single (Read u s)) sp = sp
+named-line i l (Single (Write u s)) sp = sp
+named-line i l (Single (Drop u)) sp = sp
+named-line i l (Group names) sp = sp
 
 -- ---- a request
 
@@ -69,16 +62,11 @@ one-line (Group names) t = group-is-line names t
 request-line : (q : Request) (s t : List ℕ) → linesOf ((spellRequest q ++ s) ++ t) ≡ spellRequest q ∷ linesOf (s ++ t)
 request-line q s t = ap linesOf (append-assoc (spellRequest q) s t) ∙ one-line q (s ++ t)
 
--- which reads back, without its name and with its right name
-reads-plain : (q : Request) → Spellable q → readRequest Plain (spellRequest (unnamedRequest q)) ≡ value (unnamedRequest q)
-unfolding spellRequest unnamedRequest
-reads-plain (Single e) sp = rw (spelling-reads-back Plain (unnamed e) (sp .0) (sp .1))
-reads-plain (Group names) sp = rw (group-is-no-event Plain names (sp .0) (sp .1) (sp .2), group-reads-back names (sp .1) (sp .2))
-
-reads-named : (i : ℕ) → suc i < 2 ^ 32 → (q : Request) → Spellable q → readRequest Named (spellRequest (rightlyNamedRequest i q)) ≡ value (rightlyNamedRequest i q)
-unfolding spellRequest rightlyNamedRequest
-reads-named i l (Single e) sp = rw (spelling-reads-back Named (rightlyNamed i e) (named-spelled i e (sp .0)) (named-in-range i l e (sp .1)))
-reads-named i l (Group names) sp = rw (group-is-no-event Named names (sp .0) (sp .1) (sp .2), group-reads-back names (sp .1) (sp .2))
+-- which reads back
+reads-back : (k : Spelling) (q : Request) → HasLine k q → readRequest k (spellRequest q) ≡ value q
+unfolding spellRequest
+reads-back k (Single e) h = rw (spelling-reads-back k e (h .0) (h .1))
+reads-back k (Group names) h = rw (group-is-no-event k names (h .0) (h .1) (h .2), group-reads-back names (h .1) (h .2))
 
 -- ---- the lines of both
 
@@ -103,39 +91,39 @@ rests-example = misspelt {rest = bytes "(read 01 0 8)\n(drop 1)\n"} (omega arith
 
 module _ {rest rest′ : List ℕ} (rests : Rests rest rest′) where
   same-lines : (qs : List Request) → Spelled qs → (before : ℕ) (h : State) → inOrder (h .table) (h .tally .issued) ≡ true → (i : ℕ) → i ≡ h .tally .issued
-      → Higher (runLines lent Named (before + 1) h (linesOf (textOf (allRightlyNamedRequests i qs) ++ rest′))) (runLines lent Plain before h (linesOf (plainText qs ++ rest)))
-  unfolding textOf allRightlyNamedRequests runLines
+      → Higher (runLines lent Named (before + 1) h (linesOf (textOf (allRightlyNamed i qs) ++ rest′))) (runLines lent Plain before h (linesOf (plainText qs ++ rest)))
+  unfolding textOf allRightlyNamed runLines
   same-lines [] sp before h o i is = same-rests rests before h
   same-lines (q ∷ qs) sp before h o i is =
       let small : suc i < 2 ^ 32 = omega (arith, is, leb-true (h .tally .issued) 1000000 (ordered (h .table) (h .tally .issued) o .names-left)) in
       rw (
-        request-line (rightlyNamedRequest i q) (textOf (allRightlyNamedRequests (issuedAfterRequest i q) qs)) rest′,
-        request-line (unnamedRequest q) (plainText qs) rest,
-        reads-named i small q (sp .0),
-        reads-plain q (sp .0),
+        request-line (rightlyNamed i q) (textOf (allRightlyNamed (issuedAfter i q) qs)) rest′,
+        request-line (unnamed q) (plainText qs) rest,
+        reads-back Named (rightlyNamed i q) (named-line i small q (sp .0)),
+        reads-back Plain (unnamed q) (sp .0),
         answers,
         afters,
       )
-      (go (eqb (answerRequest h (unnamedRequest q) .refusal) 0) refl (same-lines qs (sp .1) (before + 1) (afterRequest h (unnamedRequest q)) (order-request h (unnamedRequest q) o) (issuedAfterRequest i q)))
+      (go (eqb (answer h (unnamed q) .refusal) 0) refl (same-lines qs (sp .1) (before + 1) (after h (unnamed q)) (order-after h (unnamed q) o) (issuedAfter i q)))
     where
-      answers : answerRequest h (rightlyNamedRequest i q) ≡ answerRequest h (unnamedRequest q)
-      answers = ap (λ (j : ℕ). answerRequest h (rightlyNamedRequest j q)) is ∙ same-request-answer h q
+      answers : answer h (rightlyNamed i q) ≡ answer h (unnamed q)
+      answers = ap (λ (j : ℕ). answer h (rightlyNamed j q)) is ∙ same-answer h q
 
-      afters : afterRequest h (rightlyNamedRequest i q) ≡ afterRequest h (unnamedRequest q)
-      afters = ap (λ (j : ℕ). afterRequest h (rightlyNamedRequest j q)) is ∙ same-request-after h q
+      afters : after h (rightlyNamed i q) ≡ after h (unnamed q)
+      afters = ap (λ (j : ℕ). after h (rightlyNamed j q)) is ∙ same-after h q
 
       next : State
-      next = afterRequest h (unnamedRequest q)
+      next = after h (unnamed q)
 
       plain : Ran State
       plain = runLines lent Plain (before + 1) next (linesOf (plainText qs ++ rest))
 
       named : Ran State
-      named = runLines lent Named (before + 1 + 1) next (linesOf (textOf (allRightlyNamedRequests (issuedAfterRequest i q) qs) ++ rest′))
+      named = runLines lent Named (before + 1 + 1) next (linesOf (textOf (allRightlyNamed (issuedAfter i q) qs) ++ rest′))
 
-      go : (b : Bool) → eqb (answerRequest h (unnamedRequest q) .refusal) 0 ≡ b → (issuedAfterRequest i q ≡ next .tally .issued → Higher named plain)
-          → Higher (cond b named (record { refusal = answerRequest h (unnamedRequest q) .refusal; number = before + 1 + 1; state = next })) (cond b plain (record { refusal = answerRequest h (unnamedRequest q) .refusal; number = before + 1; state = next }))
-      go true z ih = ih (ap (λ (j : ℕ). issuedAfterRequest j q) is ∙ sym (issued-request-allowed h q (eqb-true _ 0 z)))
+      go : (b : Bool) → eqb (answer h (unnamed q) .refusal) 0 ≡ b → (issuedAfter i q ≡ next .tally .issued → Higher named plain)
+          → Higher (cond b named (record { refusal = answer h (unnamed q) .refusal; number = before + 1 + 1; state = next })) (cond b plain (record { refusal = answer h (unnamed q) .refusal; number = before + 1; state = next }))
+      go true z ih = ih (ap (λ (j : ℕ). issuedAfter j q) is ∙ sym (issued-allowed h q (eqb-true _ 0 z)))
       go false z ih = record { refusals = refl; numbers = refl; states = refl }
 
 higher-is : (r n : ℕ) → (r ≡ 0) ⊎ (0 < n) → n + 1 ≡ oneHigher r n
@@ -151,14 +139,14 @@ no-group : readGroup header ≡ refused 2
 unfolding readGroup guessNames namesFrom isGroup risesStrictly risesAbove spellGroup spaced decimal numeral numberFrom through classOf same
 no-group = refl
 
-no-header : (q : Request) → Spellable q → same (spellRequest (unnamedRequest q)) header ≡ false
-no-header q sp = go (test (same (spellRequest (unnamedRequest q)) header))
+no-header : (q : Request) → Spellable q → same (spellRequest (unnamed q)) header ≡ false
+no-header q sp = go (test (same (spellRequest (unnamed q)) header))
   where
     refuses : readRequest Plain header ≡ refused 2
     refuses = rw (header-is-no-event Plain, no-group)
 
-    go : (same (spellRequest (unnamedRequest q)) header ≡ true) ⊎ (same (spellRequest (unnamedRequest q)) header ≡ false) → same (spellRequest (unnamedRequest q)) header ≡ false
-    go (inl y) = absurd (let z : _≡_ {A = ℕ} 0 1 = cc (ap (readRequest Plain) (same-true (spellRequest (unnamedRequest q)) header y), reads-plain q sp, refuses) in omega arith)
+    go : (same (spellRequest (unnamed q)) header ≡ true) ⊎ (same (spellRequest (unnamed q)) header ≡ false) → same (spellRequest (unnamed q)) header ≡ false
+    go (inl y) = absurd (let z : _≡_ {A = ℕ} 0 1 = cc (ap (readRequest Plain) (same-true (spellRequest (unnamed q)) header y), reads-back Plain (unnamed q) sp, refuses) in omega arith)
     go (inr n) = n
 
 first-line : (text line : List ℕ) (lines : List (List ℕ)) → linesOf text ≡ line ∷ lines → nextLine text ≡ line
@@ -170,7 +158,7 @@ first-line (b ∷ text) line lines e = head-eq-of-cons-eq (sym (lines-next (b �
 pub request-first : (q : Request) (qs : List Request) → Spelled (q ∷ qs) → (rest : List ℕ) → OldTrace (plainText (q ∷ qs) ++ rest)
 unfolding textOf
 request-first q qs sp rest =
-    let p = unnamedRequest q in
+    let p = unnamed q in
     rw (first-line ((spellRequest p ++ plainText qs) ++ rest) (spellRequest p) (linesOf (plainText qs ++ rest)) (request-line p (plainText qs) rest)) (no-header q (sp .0))
 
 header-first : (t : List ℕ) → same (nextLine (header ++ t)) header ≡ true
@@ -183,7 +171,7 @@ module _ (h : State) (qs : List Request) (sp : Spelled qs) {rest rest′ : List 
 
   -- the lines behind the header
   abbrev behind : List ℕ
-  behind = textOf (allRightlyNamedRequests (h .tally .issued) qs) ++ rest′
+  behind = textOf (allRightlyNamed (h .tally .issued) qs) ++ rest′
 
   plain-run : run h plain ≡ runLines lent Plain 0 h (linesOf plain)
   unfolding runFrom

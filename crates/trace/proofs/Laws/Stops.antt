@@ -11,14 +11,12 @@ use lib.ListN.{length, take}
 use lib.Seq.{take-nil, take-length}
 use borrow.Author.Tests.{eq-eqb, ne-eqb}
 use Rattle.model.specs.declared.Event.{Event}
-use Rattle.model.specs.Refusals.{refusals}
 use Rattle.model.specs.Table.{inOrder}
 use Rattle.model.specs.Step.{State, answer}
-use Rattle.model.specs.Together.{Request, Single, Group, answerRequest}
+use Rattle.model.specs.Requests.{Request}
 use Rattle.model.proofs.Lists.{test, clash}
-use Rattle.model.proofs.Precedence.{given-holds}
-use Rattle.model.proofs.Together.{refused-table, refused-tally}
-use Rattle.rules.proofs.Laws.Groups.{group-not-1}
+use Rattle.model.proofs.Judged.{ordered-not-1}
+use Rattle.model.proofs.Frame.{refused-table, refused-tally}
 use Rattle.text.specs.Class.{classOf, newline}
 use Rattle.text.specs.Line.{push, linesOf}
 use Rattle.text.specs.Event.{bytes}
@@ -72,10 +70,9 @@ misread-2 k l x = go (readEvent k l) (readGroup l) refl
     go (refused r) (refused y) is z = let e = rw is at z in let q : x ≡ y = cc in q ∙ refused-group-is-2 l y is
 
 -- on a table in order no answer is 1
-request-not-1 : (h : State) (q : Request) → Ordered h → answerRequest h q .refusal ≡ 1 → ⊥
-unfolding answerRequest answer refusals
-request-not-1 h (Single e) o z = clash (given-holds (h .table) (h .tally .issued) e 0 z) (rw o)
-request-not-1 h (Group names) o z = group-not-1 (h .table) (h .tally .issued) names o z
+request-not-1 : (h : State) (q : Request) → Ordered h → answer h q .refusal ≡ 1 → ⊥
+unfolding answer
+request-not-1 h q o z = ordered-not-1 (h .table) (h .tally .issued) q o z
 
 line-not-1 : (k : Spelling) (h : State) (l : List ℕ) → Ordered h → takeLine lent k h l .refusal ≡ 1 → ⊥
 line-not-1 k h l o = go (readRequest k l) refl

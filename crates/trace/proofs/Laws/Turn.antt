@@ -12,7 +12,7 @@ use Rattle.text.specs.Class.{newline}
 use Rattle.text.specs.Line.{through, nextLine, linesOf}
 use Rattle.text.specs.Read.{readEvent}
 use Rattle.text.specs.Group.{readGroup}
-use Rattle.model.specs.Together.{Request, answerRequest, afterRequest}
+use Rattle.model.specs.Requests.{Request, Single, Group}
 use Rattle.text.specs.declared.spelling.Spelling.{Spelling}
 use Rattle.text.specs.Result.{Result, value, refused}
 use Rattle.text.proofs.Laws.Line.{lines-next, next-some, through-le}
@@ -28,11 +28,10 @@ use Rattle.model.specs.Answers.{number, verdictOf}
 use Rattle.model.specs.Counts.{countRefused}
 use Rattle.model.specs.Step.{Verdict, State}
 use Rattle.model.specs.Table.{inOrder}
-use Rattle.model.proofs.Together.{order-request}
+use Rattle.model.proofs.Order.{order-after}
 use Rattle.rules.specs.declared.Outcome.{Outcome}
-use Rattle.table.specs.Words.{rowsOf}
-use Rattle.rules.specs.Steps.{heldIn, Stepped, Grouped}
-use Rattle.table.proofs.Laws.Words.{in-first}
+use Rattle.table.specs.Words.{rowsIn}
+use Rattle.rules.specs.Steps.{lends, Stepped}
 use Rattle.table.proofs.Laws.Judge.{numbered}
 use Rattle.trace.specs.declared.run.RunAnswer.the-variants.{Refused as RunRefused}
 use Rattle.trace.specs.Run.{takeRead, takeLine, runLines, lent, ranOf, readRequest, Known, TakesGroup, Takes}
@@ -42,37 +41,34 @@ pub line-order : (k : Spelling) (h : State) (l : List ℕ) → inOrder (h .table
 line-order k h l o = go (readRequest k l)
   where
     go : (r : Result Request) → inOrder (takeRead lent h r .state .table) (takeRead lent h r .state .tally .issued) ≡ true
-    go (value q) = order-request h q o
+    go (value q) = order-after h q o
     go (refused k) = o
 
 -- what is known of words says that their table is in order
-pub known-order : {ws : List ℕ} {n live issued : ℕ} {places : List ℕ} → Known ws n live issued places → inOrder (rowsOf ws n) issued ≡ true
-known-order {ws} {n} {live} {issued} k = ap (λ (rows : List Cap). inOrder rows issued) (sym (in-first ws n (k .orderly .few))) ∙ k .orderly .ordered
+pub known-order : {ws : List (List ℕ)} {n live issued : ℕ} {places : List ℕ} → Known ws n live issued places → inOrder (rowsIn ws) issued ≡ true
+known-order k = k .orderly .ordered
 
-module _ (ws : List ℕ) (n : ℕ) (t : Tally) (line : List ℕ) where
+module _ (ws : List (List ℕ)) (t : Tally) (line : List ℕ) where
   -- a line that spells an event goes by the event's step
-  pub taken-event : (k : Spelling) {e : Event} {ws′ : List ℕ} {r : Outcome} → readEvent k line ≡ value e → Stepped ws n t e ws′ r → Takes k ws n t line ws′ r
-  unfolding answerRequest afterRequest
+  pub taken-event : (k : Spelling) {e : Event} {ws′ : List (List ℕ)} {r : Outcome} → readEvent k line ≡ value e → Stepped ws t (Single e) ws′ r → Takes k ws t line ws′ r
   taken-event k q s = record {
     refusal = rw q (ap (λ (v : Verdict). v .refusal) (s .answer));
     state = rw q (ap₂ (λ (rows : List Cap) (y : Tally). record { table = rows; tally = y }) (s .table) (s .tally));
-    long = s .long;
   }
 
   -- any other goes by the names that it spells
-  pub taken-other : (k : Spelling) {x : ℕ} {ws′ : List ℕ} {r : Outcome} → readEvent k line ≡ refused x → TakesGroup ws n t line ws′ r → Takes k ws n t line ws′ r
-  taken-other k q s = record { refusal = rw q (s .refusal); state = rw q (s .state); long = s .long }
+  pub taken-other : (k : Spelling) {x : ℕ} {ws′ : List (List ℕ)} {r : Outcome} → readEvent k line ≡ refused x → TakesGroup ws t line ws′ r → Takes k ws t line ws′ r
+  taken-other k q s = record { refusal = rw q (s .refusal); state = rw q (s .state) }
 
-  pub taken-group : {names ws′ : List ℕ} {r : Outcome} → readGroup line ≡ value names → Grouped ws n t names ws′ r → TakesGroup ws n t line ws′ r
+  pub taken-group : {names : List ℕ} {ws′ : List (List ℕ)} {r : Outcome} → readGroup line ≡ value names → Stepped ws t (Group names) ws′ r → TakesGroup ws t line ws′ r
   taken-group q s = record {
     refusal = rw q (ap (λ (v : Verdict). v .refusal) (s .answer));
     state = rw q (ap₂ (λ (rows : List Cap) (y : Tally). record { table = rows; tally = y }) (s .table) (s .tally));
-    long = s .long;
   }
 
   -- a line that spells none is refused
-  pub taken-misspelt : {y : Tally} → readGroup line ≡ refused 2 → y ≡ countRefused t → length ws ≡ 6144 → TakesGroup ws n t line ws (record { tally = y; answer = Refused Misspelt })
-  taken-misspelt q c l = record { refusal = rw q; state = rw (q, c); long = l }
+  pub taken-misspelt : {y : Tally} → readGroup line ≡ refused 2 → y ≡ countRefused t → TakesGroup ws t line ws (record { tally = y; answer = Refused Misspelt })
+  taken-misspelt q c = record { refusal = rw q; state = rw (q, c) }
 
 -- line is the next line of what is left of s from a position on
 module _ (s : List ℕ) (at : ℕ) (more : at < length s) (line : List ℕ) (is : line ≡ nextLine (take (length s - at) (drop at s))) where
@@ -103,18 +99,18 @@ module _ (s : List ℕ) (at : ℕ) (more : at < length s) (line : List ℕ) (is 
     turn = rw (lines-next (drop at s) left-some, rest-is, line-is)
 
   -- the line was taken on the words of a table
-  module _ (count : ℕ) {k : Spelling} {ws : List ℕ} {n : ℕ} {t : Tally} {ws′ : List ℕ} {r : Outcome} (took : Takes k ws n t line ws′ r) where
+  module _ (count : ℕ) {k : Spelling} {ws : List (List ℕ)} {t : Tally} {ws′ : List (List ℕ)} {r : Outcome} (took : Takes k ws t line ws′ r) where
     -- it is allowed, and the run goes on behind it
-    pub turn-on : {x : Name} → r .answer ≡ Allowed x → runLines lent k (count + 1) (heldIn ws′ n (r .tally)) (linesOf (drop (at + length line) s)) ≡ runLines lent k count (heldIn ws n t) (linesOf (drop at s))
+    pub turn-on : {x : Name} → r .answer ≡ Allowed x → runLines lent k (count + 1) (lends (rowsIn ws′) (r .tally)) (linesOf (drop (at + length line) s)) ≡ runLines lent k count (lends (rowsIn ws) t) (linesOf (drop at s))
     turn-on e =
-        let zero-is : takeLine lent k (heldIn ws n t) line .refusal ≡ 0 = sym (took .refusal) ∙ ap (λ (a : Answer). verdictOf a .refusal) e in
-        rw (took .state) (sym (turn k count (heldIn ws n t) ∙ rw zero-is))
+        let zero-is : takeLine lent k (lends (rowsIn ws) t) line .refusal ≡ 0 = sym (took .refusal) ∙ ap (λ (a : Answer). verdictOf a .refusal) e in
+        rw (took .state) (sym (turn k count (lends (rowsIn ws) t) ∙ rw zero-is))
 
     -- it is refused, and the run ends there
-    pub turn-ends : {x : Refusal} → r .answer ≡ Refused x → ranOf (RunRefused x (count + 1)) (heldIn ws′ n (r .tally)) ≡ runLines lent k count (heldIn ws n t) (linesOf (drop at s))
+    pub turn-ends : {x : Refusal} → r .answer ≡ Refused x → ranOf (RunRefused x (count + 1)) (lends (rowsIn ws′) (r .tally)) ≡ runLines lent k count (lends (rowsIn ws) t) (linesOf (drop at s))
     turn-ends {x} e =
-        let is : takeLine lent k (heldIn ws n t) line .refusal ≡ number x = sym (took .refusal) ∙ ap (λ (a : Answer). verdictOf a .refusal) e in
-        rw (took .state) (sym (turn k count (heldIn ws n t) ∙ rw (is, numbered x)))
+        let is : takeLine lent k (lends (rowsIn ws) t) line .refusal ≡ number x = sym (took .refusal) ∙ ap (λ (a : Answer). verdictOf a .refusal) e in
+        rw (took .state) (sym (turn k count (lends (rowsIn ws) t) ∙ rw (is, numbered x)))
 
 -- nothing is left
 pub run-ends : (k : Spelling) (s : List ℕ) (at count : ℕ) (h : State) → length s ≤ at → record { refusal = 0; number = count; state = h } ≡ runLines lent k count h (linesOf (drop at s))

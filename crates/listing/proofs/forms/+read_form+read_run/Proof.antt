@@ -30,8 +30,8 @@ use Rattle.listing.proofs.forms.+read_form+read_run.Tie.{close}
 
 -- what a test that a child follows tells, where the last bytes of a text are left
 module _ (s : List ℕ) (left : ℕ) where
-  at-tail : (ws : List ℕ) (count depth : ℕ) {rest : List ℕ} {b : Bool} → rest ≡ tail s left → b ≡ follows rest count depth → childFollows depth (record { rest = tail s left; rows = newest ws count }) ≡ b
-  at-tail ws count depth e h = ap₂ (λ (t : List ℕ) (n : ℕ). follows t n depth) (sym e) (length-newest ws count) ∙ sym h
+  at-tail : {ws : List (List ℕ)} {count : ℕ} → Stored ws count → (depth : ℕ) {rest : List ℕ} {b : Bool} → rest ≡ tail s left → b ≡ follows rest count depth → childFollows depth (record { rest = tail s left; rows = newest ws count }) ≡ b
+  at-tail st depth e h = ap₂ (λ (t : List ℕ) (n : ℕ). follows t n depth) (sym e) (length-newest st) ∙ sym h
 
   goes : (count depth : ℕ) → left ≤ length s → {rest : List ℕ} {b : Bool} → rest ≡ tail s left → b ≡ follows rest count depth → b ≡ true → (depth < 64) × (count < 1024) × (0 < left)
   goes count depth inside {rest} e h t =
@@ -59,11 +59,11 @@ read-run-below t =
     and 2 read-run-kinds.ps (falls 2 read-run-kinds.ps _<_ μ-read-run t) read-run.Pre
 
 abbrev read-run-Inv-loop : read-run-lts.InvT-loop
-read-run-Inv-loop text words₀ count parent depth left₀ stored₀ words left stored =
-    (count ≤ stored) × Stored words stored × RunLeft text (newest words₀ count) parent depth left (newest words stored)
+read-run-Inv-loop text table₀ count parent depth left₀ stored₀ table left stored =
+    (count ≤ stored) × Stored table stored × RunLeft text (newest table₀ count) parent depth left (newest table stored)
 
 abbrev read-run-μ-loop : read-run-lts.MeasureT-loop
-read-run-μ-loop text words₀ count parent depth left₀ stored₀ words left stored = left
+read-run-μ-loop text table₀ count parent depth left₀ stored₀ table left stored = left
 
 pub +read-form+read-run-spec : {M : Type 1} → statement M
 +read-form+read-run-spec = close μ-read-form μ-read-run (λ t. read-form-lts.spec (
@@ -96,7 +96,7 @@ pub +read-form+read-run-spec : {M : Type 1} → statement M
     let add = c .before .before .before .before .before .add-row .ensures in
     let head = c .before .before .before .before .before .before .before .before .head-of .ensures in
     let inner = c .before .before .read-run .ensures in
-    (omega (arith, add .0, inner .0), inner .1, form-reads (a .text .now) (newest (a .words .now) (a .count)) (a .parent) (a .depth) (head .0) (add .2) (c .before .before .before .before .last .ensures ∙ head .2) (inner .2) (c .past .ensures ∙ ap (drop 1) (c .before .last2 .ensures)))))
+    (omega (arith, add .0, inner .0), inner .1, form-reads (a .text .now) (newest (a .table .now) (a .count)) (a .parent) (a .depth) (head .0) (add .2) (c .before .before .before .before .last .ensures ∙ head .2) (inner .2) (c .past .ensures ∙ ap (drop 1) (c .before .last2 .ensures)))))
     λ t. read-run-lts.spec (
       last-reads.Asked,
       last-reads.Learnt,
@@ -113,7 +113,7 @@ pub +read-form+read-run-spec : {M : Type 1} → statement M
     read-run-μ-loop
     (λ c.
     let s = c .before in
-    (omega arith, s .pre .1, run-begins (s .args .text .now) (newest (s .args .words .now) (s .args .count)) (s .args .parent) (s .args .depth)))
+    (omega arith, s .pre .1, run-begins (s .args .text .now) (newest (s .args .table .now) (s .args .count)) (s .args .parent) (s .args .depth)))
     (λ c κs. c .loop .inv .2 .inside)
     (λ c κs. search needs)
     (λ c κs. c .before .before .before .loop .inv .2 .inside)
@@ -140,10 +140,10 @@ pub +read-form+read-run-spec : {M : Type 1} → statement M
     let s = l .before .before in
     let one = c .read-form .ensures in
     let parts = goes (s .args .text .now) (l .loop .left) (l .loop .stored) (s .args .depth) (l .loop .inv .2 .inside) (c .before .before .before .before .before .before .last .ensures) (c .before .before .before .before .before .child-follows .ensures) (c .before .before .before .before .if1 .taken) in
-    let follow = at-tail (s .args .text .now) (l .loop .left) (l .loop .words) (l .loop .stored) (s .args .depth) (c .before .before .before .before .before .before .last .ensures) (c .before .before .before .before .before .child-follows .ensures) ∙ c .before .before .before .before .if1 .taken in
-    (omega (arith, one .0, l .loop .inv .0), one .1, run-more (s .args .text .now) (newest (s .args .words .now) (s .args .count)) (s .args .parent) (s .args .depth) (l .loop .inv .2) follow (parts .2) (c .before .before .before .last2 .ensures) (c .before .before .past .ensures) (one .2)))
+    let follow = at-tail (s .args .text .now) (l .loop .left) (l .loop .inv .1) (s .args .depth) (c .before .before .before .before .before .before .last .ensures) (c .before .before .before .before .before .child-follows .ensures) ∙ c .before .before .before .before .if1 .taken in
+    (omega (arith, one .0, l .loop .inv .0), one .1, run-more (s .args .text .now) (newest (s .args .table .now) (s .args .count)) (s .args .parent) (s .args .depth) (l .loop .inv .2) follow (parts .2) (c .before .before .before .last2 .ensures) (c .before .before .past .ensures) (one .2)))
     (λ c.
     let l = c .before .before .before in
     let s = l .before .before in
-    let none = at-tail (s .args .text .now) (l .loop .left) (l .loop .words) (l .loop .stored) (s .args .depth) (c .before .before .last .ensures) (c .before .child-follows .ensures) ∙ c .if1 .left in
-    (l .loop .inv .0, l .loop .inv .1, run-ends (s .args .text .now) (newest (s .args .words .now) (s .args .count)) (s .args .parent) (s .args .depth) (l .loop .inv .2) none))
+    let none = at-tail (s .args .text .now) (l .loop .left) (l .loop .inv .1) (s .args .depth) (c .before .before .last .ensures) (c .before .child-follows .ensures) ∙ c .if1 .left in
+    (l .loop .inv .0, l .loop .inv .1, run-ends (s .args .text .now) (newest (s .args .table .now) (s .args .count)) (s .args .parent) (s .args .depth) (l .loop .inv .2) none))

@@ -11,13 +11,13 @@ use Rattle.listing.proofs.forms.read_lines.Statement.{statement}
 use Rattle.listing.proofs.forms.read_lines.Tie as tie
 
 abbrev Inv-loop : tie.InvT-loop
-Inv-loop text words₀ left₀ count₀ words left count = Left text words left count
+Inv-loop text table₀ left₀ count₀ table left count = Left text table left count
 
 abbrev μ-loop : tie.MeasureT-loop
-μ-loop text words₀ left₀ count₀ words left count = left
+μ-loop text table₀ left₀ count₀ table left count = left
 
 loop-holds : tie.Need-loop-holds Inv-loop μ-loop
-loop-holds c = all-left (c .before .args .text .now) (c .before .args .words .now) (c .before .pre)
+loop-holds c = all-left (c .before .args .text .now) (c .before .args .table .now) (c .before .pre)
 
 returns : tie.Need-returns Inv-loop μ-loop
 returns c = (c .before .before .loop .inv .stored, full (c .before .before .loop .inv) (c .if1 .taken))

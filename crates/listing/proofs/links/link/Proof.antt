@@ -7,43 +7,43 @@ use native.Mathlib.Omega.{arith}
 use lib.ListN.{length, replicate, length-replicate}
 use borrow.Author.Needs.{needs}
 use Rattle.model.specs.declared.Cap.{Cap}
-use Rattle.table.specs.Words.{rowsOf}
-use Rattle.table.proofs.Laws.Words.{length-rows}
+use Rattle.listing.specs.First.{firstRows}
+use Rattle.listing.proofs.Laws.First.{length-first}
 use Rattle.listing.proofs.Laws.Live.{live-order}
 use Rattle.listing.proofs.Laws.Links.{Filling, filling-start, filling-step, filling-end}
 use Rattle.listing.proofs.links.link.Statement.{statement}
 use Rattle.listing.proofs.links.link.Tie as tie
 
-module _ (ws first next : List ℕ) (n : ℕ) (few : n ≤ 1024) where
-  start : first ≡ replicate 1025 n → next ≡ replicate 1025 n → Filling (rowsOf ws n) first next n
+module _ (ws : List (List ℕ)) (first next : List ℕ) (n : ℕ) (few : n ≤ 1024) (inside : n ≤ length ws) where
+  start : first ≡ replicate 1025 n → next ≡ replicate 1025 n → Filling (firstRows ws n) first next n
   start e f =
-      let long = length-rows ws n in
-      subst (Filling (rowsOf ws n) first next) long
-      (filling-start (rowsOf ws n) first next (omega arith) (ap length f ∙ length-replicate 1025 n) (e ∙ ap (replicate 1025) (sym long)))
+      let long = length-first ws n inside in
+      subst (Filling (firstRows ws n) first next) long
+      (filling-start (firstRows ws n) first next (omega arith) (ap length f ∙ length-replicate 1025 n) (e ∙ ap (replicate 1025) (sym long)))
 
 abbrev Inv-loop : tie.InvT-loop
-Inv-loop words n first₀ next₀ seen i₀ first next i = (i ≤ n) × Filling (rowsOf words n) first next i
+Inv-loop table n first₀ next₀ seen i₀ first next i = (i ≤ n) × Filling (firstRows table n) first next i
 
 abbrev μ-loop : tie.MeasureT-loop
-μ-loop words n first₀ next₀ seen i₀ first next i = i
+μ-loop table n first₀ next₀ seen i₀ first next i = i
 
 loop-holds : tie.Need-loop-holds Inv-loop μ-loop
 loop-holds c =
     let s = c .before .before in
-    (omega arith, start (s .args .words .now) (s .args .first .now) (s .args .next .now) (s .args .n) (s .pre .0) (s .pre .2) (s .pre .3))
+    (omega arith, start (s .args .table .now) (s .args .first .now) (s .args .next .now) (s .args .n) (s .pre .0) (s .pre .4) (s .pre .2) (s .pre .3))
 
 parent-row-requires : tie.Need-parent-row-requires Inv-loop μ-loop
 parent-row-requires c κs =
     let l = c .before .before in
     let s = l .before .before .before in
-    (omega arith, s .pre .0, s .pre .1, l .before .note-rows .ensures)
+    (omega arith, s .pre .0, s .pre .1, l .before .note-rows .ensures, s .pre .4)
 
 loop-again : tie.Need-loop-again Inv-loop μ-loop
 loop-again c =
     let l = c .before .before .before .before in
     let s = l .before .before .before in
-    let rows : List Cap = rowsOf (s .args .words .now) (s .args .n) in
-    let long : length rows ≡ s .args .n = length-rows (s .args .words .now) (s .args .n) in
+    let rows : List Cap = firstRows (s .args .table .now) (s .args .n) in
+    let long : length rows ≡ s .args .n = length-first (s .args .table .now) (s .args .n) (s .pre .4) in
     let i : ℕ = l .loop .i - 1 in
     let up : l .loop .i ≡ suc i = omega (arith, c .before .before .before .loop-test .taken) in (
       omega arith,
@@ -55,7 +55,7 @@ returns : tie.Need-returns Inv-loop μ-loop
 returns c =
     let l = c .before in
     let s = l .before .before .before in
-    let rows : List Cap = rowsOf (s .args .words .now) (s .args .n) in
+    let rows : List Cap = firstRows (s .args .table .now) (s .args .n) in
     let zero : l .loop .i ≡ 0 = omega (arith, c .loop-test .left) in
     filling-end rows (l .loop .first) (l .loop .next) (live-order (s .pre .1)) (subst (Filling rows (l .loop .first) (l .loop .next)) zero (l .loop .inv .1))
 

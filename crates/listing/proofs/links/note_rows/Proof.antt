@@ -9,10 +9,10 @@ use Rattle.listing.proofs.links.note_rows.Statement.{statement}
 use Rattle.listing.proofs.links.note_rows.Tie as tie
 
 abbrev Inv-loop : tie.InvT-loop
-Inv-loop words n seen₀ i₀ seen i = (i ≤ n) × (length seen ≡ 2048)
+Inv-loop table n seen₀ i₀ seen i = (i ≤ n) × (length seen ≡ 2048)
 
 abbrev μ-loop : tie.MeasureT-loop
-μ-loop words n seen₀ i₀ seen i = n - i
+μ-loop table n seen₀ i₀ seen i = n - i
 
 loop-again : tie.Need-loop-again Inv-loop μ-loop
 loop-again c =

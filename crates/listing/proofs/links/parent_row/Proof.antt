@@ -6,36 +6,37 @@ use mathlib.Core.List.{List}
 use Prim.Native.Nat.{ℕ, _≤_, _<_}
 use native.Mathlib.Omega.{arith}
 use lib.Dec.{ltb}
-use lib.ListN.{getD, List·getD-eq-default}
+use lib.ListN.{length, getD, List·getD-eq-default}
 use borrow.Author.Needs.{needs}
 use borrow.Author.Tests.{ltb-true, ltb-false}
 use Rattle.model.specs.declared.Cap.{Cap}
 use Rattle.model.specs.Table.{emptyRow}
-use Rattle.table.specs.Words.{rowsOf, rowsIn}
+use Rattle.table.specs.Words.{rowsIn}
+use Rattle.listing.specs.First.{firstRows}
 use Rattle.table.specs.Rows.{nameAt, parentAt, Found}
-use Rattle.table.proofs.Laws.Words.{length-rows}
+use Rattle.listing.proofs.Laws.First.{length-first, first-at}
 use Rattle.table.proofs.Laws.Prefix.{named-none}
 use Rattle.listing.proofs.Laws.Sorted.{InOrder}
-use Rattle.listing.proofs.Laws.Live.{live-order, row-in, rise-in, parent-earlier}
+use Rattle.listing.proofs.Laws.Live.{live-order, rise-in, parent-earlier}
 use Rattle.listing.proofs.links.parent_row.Statement.{statement}
 use Rattle.listing.proofs.links.parent_row.Tie as tie
 
-module _ (ws : List ℕ) (n i : ℕ) (few : n ≤ 1024) (l : i < n) where
+module _ (ws : List (List ℕ)) (n i : ℕ) (inside : n ≤ length ws) (l : i < n) where
   abbrev rows : List Cap
-  rows = rowsOf ws n
+  rows = firstRows ws n
 
   parent-is : {c : Cap} → c ≡ getD (rowsIn ws) i emptyRow → parentAt rows i ≡ c .parent .0
-  parent-is e = ap (λ (d : Cap). d .parent .0) (row-in ws n i few l ∙ sym e)
+  parent-is e = ap (λ (d : Cap). d .parent .0) (first-at ws n i l ∙ sym e)
 
   name-in : (j : ℕ) → j < n → nameAt rows j ≡ nameAt (rowsIn ws) j
-  name-in j h = ap (λ (d : Cap). d .name .0) (row-in ws n j few h)
+  name-in j h = ap (λ (d : Cap). d .name .0) (first-at ws n j h)
 
   root : parentAt rows i ≡ 0 → nameAt rows n ≡ parentAt rows i
-  root z = ap (λ (d : Cap). d .name .0) (List·getD-eq-default rows emptyRow (omega (arith, length-rows ws n))) ∙ sym z
+  root z = ap (λ (d : Cap). d .name .0) (List·getD-eq-default rows emptyRow (omega (arith, length-first ws n inside))) ∙ sym z
 
   child : InOrder rows → (x r : ℕ) → parentAt rows i ≡ x → (x ≡ 0 → ⊥) → Found (rowsIn ws) n x r → (r ≤ n) × (nameAt rows r ≡ parentAt rows i)
   child order x r is some f =
-      let j = parent-earlier rows order i (omega (arith, length-rows ws n)) (λ z. some (sym is ∙ z)) in
+      let j = parent-earlier rows order i (omega (arith, length-first ws n inside)) (λ z. some (sym is ∙ z)) in
       (f .fits, go (ltb r n) refl j)
     where
       go : (t : Bool) → ltb r n ≡ t → (j : ℕ) × ((j < i) × (nameAt rows j ≡ parentAt rows i)) → nameAt rows r ≡ parentAt rows i
@@ -47,19 +48,19 @@ module _ (ws : List ℕ) (n i : ℕ) (few : n ≤ 1024) (l : i < n) where
 returns : tie.Need-returns
 returns c =
     let s = c .before .before in
-    let w = s .args .words .now in
-    (omega arith, root w (s .args .n) (s .args .i) (s .pre .1) (s .pre .0) (parent-is w (s .args .n) (s .args .i) (s .pre .1) (s .pre .0) (c .before .row-at .ensures) ∙ c .if1 .taken))
+    let w = s .args .table .now in
+    (omega arith, root w (s .args .n) (s .args .i) (s .pre .4) (s .pre .0) (parent-is w (s .args .n) (s .args .i) (s .pre .4) (s .pre .0) (c .before .row-at .ensures) ∙ c .if1 .taken))
 
 find-near-requires : tie.Need-find-near-requires
 find-near-requires c κs =
     let s = c .before .before .before .before .before in
-    (s .pre .1, rise-in (s .args .words .now) (s .args .n) (s .pre .1) (live-order (s .pre .2)))
+    (s .pre .1, rise-in (s .args .table .now) (s .args .n) (s .pre .4) (live-order (s .pre .2)))
 
 returns-2 : tie.Need-returns-2
 returns-2 c =
     let s = c .before .before .before .before .before .before in
-    let w = s .args .words .now in
-    child w (s .args .n) (s .args .i) (s .pre .1) (s .pre .0) (live-order (s .pre .2)) _ (c .find-near .result) (parent-is w (s .args .n) (s .args .i) (s .pre .1) (s .pre .0) (c .before .before .before .before .before .row-at .ensures)) (c .before .before .before .before .if1 .left) (c .find-near .ensures)
+    let w = s .args .table .now in
+    child w (s .args .n) (s .args .i) (s .pre .4) (s .pre .0) (live-order (s .pre .2)) _ (c .find-near .result) (parent-is w (s .args .n) (s .args .i) (s .pre .4) (s .pre .0) (c .before .before .before .before .before .row-at .ensures)) (c .before .before .before .before .if1 .left) (c .find-near .ensures)
 
 pub parent-row-spec : {M : Type 1} → statement M
 parent-row-spec =

@@ -6,7 +6,8 @@ use mathlib.Core.List.{List, [], reverse, reverse-reverse}
 use lib.ListN.{drop}
 use Rattle.model.specs.declared.Cap.{Cap}
 use Rattle.model.specs.Table.{lentTable}
-use Rattle.table.specs.Words.{rowsOf, rowsIn}
+use Rattle.table.specs.Words.{rowsIn}
+use Rattle.listing.specs.First.{firstRows}
 use Rattle.text.specs.Class.{newline}
 use Rattle.text.specs.Line.{through}
 use Rattle.listing.specs.Sort.{sorted}
@@ -17,12 +18,12 @@ use borrow.Author.Needs.{needs}
 use Rattle.listing.proofs.reading.guess_table.Statement.{statement}
 use Rattle.listing.proofs.reading.guess_table.Tie as tie
 
-table-is : (s lines : List ℕ) (ws ws′ : List ℕ) (count : ℕ) → lines ≡ drop (through newline s) s → newest ws count ≡ readLines 1024 (record { rest = lines; rows = [] })
-    → Stored ws′ count → rowsOf ws′ count ≡ sorted (rowsOf ws count) → rowsIn ws′ ≡ guessTable s
+table-is : (s lines : List ℕ) (ws ws′ : List (List ℕ)) (count : ℕ) → lines ≡ drop (through newline s) s → newest ws count ≡ readLines 1024 (record { rest = lines; rows = [] })
+    → Stored ws′ count → firstRows ws′ count ≡ sorted (firstRows ws count) → rowsIn ws′ ≡ guessTable s
 unfolding guessTable guessRows
 table-is s lines ws ws′ count el er st es =
     st .table
-    ∙ ap (λ (rows : List Cap). lentTable 1024 (reverse rows)) (es ∙ ap sorted (sym (reverse-reverse (rowsOf ws count)) ∙ ap reverse er))
+    ∙ ap (λ (rows : List Cap). lentTable 1024 (reverse rows)) (es ∙ ap sorted (sym (reverse-reverse (firstRows ws count)) ∙ ap reverse er))
     ∙ ap (λ (l : List ℕ). lentTable 1024 (reverse (sorted (reverse (readLines 1024 (record { rest = l; rows = [] })))))) el
 
 returns : tie.Need-returns

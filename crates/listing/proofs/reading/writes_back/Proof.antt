@@ -9,7 +9,7 @@ use native.Mathlib.Omega.{arith}
 use lib.ListN.{length}
 use lib.Seq.{length-take-le}
 use Rattle.model.proofs.Lists.{clash}
-use Rattle.table.specs.Words.{rowsOf}
+use Rattle.listing.specs.First.{firstRows}
 use Rattle.listing.specs.Listing.{listed}
 use Rattle.text.proofs.Laws.Write.{wrote, wrote-none}
 use Rattle.text.proofs.Laws.Read.{same-is}
@@ -22,7 +22,7 @@ returns c =
     let start = c .before .before .before .before .before .before .before .before in
     let a = start .args in
     let write = c .before .before .before .before .write-rows .ensures in
-    let s : List ℕ = listed (rowsOf (a .words .now) (a .n)) (a .issued) in
+    let s : List ℕ = listed (firstRows (a .table .now) (a .n)) (a .issued) in
     let room : a .text .now ≡ s → length s ≤ length (a .out .now) = λ e. ⊎-elim (λ h. omega (arith, ap length e)) (λ h. omega (arith, write .1)) (start .pre .2) in
     same-is _ _ _ (λ e. clash e refl) (λ e. clash refl (wrote-none (c .enum-told .given .0 .0) (write .0) (room e) (c .enum-told .given .1)))
 

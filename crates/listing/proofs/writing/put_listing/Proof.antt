@@ -4,7 +4,7 @@ use mathlib.Core.Path.{refl, sym}
 use Prim.Native.Nat.{ℕ}
 use mathlib.Core.List.{List, [], append-nil}
 use Rattle.model.specs.declared.Cap.{Cap}
-use Rattle.table.specs.Words.{rowsOf}
+use Rattle.listing.specs.First.{firstRows}
 use Rattle.text.specs.Put.{Put}
 use Rattle.listing.specs.Listing.{rootsFrom, issuedLine, listed}
 use Rattle.listing.proofs.Laws.Writing.{Writing, begin, piece, fits, finish}
@@ -20,17 +20,17 @@ module _ (rows : List Cap) (issued : ℕ) (out : List ℕ) where
 put-issued-requires : tie.Need-put-issued-requires
 put-issued-requires c κs =
     let s = c .before .before .before .before .before in
-    fits (begin (s .args .out .now) 0 (listed (rowsOf (s .args .words .now) (s .args .n)) (s .args .issued))) (issuedLine (s .args .issued)) (rootsFrom (rowsOf (s .args .words .now) (s .args .n)) 0) (listed-is (rowsOf (s .args .words .now) (s .args .n)) (s .args .issued)) (s .pre .2)
+    fits (begin (s .args .out .now) 0 (listed (firstRows (s .args .table .now) (s .args .n)) (s .args .issued))) (issuedLine (s .args .issued)) (rootsFrom (firstRows (s .args .table .now) (s .args .n)) 0) (listed-is (firstRows (s .args .table .now) (s .args .n)) (s .args .issued)) (s .pre .2)
 
 put-roots-requires : tie.Need-put-roots-requires
 put-roots-requires c κs =
     let s = c .before .before .before .before .before .before .before .before .before .before .before in
-    (s .pre .0, c .before .before .before .before .before .before .before .link .ensures, fits (lined (rowsOf (s .args .words .now) (s .args .n)) (s .args .issued) (s .args .out .now) (c .before .before .before .before .before .put-issued .ensures)) (rootsFrom (rowsOf (s .args .words .now) (s .args .n)) 0) [] (sym (append-nil (rootsFrom (rowsOf (s .args .words .now) (s .args .n)) 0))) (s .pre .2))
+    (s .pre .0, c .before .before .before .before .before .before .before .link .ensures, fits (lined (firstRows (s .args .table .now) (s .args .n)) (s .args .issued) (s .args .out .now) (c .before .before .before .before .before .put-issued .ensures)) (rootsFrom (firstRows (s .args .table .now) (s .args .n)) 0) [] (sym (append-nil (rootsFrom (firstRows (s .args .table .now) (s .args .n)) 0))) (s .pre .2), s .pre .3)
 
 returns : tie.Need-returns
 returns c =
     let s = c .before .before .before .before .before .before .before .before .before .before .before .before .before .before in
-    finish (piece (lined (rowsOf (s .args .words .now) (s .args .n)) (s .args .issued) (s .args .out .now) (c .before .before .before .before .before .before .before .before .put-issued .ensures)) (sym (append-nil (rootsFrom (rowsOf (s .args .words .now) (s .args .n)) 0))) (c .before .before .put-roots .ensures)) refl
+    finish (piece (lined (firstRows (s .args .table .now) (s .args .n)) (s .args .issued) (s .args .out .now) (c .before .before .before .before .before .before .before .before .put-issued .ensures)) (sym (append-nil (rootsFrom (firstRows (s .args .table .now) (s .args .n)) 0))) (c .before .before .put-roots .ensures)) refl
 
 pub put-listing-spec : {M : Type 1} → statement M
 put-listing-spec =

@@ -1,7 +1,7 @@
 -- `listing::writing::write_rows` meets its contract: it measures, and then writes.
 -- Assumes nothing.
 use native.Mathlib.Omega.{arith}
-use Rattle.table.specs.Words.{rowsOf}
+use Rattle.listing.specs.First.{firstRows}
 use Rattle.listing.specs.Listing.{listed}
 use Rattle.text.proofs.Laws.Write.{writes-none, writes-put}
 use borrow.Author.Needs.{needs}
@@ -11,7 +11,7 @@ use Rattle.listing.proofs.writing.write_rows.Tie as tie
 returns : tie.Need-returns
 returns c =
     let s = c .before .before .before in
-    (writes-none (listed (rowsOf (s .args .words .now) (s .args .n)) (s .args .issued)) (s .args .out .now) (omega (arith, c .before .listing-length .ensures .0)), omega (arith, c .before .listing-length .ensures .0, c .before .listing-length .ensures .1))
+    (writes-none (listed (firstRows (s .args .table .now) (s .args .n)) (s .args .issued)) (s .args .out .now) (omega (arith, c .before .listing-length .ensures .0)), omega (arith, c .before .listing-length .ensures .0, c .before .listing-length .ensures .1))
 
 returns-2 : tie.Need-returns-2
 returns-2 c =

@@ -9,16 +9,16 @@ use Rattle.rules.proofs.marks.ancestry_of.Statement.{statement}
 use Rattle.rules.proofs.marks.ancestry_of.Tie as tie
 
 abbrev Inv-loop : tie.InvT-loop
-Inv-loop words k places u ancestry₀ top₀ at₀ ancestry top at = Walk (rowsIn words) k u ancestry top at
+Inv-loop table k places u ancestry₀ top₀ at₀ ancestry top at = Walk (rowsIn table) k u ancestry top at
 
 abbrev μ-loop : tie.MeasureT-loop
-μ-loop words k places u ancestry₀ top₀ at₀ ancestry top at = top
+μ-loop table k places u ancestry₀ top₀ at₀ ancestry top at = top
 
 find-requires : tie.Need-find-requires Inv-loop μ-loop
 find-requires c κs = (c .pre .0, c .pre .1)
 
 loop-holds : tie.Need-loop-holds Inv-loop μ-loop
-loop-holds c = walk-first (rowsIn (c .before .args .words .now)) (c .before .args .k) (c .before .args .u) (c .find .result) (c .before .pre .0) (c .find .ensures)
+loop-holds c = walk-first (rowsIn (c .before .args .table .now)) (c .before .args .k) (c .before .args .u) (c .find .result) (c .before .pre .0) (c .find .ensures)
 
 array-write-ancestry : tie.Need-array-write-ancestry Inv-loop μ-loop
 array-write-ancestry c = omega (arith, c .before .before .before .pre .0, c .before .loop .inv .fits, c .before .loop .inv .long, c .loop-test .taken)
@@ -35,10 +35,10 @@ loop-less c = omega (arith, c .before .loop-test .taken)
 loop-again : tie.Need-loop-again Inv-loop μ-loop
 loop-again c =
     let q : ℕ = c .before .before .loop .at in
-    walk-step (rowsIn (c .before .before .before .before .args .words .now)) (c .before .before .before .before .args .k) (c .before .before .before .before .args .u) (c .before .before .before .before .pre .0) (c .before .before .before .before .pre .1) (c .before .before .loop .ancestry) (c .before .before .loop .top) q (getD (c .before .before .before .before .args .places .now) q 0) (c .before .before .loop .inv) (c .before .loop-test .taken) (c .before .before .before .before .pre .2 .each q (omega (arith, c .before .loop-test .taken, c .before .before .loop .inv .fits)))
+    walk-step (rowsIn (c .before .before .before .before .args .table .now)) (c .before .before .before .before .args .k) (c .before .before .before .before .args .u) (c .before .before .before .before .pre .0) (c .before .before .before .before .pre .1) (c .before .before .loop .ancestry) (c .before .before .loop .top) q (getD (c .before .before .before .before .args .places .now) q 0) (c .before .before .loop .inv) (c .before .loop-test .taken) (c .before .before .before .before .pre .2 .each q (omega (arith, c .before .loop-test .taken, c .before .before .loop .inv .fits)))
 
 returns : tie.Need-returns Inv-loop μ-loop
-returns c = walk-over (rowsIn (c .before .before .before .args .words .now)) (c .before .before .before .args .k) (c .before .before .before .args .u) (c .before .before .before .pre .0) (c .before .before .before .pre .1) (c .before .loop .ancestry) (c .before .loop .top) (c .before .loop .at) (c .before .loop .inv) (c .loop-test .left)
+returns c = walk-over (rowsIn (c .before .before .before .args .table .now)) (c .before .before .before .args .k) (c .before .before .before .args .u) (c .before .before .before .pre .0) (c .before .before .before .pre .1) (c .before .loop .ancestry) (c .before .loop .top) (c .before .loop .at) (c .before .loop .inv) (c .loop-test .left)
 
 pub ancestry-of-spec : {M : Type 1} → statement M
 ancestry-of-spec =

@@ -10,12 +10,12 @@ use Rattle.rules.proofs.marks.marks_of_names.Tie as tie
 spread-names-requires : tie.Need-spread-names-requires
 spread-names-requires c κs =
     let s = c .before .before .before in
-    (s .pre .0 .few, stand-rise (rowsIn (s .args .words .now)) (s .args .k) (s .pre .0), s .pre .1)
+    (s .pre .0 .few, stand-rise (rowsIn (s .args .table .now)) (s .args .k) (s .pre .0), s .pre .1)
 
 returns : tie.Need-returns
 returns c =
     let s = c .before .before .before .before in
-    let T = rowsIn (s .args .words .now) in
+    let T = rowsIn (s .args .table .now) in
     let owned = c .before .before .own-of-names .result in
     (marked-together T (s .args .k) (s .pre .0) (s .args .names .now) owned (c .spread-names .result) (c .before .before .own-of-names .ensures) (c .spread-names .ensures), spread-downward T (s .args .k) (λ i. getD owned i 0) (c .spread-names .result) (c .spread-names .ensures))
 

@@ -13,20 +13,20 @@ use Rattle.rules.proofs.marks.own_of_names.Statement.{statement}
 use Rattle.rules.proofs.marks.own_of_names.Tie as tie
 
 abbrev Inv-loop : tie.InvT-loop
-Inv-loop words k names owned₀ i₀ owned i = (i ≤ length names) × Owned (rowsIn words) k (drop i names) owned
+Inv-loop table k names owned₀ i₀ owned i = (i ≤ length names) × Owned (rowsIn table) k (drop i names) owned
 
 abbrev μ-loop : tie.MeasureT-loop
-μ-loop words k names owned₀ i₀ owned i = i
+μ-loop table k names owned₀ i₀ owned i = i
 
 loop-holds : tie.Need-loop-holds Inv-loop μ-loop
 loop-holds c =
     let s = c .before in
-    (omega arith, owned-none (rowsIn (s .args .words .now)) (s .args .k) (s .pre) (s .args .names .now) (length (s .args .names .now)) (omega arith))
+    (omega arith, owned-none (rowsIn (s .args .table .now)) (s .args .k) (s .pre) (s .args .names .now) (length (s .args .names .now)) (omega arith))
 
 find-requires : tie.Need-find-requires Inv-loop μ-loop
 find-requires c κs =
     let s = c .before .before .before .before in
-    (s .pre .few, stand-rise (rowsIn (s .args .words .now)) (s .args .k) (s .pre))
+    (s .pre .few, stand-rise (rowsIn (s .args .table .now)) (s .args .k) (s .pre))
 
 array-write-owned : tie.Need-array-write-owned Inv-loop μ-loop
 array-write-owned c = let s = c .before .before .before .before .before in omega (arith, s .pre .few, c .find .ensures .fits, c .before .before .before .loop .inv .1 .long)
@@ -36,7 +36,7 @@ loop-again c =
     let l = c .before .before .before in
     let s = l .before .before in
     let back : l .loop .i - 1 + 1 ≡ l .loop .i = omega (arith, c .before .before .loop-test .taken) in
-    (omega (arith, l .loop .inv .0), owned-more (rowsIn (s .args .words .now)) (s .args .k) (s .pre) (s .args .names .now) (l .loop .i - 1) (c .find .result) (l .loop .owned) (omega (arith, l .loop .inv .0, c .before .before .loop-test .taken)) (c .find .ensures) (rw back (l .loop .inv .1)))
+    (omega (arith, l .loop .inv .0), owned-more (rowsIn (s .args .table .now)) (s .args .k) (s .pre) (s .args .names .now) (l .loop .i - 1) (c .find .result) (l .loop .owned) (omega (arith, l .loop .inv .0, c .before .before .loop-test .taken)) (c .find .ensures) (rw back (l .loop .inv .1)))
 
 returns : tie.Need-returns Inv-loop μ-loop
 returns c = let z : c .before .loop .i ≡ 0 = omega (arith, c .loop-test .left) in rw z at (c .before .loop .inv .1)

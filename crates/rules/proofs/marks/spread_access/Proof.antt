@@ -7,6 +7,7 @@ use native.Mathlib.Omega.{arith}
 use lib.Dec.{eqb, ltb}
 use lib.ListN.{getD, length-replicate}
 use Rattle.model.specs.Table.{span}
+use Rattle.table.proofs.Laws.Words.{rise-fits}
 use Rattle.table.specs.Words.{rowsIn}
 use Rattle.rules.specs.Engine.{own, ownOfAccess}
 use Rattle.rules.proofs.Laws.Marks.{Spreading, spread-none, spread-more}
@@ -14,16 +15,16 @@ use Rattle.rules.proofs.marks.spread_access.Statement.{statement}
 use Rattle.rules.proofs.marks.spread_access.Tie as tie
 
 abbrev Inv-loop : tie.InvT-loop
-Inv-loop words k places ancestry a s marks₀ i₀ marks i = (i ≤ k) × Spreading (rowsIn words) i (ownOfAccess (rowsIn words) ancestry a s) marks
+Inv-loop table k places ancestry a s marks₀ i₀ marks i = (i ≤ k) × Spreading (rowsIn table) i (ownOfAccess (rowsIn table) ancestry a s) marks
 
 abbrev μ-loop : tie.MeasureT-loop
-μ-loop words k places ancestry a s marks₀ i₀ marks i = k - i
+μ-loop table k places ancestry a s marks₀ i₀ marks i = k - i
 
 loop-holds : tie.Need-loop-holds Inv-loop μ-loop
-loop-holds c = (omega arith, spread-none (rowsIn (c .args .words .now)) (ownOfAccess (rowsIn (c .args .words .now)) (c .args .ancestry .now) (c .args .a) (c .args .s)) _ (length-replicate {A = ℕ} 1024 0))
+loop-holds c = (omega arith, spread-none (rowsIn (c .args .table .now)) (ownOfAccess (rowsIn (c .args .table .now)) (c .args .ancestry .now) (c .args .a) (c .args .s)) _ (length-replicate {A = ℕ} 1024 0))
 
 row-at-requires : tie.Need-row-at-requires Inv-loop μ-loop
-row-at-requires c κs = omega (arith, c .before .before .pre .0, c .loop-test .taken)
+row-at-requires c κs = let s = c .before .before in omega (arith, rise-fits (s .args .table .now) (s .args .k) (s .pre .1), c .loop-test .taken)
 
 span-of-requires : tie.Need-span-of-requires Inv-loop μ-loop
 span-of-requires c κs = tt
@@ -57,7 +58,7 @@ loop-less c = omega (arith, c .before .before .before .before .before .before .b
 
 loop-again : tie.Need-loop-again Inv-loop μ-loop
 loop-again c =
-    let s = c .before .before .before .before .before .before .before .before .before .before in let T = rowsIn (s .args .words .now) in
+    let s = c .before .before .before .before .before .before .before .before .before .before in let T = rowsIn (s .args .table .now) in
     let i : ℕ = c .before .before .before .before .before .before .before .before .before .loop .i in
     let q : ℕ = getD (s .args .places .now) i 0 in
     let o : c .before .before .before .before .own-mark .result ≡ ownOfAccess T (s .args .ancestry .now) (s .args .a) (s .args .s) i = c .before .before .before .before .own-mark .ensures ∙ ap (λ t. own (s .args .a) (s .args .s) t (eqb (getD (s .args .ancestry .now) i 0) 1)) (c .before .before .before .before .before .before .span-of .ensures ∙ ap span (c .before .before .before .before .before .before .before .row-at .ensures)) in

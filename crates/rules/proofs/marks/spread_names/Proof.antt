@@ -12,13 +12,13 @@ use Rattle.rules.proofs.marks.spread_names.Statement.{statement}
 use Rattle.rules.proofs.marks.spread_names.Tie as tie
 
 abbrev Inv-loop : tie.InvT-loop
-Inv-loop words k places owned marks₀ i₀ marks i = (i ≤ k) × Spreading (rowsIn words) i (λ j. getD owned j 0) marks
+Inv-loop table k places owned marks₀ i₀ marks i = (i ≤ k) × Spreading (rowsIn table) i (λ j. getD owned j 0) marks
 
 abbrev μ-loop : tie.MeasureT-loop
-μ-loop words k places owned marks₀ i₀ marks i = k - i
+μ-loop table k places owned marks₀ i₀ marks i = k - i
 
 loop-holds : tie.Need-loop-holds Inv-loop μ-loop
-loop-holds c = (omega arith, spread-none (rowsIn (c .args .words .now)) (λ j. getD (c .args .owned .now) j 0) _ (length-replicate {A = ℕ} 1024 0))
+loop-holds c = (omega arith, spread-none (rowsIn (c .args .table .now)) (λ j. getD (c .args .owned .now) j 0) _ (length-replicate {A = ℕ} 1024 0))
 
 mul-mark-below : tie.Need-mul-mark-below Inv-loop μ-loop
 mul-mark-below c = omega (arith, c .before .before .before .pre .0, c .before .loop-test .taken)
@@ -46,7 +46,7 @@ loop-less c = omega (arith, c .before .before .before .before .before .loop-test
 
 loop-again : tie.Need-loop-again Inv-loop μ-loop
 loop-again c =
-    let s = c .before .before .before .before .before .before .before in let T = rowsIn (s .args .words .now) in
+    let s = c .before .before .before .before .before .before .before in let T = rowsIn (s .args .table .now) in
     let i : ℕ = c .before .before .before .before .before .before .loop .i in
     let q : ℕ = getD (s .args .places .now) i 0 in
     let own : ℕ = getD (s .args .owned .now) i 0 in

@@ -1,6 +1,6 @@
 -- `clear` meets its contract: zeros up to i.
 -- Assumes nothing.
-use mathlib.Core.Path.{_≡_, ap, _∙_}
+use mathlib.Core.Path.{_≡_, refl, ap, _∙_}
 use Prim.Native.Nat.{_-_, _≤_}
 use native.Mathlib.Omega.{arith}
 use lib.ListN.{length, set}
@@ -12,38 +12,41 @@ use Rattle.rules.proofs.settle.clear.Statement.{statement}
 use Rattle.rules.proofs.settle.clear.Tie as tie
 
 abbrev Inv-loop : tie.InvT-loop
-Inv-loop words₀ from to i₀ words i = (from ≤ i) × (i ≤ to) × (length words ≡ 6144) × Clears (rowsIn words₀) (rowsIn words) from i
+Inv-loop table₀ from to i₀ table i = (from ≤ i) × (i ≤ to) × (length table ≡ length table₀) × Clears (rowsIn table₀) (rowsIn table) from i
 
 abbrev μ-loop : tie.MeasureT-loop
-μ-loop words₀ from to i₀ words i = to - i
+μ-loop table₀ from to i₀ table i = to - i
 
 loop-holds : tie.Need-loop-holds Inv-loop μ-loop
-loop-holds c = (omega arith, c .pre .0, c .pre .2, clears-none (rowsIn (c .args .words .now)) (c .args .from))
+loop-holds c = (omega arith, c .pre .0, refl, clears-none (rowsIn (c .args .table .now)) (c .args .from))
 
 empty-row-requires : tie.Need-empty-row-requires Inv-loop μ-loop
 empty-row-requires c κs = tt
 
 set-row-requires : tie.Need-set-row-requires Inv-loop μ-loop
-set-row-requires c κs = (omega (arith, c .before .before .before .before .pre .1, c .before .before .loop-test .taken), c .before .before .before .loop .inv .2)
+set-row-requires c κs = omega (arith, c .before .before .before .before .pre .1, c .before .before .loop-test .taken, c .before .before .before .loop .inv .2)
 
 add-i : tie.Need-add-i Inv-loop μ-loop
-add-i c = omega (arith, c .before .before .before .before .before .pre .1, c .before .before .before .loop-test .taken)
+add-i c = omega (arith, c .before .before .before .before .before .before .pre .1, c .before .before .before .before .loop-test .taken)
 
 loop-less : tie.Need-loop-less Inv-loop μ-loop
-loop-less c = omega (arith, c .before .before .before .loop-test .taken)
+loop-less c = omega (arith, c .before .before .before .before .loop-test .taken)
 
 loop-again : tie.Need-loop-again Inv-loop μ-loop
 loop-again c =
-    let s = c .before .before .before .before .before in
-    let e = c .set-row .ensures .0 ∙ ap (set (rowsIn (c .before .before .before .before .loop .words)) (c .before .before .before .before .loop .i)) (c .before .empty-row .ensures) in (
-      omega (arith, c .before .before .before .before .loop .inv .0),
-      omega (arith, c .before .before .before .loop-test .taken),
-      c .set-row .ensures .1,
-      rw e (clears-more (rowsIn (s .args .words .now)) (rowsIn (c .before .before .before .before .loop .words)) (s .args .from) (c .before .before .before .before .loop .i) (c .before .before .before .before .loop .inv .0) (omega (arith, length-in (c .before .before .before .before .loop .words), s .pre .1, c .before .before .before .loop-test .taken)) (c .before .before .before .before .loop .inv .3)),
+    let s = c .before .before .before .before .before .before in
+    let e = c .before .set-row .ensures .0 ∙ ap (set (rowsIn (c .before .before .before .before .before .loop .table)) (c .before .before .before .before .before .loop .i)) (c .before .before .empty-row .ensures) in (
+      omega (arith, c .before .before .before .before .before .loop .inv .0),
+      omega (arith, c .before .before .before .before .loop-test .taken),
+      c .table .given ∙ c .before .before .before .before .before .loop .inv .2,
+      rw e (clears-more (rowsIn (s .args .table .now)) (rowsIn (c .before .before .before .before .before .loop .table)) (s .args .from) (c .before .before .before .before .before .loop .i) (c .before .before .before .before .before .loop .inv .0) (omega (arith, length-in (c .before .before .before .before .before .loop .table), s .pre .1, c .before .before .before .before .loop-test .taken, c .before .before .before .before .before .loop .inv .2)) (c .before .before .before .before .before .loop .inv .3)),
     )
 
+same-length : tie.Need-same-length Inv-loop μ-loop
+same-length c = c .before .loop .inv .2
+
 returns : tie.Need-returns Inv-loop μ-loop
-returns c = let e : c .before .loop .i ≡ c .before .before .args .to = omega (arith, c .before .loop .inv .1, c .loop-test .left) in rw (← e) (c .before .loop .inv .3, c .before .loop .inv .2)
+returns c = let e : c .before .loop .i ≡ c .before .before .args .to = omega (arith, c .before .loop .inv .1, c .loop-test .left) in rw (← e) (c .before .loop .inv .3)
 
 pub clear-spec : {M : Type 1} → statement M
 clear-spec =
@@ -57,4 +60,5 @@ clear-spec =
     add-i
     loop-less
     loop-again
+    same-length
     returns)

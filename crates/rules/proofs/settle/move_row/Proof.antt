@@ -13,13 +13,13 @@ use Rattle.rules.proofs.settle.move_row.Statement.{statement}
 use Rattle.rules.proofs.settle.move_row.Tie as tie
 
 returns : tie.Need-returns
-returns c = rw (le-ltb _ _ (c .if1 .taken)) (refl, refl, c .before .pre .2)
+returns c = rw (le-ltb _ _ (c .if1 .taken)) (refl, refl)
 
 add-result : tie.Need-add-result
 add-result c = search needs
 
 returns-2 : tie.Need-returns-2
-returns-2 c = rw (c .before .if2 .taken, c .if3 .taken) (sym (set-getD (rowsIn (c .before .before .before .args .words .now)) (c .before .before .before .args .i) emptyRow), refl, c .before .before .before .pre .2)
+returns-2 c = rw (c .before .if2 .taken, c .if3 .taken) (sym (set-getD (rowsIn (c .before .before .before .args .table .now)) (c .before .before .before .args .i) emptyRow), refl)
 
 row-at-requires : tie.Need-row-at-requires
 row-at-requires c κs = search needs
@@ -35,8 +35,8 @@ add-result-2 c = search needs
 
 returns-3 : tie.Need-returns-3
 returns-3 c =
-    let e = c .before .marked-row .ensures ∙ ap (lowered (eqb (c .before .before .before .before .before .before .before .args .mark) 1)) (c .before .before .before .row-at .ensures) in
-    rw (lt-ltb _ _ (c .before .before .before .before .before .before .if1 .left)) (c .set-row .ensures .0 ∙ ap (set (rowsIn (c .before .before .before .before .before .before .before .args .words .now)) (c .before .before .before .before .before .before .before .args .left)) e, refl, c .set-row .ensures .1)
+    let e = c .before .before .marked-row .ensures ∙ ap (lowered (eqb (c .before .before .before .before .before .before .before .before .args .mark) 1)) (c .before .before .before .before .row-at .ensures) in
+    rw (lt-ltb _ _ (c .before .before .before .before .before .before .before .if1 .left)) (c .before .set-row .ensures .0 ∙ ap (set (rowsIn (c .before .before .before .before .before .before .before .before .args .table .now)) (c .before .before .before .before .before .before .before .before .args .left)) e, refl)
 
 pub move-row-spec : {M : Type 1} → statement M
 move-row-spec =
@@ -49,4 +49,5 @@ move-row-spec =
     marked-row-requires
     set-row-requires
     add-result-2
+    (λ c. search needs)
     returns-3)

@@ -1,6 +1,6 @@
 -- `append` meets its contract.
 -- Assumes nothing.
-use native.Mathlib.Omega.{arith}
+use mathlib.Core.Path.{_∙_}
 use borrow.Author.Needs.{needs}
 use Rattle.table.specs.Words.{rowsIn}
 use Rattle.table.proofs.Laws.Words.{length-in}
@@ -10,9 +10,16 @@ use Rattle.rules.proofs.steps.append.Tie as tie
 
 returns : tie.Need-returns
 returns c =
-    let s = c .before .before in
-    (rw (c .set-row .ensures .0) (appended-settled (rowsIn (s .args .words .now)) (s .args .n) (s .args .k) (s .args .q) (s .args .c) (s .args .places .now) (s .pre .0) (s .pre .1 .few) (omega (arith, length-in (s .args .words .now), s .pre .1 .few)) (s .pre .1 .zeros) (s .pre .1 .stands .filled) (s .pre .4) (s .pre .3) (s .pre .2)), c .set-row .ensures .1)
+    let s = c .before .before .before in
+    rw (c .before .set-row .ensures .0) (appended-settled (rowsIn (s .args .table .now)) (s .args .n) (s .args .k) (s .args .q) (s .args .c) (s .args .places .now) (s .pre .0) (s .pre .1 .few) (length-in (s .args .table .now) ∙ s .pre .1 .long) (s .pre .1 .zeros) (s .pre .1 .stands .filled) (s .pre .4) (s .pre .3) (s .pre .2))
 
 pub append-spec : {M : Type 1} → statement M
 append-spec =
-    tie.close (tie.spec (λ c κs. search needs) (λ c. search needs) (λ c. search needs) (λ c. search needs) returns)
+    tie.close
+    (tie.spec
+    (λ c κs. search needs)
+    (λ c. search needs)
+    (λ c. search needs)
+    (λ c. search needs)
+    (λ c. search needs)
+    returns)

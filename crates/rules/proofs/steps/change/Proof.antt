@@ -2,7 +2,7 @@
 -- Assumes nothing.
 use mathlib.Core.Path.{_≡_, sym, ap, _∙_, subst}
 use mathlib.Core.Bool.{false}
-use mathlib.Core.List.{List, _∷_}
+use mathlib.Core.List.{List, [], _∷_}
 use Prim.Native.Nat.{_+_, _≤_, _<_}
 use native.Mathlib.Omega.{arith}
 use lib.ListN.{length, take}
@@ -12,8 +12,9 @@ use Rattle.model.specs.declared.Event.{Event}
 use Rattle.model.specs.declared.Access.the-variants.{Reading, Writing}
 use Rattle.model.specs.Derivation.{ancestry, inSubtree}
 use Rattle.model.specs.Table.{derivations}
-use Rattle.model.specs.Refusals.{judge}
-use Rattle.model.specs.Effects.{revoke, afterAccess, rowsAfter}
+use Rattle.model.specs.Requests.{Single}
+use Rattle.model.specs.Refusals.{viewOf, judge}
+use Rattle.model.specs.Effects.{afterAccess, rowsWithout, rowsAfter}
 use Rattle.table.specs.Words.{rowsIn}
 use Rattle.table.specs.Rows.{before, Found}
 use Rattle.table.proofs.Laws.Words.{length-in}
@@ -24,120 +25,106 @@ use Rattle.rules.proofs.steps.change.Tie as tie
 
 add-new-row : tie.Need-add-new-row
 add-new-row c =
-    let s = c .before .before .before in let ws = s .args .words .now in let T = rowsIn ws in
-    let l : s .args .n ≤ length T = omega (arith, length-in ws, s .pre .0 .few) in
-    let i : s .args .issued ≤ 1000000 = orderly-issued T (s .args .n) (s .args .k) (s .args .issued) l (s .pre .0) in
+    let s = c .before .before .before in let ws = s .args .table .now in let T = rowsIn ws in
+    let i : s .args .issued ≤ 1000000 = orderly-issued T (s .args .n) (s .args .k) (s .args .issued) (s .pre .0) in
     omega arith
 
 add-write-rows : tie.Need-add-write-rows
 add-write-rows c =
-    let s = c .before .before .before .before .before .before in let ws = s .args .words .now in let T = rowsIn ws in
-    let l : s .args .n ≤ length T = omega (arith, length-in ws, s .pre .0 .few) in
-    let i : s .args .issued ≤ 1000000 = orderly-issued T (s .args .n) (s .args .k) (s .args .issued) l (s .pre .0) in
+    let s = c .before .before .before .before .before .before in let ws = s .args .table .now in let T = rowsIn ws in
+    let i : s .args .issued ≤ 1000000 = orderly-issued T (s .args .n) (s .args .k) (s .args .issued) (s .pre .0) in
     omega arith
 
 write-rows-requires : tie.Need-write-rows-requires
 write-rows-requires c κs =
-    let s = c .before .before .before .before .before .before in let ws = s .args .words .now in
-    (ready ws (s .args .n) (s .args .k) (s .args .issued) (s .pre .0) (s .pre .2), s .pre .3)
+    let s = c .before .before .before .before .before .before in let ws = s .args .table .now in
+    (ready ws (s .args .n) (s .args .k) (s .args .issued) (s .pre .0), s .pre .2)
 
 append-requires : tie.Need-append-requires
 append-requires c κs =
-    let s = c .before .before .before .before .before .before .before .before .before in let ws = s .args .words .now in let T = rowsIn ws in
-    let j = subst (λ (x : Event). judge (take (s .args .n) T) (s .args .issued) x ≡ 0) (c .before .before .before .before .before .before .before .e .given .1) (s .pre .1) in
-    let span = c .before .before .before .before .before .before .before .e .given .0 .1 .0 in
-    let left = c .before .before .write-rows .ensures in
-    let room : s .args .k < s .args .n = room-create ws (s .args .n) (s .args .k) (s .args .issued) (s .pre .0) (c .before .before .before .before .before .before .before .e .given .0 .0) span (c .before .before .before .before .before .before .before .e .given .0 .1 .1 .0) j in
-    (omega (arith, room, access-few ws (s .args .n) (s .args .k) (s .args .issued) (s .pre .0) Writing (s .args .issued + 1) span (c .before .before .write-rows .last .0) (left .0)), access-ready ws (s .args .n) (s .args .k) (s .args .issued) (s .pre .0) Writing (s .args .issued + 1) span (c .before .before .write-rows .last .0) (left .0) (left .1), left .0 .placed, subst (λ (d : Cap). Found (rowsIn (c .before .before .write-rows .last .0)) (c .before .before .write-rows .result) (d .parent .0) (c .before .before .write-rows .result)) (sym (c .before .before .before .before .before .new-row .ensures)) (access-root ws (s .args .n) (s .args .k) (s .args .issued) (s .pre .0) Writing (s .args .issued + 1) span (c .before .before .write-rows .last .0) (left .0)), subst (λ (d : Cap). 0 < d .name .0) (sym (c .before .before .before .before .before .new-row .ensures)) (omega arith))
+    let s = c .before .before .before .before .before .before .before .before .before .before in let ws = s .args .table .now in let T = rowsIn ws in
+    let j = subst (λ (x : Event). judge (viewOf T (s .args .issued)) (Single x) ≡ 0) (c .before .before .before .before .before .before .before .before .e .given .1) (s .pre .1) in
+    let span = c .before .before .before .before .before .before .before .before .e .given .0 .1 .0 in
+    let left = c .before .before .before .write-rows .ensures in let long = c .before .before .table .given in
+    let room : s .args .k < s .args .n = room-create ws (s .args .n) (s .args .k) (s .args .issued) (s .pre .0) (c .before .before .before .before .before .before .before .before .e .given .0 .0) span (c .before .before .before .before .before .before .before .before .e .given .0 .1 .1 .0) j in
+    (omega (arith, room, access-few ws (s .args .n) (s .args .k) (s .args .issued) (s .pre .0) Writing (s .args .issued + 1) span (c .before .before .before .write-rows .last .0) left long), access-ready ws (s .args .n) (s .args .k) (s .args .issued) (s .pre .0) Writing (s .args .issued + 1) span (c .before .before .before .write-rows .last .0) left long, left .placed, subst (λ (d : Cap). Found (rowsIn (c .before .before .before .write-rows .last .0)) (c .before .before .before .write-rows .result) (d .parent .0) (c .before .before .before .write-rows .result)) (sym (c .before .before .before .before .before .before .new-row .ensures)) (access-root ws (s .args .n) (s .args .k) (s .args .issued) (s .pre .0) Writing (s .args .issued + 1) span (c .before .before .before .write-rows .last .0) left long), subst (λ (d : Cap). 0 < d .name .0) (sym (c .before .before .before .before .before .before .new-row .ensures)) (omega arith))
 
 find-requires : tie.Need-find-requires
 find-requires c κs =
-    let s = c .before .before .before .before in let ws = s .args .words .now in let T = rowsIn ws in
-    let l : s .args .n ≤ length T = omega (arith, length-in ws, s .pre .0 .few) in
-    (orderly-few T (s .args .n) (s .args .k) (s .args .issued) l (s .pre .0), orderly-rise T (s .args .n) (s .args .k) (s .args .issued) l (s .pre .0))
+    let s = c .before .before .before .before in let ws = s .args .table .now in let T = rowsIn ws in
+    (orderly-few T (s .args .n) (s .args .k) (s .args .issued) (s .pre .0), orderly-rise T (s .args .n) (s .args .k) (s .args .issued) (s .pre .0))
 
 depth-at-requires : tie.Need-depth-at-requires
 depth-at-requires c κs =
-    let s = c .before .before .before .before .before .before in let ws = s .args .words .now in let T = rowsIn ws in
-    let l : s .args .n ≤ length T = omega (arith, length-in ws, s .pre .0 .few) in
-    let j = subst (λ (x : Event). judge (take (s .args .n) T) (s .args .issued) x ≡ 0) (c .before .before .before .before .e2 .given .1) (s .pre .1) in
-    (orderly-few T (s .args .n) (s .args .k) (s .args .issued) l (s .pre .0), orderly-rise T (s .args .n) (s .args .k) (s .args .issued) l (s .pre .0), there-borrow ws (s .args .n) (s .args .k) (s .args .issued) (s .pre .0) (c .before .before .before .before .e2 .given .0 .0) (c .before .before .before .before .e2 .given .0 .1 .0) (c .before .before .before .before .e2 .given .0 .1 .1 .0) (c .before .before .before .before .e2 .given .0 .1 .1 .1 .0) j, c .before .find .ensures)
+    let s = c .before .before .before .before .before .before in let ws = s .args .table .now in let T = rowsIn ws in
+    let j = subst (λ (x : Event). judge (viewOf T (s .args .issued)) (Single x) ≡ 0) (c .before .before .before .before .e2 .given .1) (s .pre .1) in
+    (orderly-few T (s .args .n) (s .args .k) (s .args .issued) (s .pre .0), orderly-rise T (s .args .n) (s .args .k) (s .args .issued) (s .pre .0), there-borrow ws (s .args .n) (s .args .k) (s .args .issued) (s .pre .0) (c .before .before .before .before .e2 .given .0 .0) (c .before .before .before .before .e2 .given .0 .1 .0) (c .before .before .before .before .e2 .given .0 .1 .1 .0) (c .before .before .before .before .e2 .given .0 .1 .1 .1 .0) j, c .before .find .ensures)
 
 add-new-row-2 : tie.Need-add-new-row-2
 add-new-row-2 c =
-    let s = c .before .before .before .before .before .before .before in let ws = s .args .words .now in let T = rowsIn ws in
-    let l : s .args .n ≤ length T = omega (arith, length-in ws, s .pre .0 .few) in
-    let i : s .args .issued ≤ 1000000 = orderly-issued T (s .args .n) (s .args .k) (s .args .issued) l (s .pre .0) in
+    let s = c .before .before .before .before .before .before .before in let ws = s .args .table .now in let T = rowsIn ws in
+    let i : s .args .issued ≤ 1000000 = orderly-issued T (s .args .n) (s .args .k) (s .args .issued) (s .pre .0) in
     omega arith
 
 add-new-row-3 : tie.Need-add-new-row-3
 add-new-row-3 c =
-    let s = c .before .before .before .before .before .before .before in let ws = s .args .words .now in let T = rowsIn ws in
-    let l : s .args .n ≤ length T = omega (arith, length-in ws, s .pre .0 .few) in
-    let j = subst (λ (x : Event). judge (take (s .args .n) T) (s .args .issued) x ≡ 0) (c .before .before .before .before .before .e2 .given .1) (s .pre .1) in
+    let s = c .before .before .before .before .before .before .before in let ws = s .args .table .now in let T = rowsIn ws in
+    let j = subst (λ (x : Event). judge (viewOf T (s .args .issued)) (Single x) ≡ 0) (c .before .before .before .before .before .e2 .given .1) (s .pre .1) in
     omega (arith, c .depth-at .ensures, depth-borrow ws (s .args .n) (s .args .k) (s .args .issued) (s .pre .0) (c .before .before .before .before .before .e2 .given .0 .0) (c .before .before .before .before .before .e2 .given .0 .1 .0) (c .before .before .before .before .before .e2 .given .0 .1 .1 .0) (c .before .before .before .before .before .e2 .given .0 .1 .1 .1 .0) j)
 
 append-requires-2 : tie.Need-append-requires-2
 append-requires-2 c κs =
-    let s = c .before .before .before .before .before .before .before .before .before .before in let ws = s .args .words .now in let T = rowsIn ws in
-    let l : s .args .n ≤ length T = omega (arith, length-in ws, s .pre .0 .few) in
-    let j = subst (λ (x : Event). judge (take (s .args .n) T) (s .args .issued) x ≡ 0) (c .before .before .before .before .before .before .before .before .e2 .given .1) (s .pre .1) in
-    (room-borrow ws (s .args .n) (s .args .k) (s .args .issued) (s .pre .0) (c .before .before .before .before .before .before .before .before .e2 .given .0 .0) (c .before .before .before .before .before .before .before .before .e2 .given .0 .1 .0) (c .before .before .before .before .before .before .before .before .e2 .given .0 .1 .1 .0) (c .before .before .before .before .before .before .before .before .e2 .given .0 .1 .1 .1 .0) j, ready ws (s .args .n) (s .args .k) (s .args .issued) (s .pre .0) (s .pre .2), s .pre .3, subst (λ (d : Cap). Found T (s .args .k) (d .parent .0) (c .before .before .before .before .before .find .result)) (sym (c .before .before .new-row2 .ensures)) (c .before .before .before .before .before .find .ensures), subst (λ (d : Cap). 0 < d .name .0) (sym (c .before .before .new-row2 .ensures)) (omega arith))
+    let s = c .before .before .before .before .before .before .before .before .before .before in let ws = s .args .table .now in let T = rowsIn ws in
+    let j = subst (λ (x : Event). judge (viewOf T (s .args .issued)) (Single x) ≡ 0) (c .before .before .before .before .before .before .before .before .e2 .given .1) (s .pre .1) in
+    (room-borrow ws (s .args .n) (s .args .k) (s .args .issued) (s .pre .0) (c .before .before .before .before .before .before .before .before .e2 .given .0 .0) (c .before .before .before .before .before .before .before .before .e2 .given .0 .1 .0) (c .before .before .before .before .before .before .before .before .e2 .given .0 .1 .1 .0) (c .before .before .before .before .before .before .before .before .e2 .given .0 .1 .1 .1 .0) j, ready ws (s .args .n) (s .args .k) (s .args .issued) (s .pre .0), s .pre .2, subst (λ (d : Cap). Found T (s .args .k) (d .parent .0) (c .before .before .before .before .before .find .result)) (sym (c .before .before .new-row2 .ensures)) (c .before .before .before .before .before .find .ensures), subst (λ (d : Cap). 0 < d .name .0) (sym (c .before .before .new-row2 .ensures)) (omega arith))
 
 read-rows-requires : tie.Need-read-rows-requires
 read-rows-requires c κs =
-    let s = c .before .before .before .before .before in let ws = s .args .words .now in let T = rowsIn ws in
-    let l : s .args .n ≤ length T = omega (arith, length-in ws, s .pre .0 .few) in
-    (ready ws (s .args .n) (s .args .k) (s .args .issued) (s .pre .0) (s .pre .2), s .pre .3)
+    let s = c .before .before .before .before .before in let ws = s .args .table .now in let T = rowsIn ws in
+    (ready ws (s .args .n) (s .args .k) (s .args .issued) (s .pre .0), s .pre .2)
 
 write-rows-requires-2 : tie.Need-write-rows-requires-2
 write-rows-requires-2 c κs =
-    let s = c .before .before .before .before .before in let ws = s .args .words .now in let T = rowsIn ws in
-    let l : s .args .n ≤ length T = omega (arith, length-in ws, s .pre .0 .few) in
-    (ready ws (s .args .n) (s .args .k) (s .args .issued) (s .pre .0) (s .pre .2), s .pre .3)
+    let s = c .before .before .before .before .before in let ws = s .args .table .now in let T = rowsIn ws in
+    (ready ws (s .args .n) (s .args .k) (s .args .issued) (s .pre .0), s .pre .2)
 
-drop-rows-requires : tie.Need-drop-rows-requires
-drop-rows-requires c κs =
-    let s = c .before .before .before .before .before in let ws = s .args .words .now in let T = rowsIn ws in
-    let l : s .args .n ≤ length T = omega (arith, length-in ws, s .pre .0 .few) in
-    (ready ws (s .args .n) (s .args .k) (s .args .issued) (s .pre .0) (s .pre .2), s .pre .3)
+drop-names-requires : tie.Need-drop-names-requires
+drop-names-requires c κs =
+    let s = c .before .before .before .before .before .before in let ws = s .args .table .now in let T = rowsIn ws in
+    (ready ws (s .args .n) (s .args .k) (s .args .issued) (s .pre .0), s .pre .2)
 
 returns : tie.Need-returns
 returns c =
-    let s = c .before .before .before .before .before .before .before .before .before .before in let ws = s .args .words .now in let T = rowsIn ws in
-    let span = c .before .before .before .before .before .before .before .before .e .given .0 .1 .0 in
-    let new = c .before .before .before .before .before .before .new-row .result in
-    let rows = access-rows ws (s .args .n) (s .args .k) (s .args .issued) (s .pre .0) Writing (s .args .issued + 1) span (c .before .before .before .write-rows .last .0) (c .before .before .before .write-rows .ensures .0) in
-    let e = ap (λ (l : List Cap). new ∷ l) rows ∙ next-create (s .args .issued) (before T (s .args .k)) (c .before .before .before .before .before .before .before .before .e .given .0 .0) span (c .before .before .before .before .before .before .before .before .e .given .0 .1 .1 .0) new (c .before .before .before .before .before .before .new-row .ensures) ∙ ap (λ (x : Event). rowsAfter (s .args .issued) (before T (s .args .k)) x) (sym (c .before .before .before .before .before .before .before .before .e .given .1)) in
-    (rw (← e) (c .append .ensures .0), c .append .ensures .1)
+    let s = c .before .before .before .before .before .before .before .before .before .before .before .before in let ws = s .args .table .now in let T = rowsIn ws in
+    let span = c .before .before .before .before .before .before .before .before .before .before .e .given .0 .1 .0 in
+    let new = c .before .before .before .before .before .before .before .before .new-row .result in
+    let rows = access-rows ws (s .args .n) (s .args .k) (s .args .issued) (s .pre .0) Writing (s .args .issued + 1) span (c .before .before .before .before .before .write-rows .last .0) (c .before .before .before .before .before .write-rows .ensures) (c .before .before .before .before .table .given) in
+    let e = ap (λ (l : List Cap). new ∷ l) rows ∙ next-create (s .args .issued) (before T (s .args .k)) (c .before .before .before .before .before .before .before .before .before .before .e .given .0 .0) span (c .before .before .before .before .before .before .before .before .before .before .e .given .0 .1 .1 .0) new (c .before .before .before .before .before .before .before .before .new-row .ensures) ∙ ap (λ (x : Event). rowsAfter (s .args .issued) (before T (s .args .k)) (Single x)) (sym (c .before .before .before .before .before .before .before .before .before .before .e .given .1)) in
+    rw (← e) (c .before .append .ensures)
 
 returns-2 : tie.Need-returns-2
 returns-2 c =
-    let s = c .before .before .before .before .before .before .before .before .before .before .before in let ws = s .args .words .now in let T = rowsIn ws in
-    let l : s .args .n ≤ length T = omega (arith, length-in ws, s .pre .0 .few) in
-    let e : (c .before .before .before .new-row2 .result ∷ before T (s .args .k)) ≡ rowsAfter (s .args .issued) (before T (s .args .k)) (s .args .e) = next-borrow (s .args .issued) (before T (s .args .k)) (c .before .before .before .before .before .before .before .before .before .e2 .given .0 .0) (c .before .before .before .before .before .before .before .before .before .e2 .given .0 .1 .0) (c .before .before .before .before .before .before .before .before .before .e2 .given .0 .1 .1 .0) (c .before .before .before .before .before .before .before .before .before .e2 .given .0 .1 .1 .1 .0) (c .before .before .before .before .depth-at .result) (c .before .before .before .new-row2 .result) (c .before .before .before .before .depth-at .ensures) (c .before .before .before .new-row2 .ensures) ∙ ap (λ (x : Event). rowsAfter (s .args .issued) (before T (s .args .k)) x) (sym (c .before .before .before .before .before .before .before .before .before .e2 .given .1)) in
-    (rw (← e) (c .append2 .ensures .0), c .append2 .ensures .1)
+    let s = c .before .before .before .before .before .before .before .before .before .before .before .before in let ws = s .args .table .now in let T = rowsIn ws in
+    let e : (c .before .before .before .before .new-row2 .result ∷ before T (s .args .k)) ≡ rowsAfter (s .args .issued) (before T (s .args .k)) (Single (s .args .e)) = next-borrow (s .args .issued) (before T (s .args .k)) (c .before .before .before .before .before .before .before .before .before .before .e2 .given .0 .0) (c .before .before .before .before .before .before .before .before .before .before .e2 .given .0 .1 .0) (c .before .before .before .before .before .before .before .before .before .before .e2 .given .0 .1 .1 .0) (c .before .before .before .before .before .before .before .before .before .before .e2 .given .0 .1 .1 .1 .0) (c .before .before .before .before .before .depth-at .result) (c .before .before .before .before .new-row2 .result) (c .before .before .before .before .before .depth-at .ensures) (c .before .before .before .before .new-row2 .ensures) ∙ ap (λ (x : Event). rowsAfter (s .args .issued) (before T (s .args .k)) (Single x)) (sym (c .before .before .before .before .before .before .before .before .before .before .e2 .given .1)) in
+    rw (← e) (c .before .append2 .ensures)
 
 returns-3 : tie.Need-returns-3
 returns-3 c =
-    let s = c .before .before .before .before .before .before in let ws = s .args .words .now in let T = rowsIn ws in
-    let l : s .args .n ≤ length T = omega (arith, length-in ws, s .pre .0 .few) in
-    let e : afterAccess Reading (c .before .before .before .before .e3 .given .0 .0 .0) (c .before .before .before .before .e3 .given .0 .1 .0) (before T (s .args .k)) ≡ rowsAfter (s .args .issued) (before T (s .args .k)) (s .args .e) = next-read (s .args .issued) (before T (s .args .k)) (c .before .before .before .before .e3 .given .0 .0) (c .before .before .before .before .e3 .given .0 .1 .0) ∙ ap (λ (x : Event). rowsAfter (s .args .issued) (before T (s .args .k)) x) (sym (c .before .before .before .before .e3 .given .1)) in
-    (rw (← e) (c .read-rows .ensures .0), c .read-rows .ensures .1)
+    let s = c .before .before .before .before .before .before .before in let ws = s .args .table .now in let T = rowsIn ws in
+    let e : afterAccess Reading (c .before .before .before .before .before .e3 .given .0 .0 .0) (c .before .before .before .before .before .e3 .given .0 .1 .0) (before T (s .args .k)) ≡ rowsAfter (s .args .issued) (before T (s .args .k)) (Single (s .args .e)) = next-read (s .args .issued) (before T (s .args .k)) (c .before .before .before .before .before .e3 .given .0 .0) (c .before .before .before .before .before .e3 .given .0 .1 .0) ∙ ap (λ (x : Event). rowsAfter (s .args .issued) (before T (s .args .k)) (Single x)) (sym (c .before .before .before .before .before .e3 .given .1)) in
+    rw (← e) (c .before .read-rows .ensures)
 
 returns-4 : tie.Need-returns-4
 returns-4 c =
-    let s = c .before .before .before .before .before .before in let ws = s .args .words .now in let T = rowsIn ws in
-    let l : s .args .n ≤ length T = omega (arith, length-in ws, s .pre .0 .few) in
-    let e : afterAccess Writing (c .before .before .before .before .e4 .given .0 .0 .0) (c .before .before .before .before .e4 .given .0 .1 .0) (before T (s .args .k)) ≡ rowsAfter (s .args .issued) (before T (s .args .k)) (s .args .e) = next-write (s .args .issued) (before T (s .args .k)) (c .before .before .before .before .e4 .given .0 .0) (c .before .before .before .before .e4 .given .0 .1 .0) ∙ ap (λ (x : Event). rowsAfter (s .args .issued) (before T (s .args .k)) x) (sym (c .before .before .before .before .e4 .given .1)) in
-    (rw (← e) (c .write-rows2 .ensures .0), c .write-rows2 .ensures .1)
+    let s = c .before .before .before .before .before .before .before in let ws = s .args .table .now in let T = rowsIn ws in
+    let e : afterAccess Writing (c .before .before .before .before .before .e4 .given .0 .0 .0) (c .before .before .before .before .before .e4 .given .0 .1 .0) (before T (s .args .k)) ≡ rowsAfter (s .args .issued) (before T (s .args .k)) (Single (s .args .e)) = next-write (s .args .issued) (before T (s .args .k)) (c .before .before .before .before .before .e4 .given .0 .0) (c .before .before .before .before .before .e4 .given .0 .1 .0) ∙ ap (λ (x : Event). rowsAfter (s .args .issued) (before T (s .args .k)) (Single x)) (sym (c .before .before .before .before .before .e4 .given .1)) in
+    rw (← e) (c .before .write-rows2 .ensures)
 
 returns-5 : tie.Need-returns-5
 returns-5 c =
-    let s = c .before .before .before .before .before .before in let ws = s .args .words .now in let T = rowsIn ws in
-    let l : s .args .n ≤ length T = omega (arith, length-in ws, s .pre .0 .few) in
-    let e : revoke (λ x. inSubtree (c .before .before .before .before .e5 .given .0 .0 .0) (ancestry (derivations (before T (s .args .k))) x)) (λ x. false) (before T (s .args .k)) ≡ rowsAfter (s .args .issued) (before T (s .args .k)) (s .args .e) = next-drop (s .args .issued) (before T (s .args .k)) (c .before .before .before .before .e5 .given .0 .0) ∙ ap (λ (x : Event). rowsAfter (s .args .issued) (before T (s .args .k)) x) (sym (c .before .before .before .before .e5 .given .1)) in
-    (rw (← e) (c .drop-rows .ensures .0), c .drop-rows .ensures .1)
+    let s = c .before .before .before .before .before .before .before .before in let ws = s .args .table .now in let T = rowsIn ws in
+    let e : rowsWithout (c .before .before .before .before .before .before .e5 .given .0 .0 .0 ∷ []) (before T (s .args .k)) ≡ rowsAfter (s .args .issued) (before T (s .args .k)) (Single (s .args .e)) = next-drop (s .args .issued) (before T (s .args .k)) (c .before .before .before .before .before .before .e5 .given .0 .0) ∙ ap (λ (x : Event). rowsAfter (s .args .issued) (before T (s .args .k)) (Single x)) (sym (c .before .before .before .before .before .before .e5 .given .1)) in
+    rw (← e) (c .before .drop-names .ensures)
 
 pub change-spec : {M : Type 1} → statement M
 change-spec =
@@ -163,9 +150,15 @@ change-spec =
     (λ c. search needs)
     write-rows-requires-2
     (λ c. search needs)
-    drop-rows-requires
+    (λ c. search needs)
+    drop-names-requires
+    (λ c. search needs)
     returns
+    (λ c. search needs)
     returns-2
+    (λ c. search needs)
     returns-3
+    (λ c. search needs)
     returns-4
+    (λ c. search needs)
     returns-5)

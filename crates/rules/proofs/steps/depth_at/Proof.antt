@@ -3,6 +3,7 @@
 use mathlib.Core.Path.{sym, ap, _∙_}
 use native.Mathlib.Omega.{arith}
 use Rattle.model.specs.declared.Cap.{Cap}
+use Rattle.table.proofs.Laws.Words.{rise-fits}
 use Rattle.table.specs.Words.{rowsIn}
 use Rattle.table.proofs.Laws.Find.{found-there}
 use Rattle.table.proofs.Laws.Ordered.{lookup-place}
@@ -10,12 +11,12 @@ use Rattle.rules.proofs.steps.depth_at.Statement.{statement}
 use Rattle.rules.proofs.steps.depth_at.Tie as tie
 
 row-at-requires : tie.Need-row-at-requires
-row-at-requires c κs = omega (arith, c .pre .0, found-there (rowsIn (c .args .words .now)) (c .args .k) (c .args .u) (c .args .q) (c .pre .2) (c .pre .3))
+row-at-requires c κs = omega (arith, rise-fits (c .args .table .now) (c .args .k) (c .pre .1), found-there (rowsIn (c .args .table .now)) (c .args .k) (c .args .u) (c .args .q) (c .pre .2) (c .pre .3))
 
 returns : tie.Need-returns
 returns c =
-    let l = found-there (rowsIn (c .before .args .words .now)) (c .before .args .k) (c .before .args .u) (c .before .args .q) (c .before .pre .2) (c .before .pre .3) in
-    ap (λ (d : Cap). d .depth) (c .row-at .ensures ∙ sym (lookup-place (rowsIn (c .before .args .words .now)) (c .before .args .k) (c .before .args .q) (c .before .args .u) (c .before .pre .1) l (c .before .pre .3 .here l) .1))
+    let l = found-there (rowsIn (c .before .args .table .now)) (c .before .args .k) (c .before .args .u) (c .before .args .q) (c .before .pre .2) (c .before .pre .3) in
+    ap (λ (d : Cap). d .depth) (c .row-at .ensures ∙ sym (lookup-place (rowsIn (c .before .args .table .now)) (c .before .args .k) (c .before .args .q) (c .before .args .u) (c .before .pre .1) l (c .before .pre .3 .here l) .1))
 
 pub depth-at-spec : {M : Type 1} → statement M
 depth-at-spec = tie.close (tie.spec row-at-requires returns)

@@ -5,7 +5,7 @@ use mathlib.Core.Bool.{false}
 use borrow.Author.Needs.{needs}
 use Rattle.model.specs.Derivation.{ancestry}
 use Rattle.model.specs.Table.{derivations}
-use Rattle.model.specs.Together.{inSubtrees, rowsWithout}
+use Rattle.model.specs.Effects.{inSubtrees, rowsWithout}
 use Rattle.table.specs.Words.{rowsIn}
 use Rattle.table.specs.Rows.{before}
 use Rattle.rules.specs.Engine.{kept}
@@ -16,10 +16,16 @@ use Rattle.rules.proofs.steps.drop_names.Tie as tie
 returns : tie.Need-returns
 unfolding rowsWithout
 returns c =
-    let s = c .before .before .before .before .before .before .before .before in let T = rowsIn (s .args .words .now) in let marks = c .before .before .before .before .marks-of-names .result in
+    let s = c .before .before .before .before .before .before .before .before .before in let T = rowsIn (s .args .table .now) in let marks = c .before .before .before .before .before .marks-of-names .result in
     let e : kept marks T (s .args .k) ≡ rowsWithout (s .args .names .now) (before T (s .args .k)) =
-    kept-revoke marks (λ x. inSubtrees (s .args .names .now) (ancestry (derivations (before T (s .args .k))) x)) (λ x. false) T (s .args .k) (c .before .before .before .before .marks-of-names .ensures .0) in
-    (rw (← e) (c .settle .ensures .0), c .settle .ensures .1)
+    kept-revoke marks (λ x. inSubtrees (s .args .names .now) (ancestry (derivations (before T (s .args .k))) x)) (λ x. false) T (s .args .k) (c .before .before .before .before .before .marks-of-names .ensures .0) in
+    rw (← e) (c .before .settle .ensures)
 
 pub drop-names-spec : {M : Type 1} → statement M
-drop-names-spec = tie.close (tie.spec (λ c κs. search needs) (λ c κs. search needs) returns)
+drop-names-spec =
+    tie.close
+    (tie.spec
+    (λ c κs. search needs)
+    (λ c κs. search needs)
+    (λ c. search needs)
+    returns)

@@ -13,9 +13,15 @@ use Rattle.rules.proofs.steps.write_rows.Tie as tie
 
 returns : tie.Need-returns
 returns c =
-    let s = c .before .before .before .before .before .before .before in let T = rowsIn (s .args .words .now) in let marks = c .before .before .before .before .marks-of-access .result in
-    let e : kept marks T (s .args .k) ≡ afterAccess Writing (s .args .u) (s .args .s) (before T (s .args .k)) = kept-used marks T (s .args .k) (s .args .u) Writing (s .args .s) (c .before .before .before .before .marks-of-access .ensures .0) in
-    (rw (← e) (c .settle .ensures .0), c .settle .ensures .1)
+    let s = c .before .before .before .before .before .before .before .before in let T = rowsIn (s .args .table .now) in let marks = c .before .before .before .before .before .marks-of-access .result in
+    let e : kept marks T (s .args .k) ≡ afterAccess Writing (s .args .u) (s .args .s) (before T (s .args .k)) = kept-used marks T (s .args .k) (s .args .u) Writing (s .args .s) (c .before .before .before .before .before .marks-of-access .ensures .0) in
+    rw (← e) (c .before .settle .ensures)
 
 pub write-rows-spec : {M : Type 1} → statement M
-write-rows-spec = tie.close (tie.spec (λ c κs. search needs) (λ c κs. search needs) returns)
+write-rows-spec =
+    tie.close
+    (tie.spec
+    (λ c κs. search needs)
+    (λ c κs. search needs)
+    (λ c. search needs)
+    returns)

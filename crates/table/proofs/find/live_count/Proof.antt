@@ -12,10 +12,10 @@ use Rattle.table.proofs.find.live_count.Statement.{statement}
 use Rattle.table.proofs.find.live_count.Tie as tie
 
 abbrev Inv-loop : tie.InvT-loop
-Inv-loop words n i₀ i = (i ≤ n) × ((j : ℕ) → j < i → 0 < nameAt (rowsIn words) j)
+Inv-loop table n i₀ i = (i ≤ n) × ((j : ℕ) → j < i → 0 < nameAt (rowsIn table) j)
 
 abbrev μ-loop : tie.MeasureT-loop
-μ-loop words n i₀ i = n - i
+μ-loop table n i₀ i = n - i
 
 loop-holds : tie.Need-loop-holds Inv-loop μ-loop
 loop-holds c = (search needs, λ j l. absurd (omega arith))
@@ -25,7 +25,7 @@ returns c = record { fits = omega (arith, c .before .before .before .before .loo
 
 loop-again : tie.Need-loop-again Inv-loop μ-loop
 loop-again c =
-    let T = rowsIn (c .before .before .before .before .before .args .words .now) in
+    let T = rowsIn (c .before .before .before .before .before .args .table .now) in
     (search needs, extend (λ j. 0 < nameAt T j) (c .before .before .before .before .loop .i) (c .before .before .before .before .loop .inv .1) (not-zero (nameAt T (c .before .before .before .before .loop .i)) (λ e. c .if1 .left (ap (λ (d : Cap). d .name .0) (c .before .before .row-at .ensures) ∙ e))))
 
 returns-2 : tie.Need-returns-2 Inv-loop μ-loop

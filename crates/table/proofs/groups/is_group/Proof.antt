@@ -6,10 +6,10 @@ use native.Mathlib.Omega.{arith}
 use lib.ListN.{length, getD, drop}
 use borrow.Author.Needs.{needs}
 use borrow.Author.Tests.{le-leb, lt-leb}
-use Rattle.model.specs.Together.{risesAbove, risesStrictly, isGroup}
 use Rattle.table.proofs.Laws.Groups.{rises-first, rises-stop, rises-on, rises-end}
 use Rattle.table.proofs.groups.is_group.Statement.{statement}
 use Rattle.table.proofs.groups.is_group.Tie as tie
+use Rattle.model.specs.Requests.{isGroup, risesAbove, risesStrictly}
 
 abbrev Inv-loop : tie.InvT-loop
 Inv-loop names i₀ i = (1 ≤ i) × (i ≤ length names) × (risesAbove (getD names (i - 1) 0) (drop i names) ≡ risesStrictly names)

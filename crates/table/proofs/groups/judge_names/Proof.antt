@@ -8,7 +8,7 @@ use borrow.Author.Needs.{needs}
 use Rattle.model.specs.declared.Name.{Name}
 use Rattle.model.specs.Lists.{first}
 use Rattle.model.specs.Answers.{number}
-use Rattle.model.specs.Together.{standings}
+use Rattle.model.specs.Refusals.{standings}
 use Rattle.table.specs.declared.judge.Place.{Place}
 use Rattle.table.specs.declared.judge.Place.the-variants.{At, Not}
 use Rattle.table.specs.Words.{rowsIn}
@@ -20,17 +20,17 @@ use Rattle.table.proofs.groups.judge_names.Statement.{statement}
 use Rattle.table.proofs.groups.judge_names.Tie as tie
 
 abbrev Inv-loop : tie.InvT-loop
-Inv-loop words k issued names i₀ i =
-    (i ≤ length names) × (first (standings (before (rowsIn words) k) issued (drop i names)) ≡ first (standings (before (rowsIn words) k) issued names))
+Inv-loop table k issued names i₀ i =
+    (i ≤ length names) × (first (standings (before (rowsIn table) k) issued (drop i names)) ≡ first (standings (before (rowsIn table) k) issued names))
 
 abbrev μ-loop : tie.MeasureT-loop
-μ-loop words k issued names i₀ i = length names - i
+μ-loop table k issued names i₀ i = length names - i
 
 returns : tie.Need-returns Inv-loop μ-loop
 returns c =
     let l = c .before .before .before .before .before .before in
     let s = l .before .before in
-    let T = rowsIn (s .args .words .now) in
+    let T = rowsIn (s .args .table .now) in
     let x = c .before .place .given .0 .0 in
     let u : Name = record { 0 = getD (s .args .names .now) (l .loop .i) 0 } in
     let st : Stands T (s .args .k) (s .args .issued) u (Not x) = subst (λ (p : Place). Stands T (s .args .k) (s .args .issued) u p) (c .before .place .given .1) (c .before .before .before .place-of .ensures) in
@@ -40,7 +40,7 @@ loop-again : tie.Need-loop-again Inv-loop μ-loop
 loop-again c =
     let l = c .before .before .before .before .before in
     let s = l .before .before in
-    let T = rowsIn (s .args .words .now) in
+    let T = rowsIn (s .args .table .now) in
     let u : Name = record { 0 = getD (s .args .names .now) (l .loop .i) 0 } in
     let q = c .enum-told .given .0 .0 in
     let st : Stands T (s .args .k) (s .args .issued) u (At q) = subst (λ (p : Place). Stands T (s .args .k) (s .args .issued) u p) (c .enum-told .given .1) (c .before .before .place-of .ensures) in
@@ -50,7 +50,7 @@ returns-2 : tie.Need-returns-2 Inv-loop μ-loop
 returns-2 c =
     let l = c .before in
     let s = l .before .before in
-    rw (sym (l .loop .inv .1) ∙ names-end (before (rowsIn (s .args .words .now)) (s .args .k)) (s .args .issued) (s .args .names .now) (l .loop .i) (c .loop-test .left))
+    rw (sym (l .loop .inv .1) ∙ names-end (before (rowsIn (s .args .table .now)) (s .args .k)) (s .args .issued) (s .args .names .now) (l .loop .i) (c .loop-test .left))
 
 pub judge-names-spec : {M : Type 1} → statement M
 judge-names-spec =

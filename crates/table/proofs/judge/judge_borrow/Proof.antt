@@ -10,6 +10,7 @@ use Rattle.table.specs.declared.judge.Place.{Place}
 use Rattle.table.specs.declared.judge.Place.the-variants.{At, Not}
 use Rattle.model.specs.Table.{isRight}
 use Rattle.model.specs.Step.{verdict}
+use Rattle.table.proofs.Laws.Words.{rise-fits}
 use Rattle.table.specs.Words.{rowsIn}
 use Rattle.table.specs.Stands.{Serves}
 use Rattle.table.proofs.Laws.Ordered.{lookup-place}
@@ -25,14 +26,14 @@ usable-place-requires c κs = (c .before .before .pre .0, c .before .before .pre
 
 row-at-requires : tie.Need-row-at-requires
 row-at-requires c κs =
-    let s = c .before .before .before .before .before .before in let T = rowsIn (s .args .words .now) in
+    let s = c .before .before .before .before .before .before in let T = rowsIn (s .args .table .now) in
     let h : isRight (s .args .r) ≡ true = sym (c .before .before .before .before .before .is-right .ensures) ∙ not-false (c .before .before .before .before .before .is-right .result) (c .before .before .before .before .if1 .left) in
     let st : Serves T (s .args .k) (s .args .issued) (s .args .u) (s .args .s) (s .args .r) (At (c .before .q .given .0 .0)) = subst (λ (p : Place). Serves T (s .args .k) (s .args .issued) (s .args .u) (s .args .s) (s .args .r) p) (c .before .q .given .1) (c .before .before .before .usable-place .ensures) in
-    omega (arith, st .1, s .pre .0)
+    omega (arith, st .1, rise-fits (s .args .table .now) (s .args .k) (s .pre .1))
 
 returns-2 : tie.Need-returns-2
 returns-2 c =
-    let s = c .before .before .before .before .before .before .before .before .before in let T = rowsIn (s .args .words .now) in
+    let s = c .before .before .before .before .before .before .before .before .before in let T = rowsIn (s .args .table .now) in
     let h : isRight (s .args .r) ≡ true = sym (c .before .before .before .before .before .before .before .before .is-right .ensures) ∙ not-false (c .before .before .before .before .before .before .before .before .is-right .result) (c .before .before .before .before .before .before .before .if1 .left) in
     let st : Serves T (s .args .k) (s .args .issued) (s .args .u) (s .args .s) (s .args .r) (At (c .before .before .before .before .q .given .0 .0)) = subst (λ (p : Place). Serves T (s .args .k) (s .args .issued) (s .args .u) (s .args .s) (s .args .r) p) (c .before .before .before .before .q .given .1) (c .before .before .before .before .before .before .usable-place .ensures) in
     let sk = lookup-place T (s .args .k) (c .before .before .before .before .q .given .0 .0) (s .args .u .0) (s .pre .1) (st .1) (st .2) .1 ∙ sym (c .before .before .row-at .ensures) in
@@ -43,14 +44,14 @@ room-answer-requires c κs = c .before .before .before .before .before .before .
 
 returns-3 : tie.Need-returns-3
 returns-3 c =
-    let s = c .before .before .before .before .before .before in let T = rowsIn (s .args .words .now) in
+    let s = c .before .before .before .before .before .before in let T = rowsIn (s .args .table .now) in
     let h : isRight (s .args .r) ≡ true = sym (c .before .before .before .before .before .is-right .ensures) ∙ not-false (c .before .before .before .before .before .is-right .result) (c .before .before .before .before .if1 .left) in
     let st : Serves T (s .args .k) (s .args .issued) (s .args .u) (s .args .s) (s .args .r) (Not (c .before .x .given .0 .0)) = subst (λ (p : Place). Serves T (s .args .k) (s .args .issued) (s .args .u) (s .args .s) (s .args .r) p) (c .before .x .given .1) (c .before .before .before .usable-place .ensures) in
     rw (borrow-not T (s .args .n) (s .args .k) (s .args .issued) (s .args .w) (s .args .u) (s .args .s) (s .args .r) h (c .before .x .given .0 .0) st, numbered (c .before .x .given .0 .0))
 
 returns-4 : tie.Need-returns-4
 returns-4 c =
-    let s = c .before .before .before .before .before .before .before .before .before .before in let T = rowsIn (s .args .words .now) in
+    let s = c .before .before .before .before .before .before .before .before .before .before in let T = rowsIn (s .args .table .now) in
     let h : isRight (s .args .r) ≡ true = sym (c .before .before .before .before .before .before .before .before .before .is-right .ensures) ∙ not-false (c .before .before .before .before .before .before .before .before .before .is-right .result) (c .before .before .before .before .before .before .before .before .if1 .left) in
     let st : Serves T (s .args .k) (s .args .issued) (s .args .u) (s .args .s) (s .args .r) (At (c .before .before .before .before .before .q .given .0 .0)) = subst (λ (p : Place). Serves T (s .args .k) (s .args .issued) (s .args .u) (s .args .s) (s .args .r) p) (c .before .before .before .before .before .q .given .1) (c .before .before .before .before .before .before .before .usable-place .ensures) in
     let sk = lookup-place T (s .args .k) (c .before .before .before .before .before .q .given .0 .0) (s .args .u .0) (s .pre .1) (st .1) (st .2) .1 ∙ sym (c .before .before .before .row-at .ensures) in

@@ -14,7 +14,7 @@ returns-3 : tie.Need-returns-3
 returns-3 c =
     let s = c .before .before .before .before .before .before in
     let h = c .before .find .ensures .here (c .if3 .taken) in
-    let p = lookup-place (rowsIn (s .args .words .now)) (s .args .k) (c .before .find .result) (s .args .u .0) (s .pre .1) (c .if3 .taken) h in
+    let p = lookup-place (rowsIn (s .args .table .now)) (s .args .k) (c .before .find .result) (s .args .u .0) (s .pre .1) (c .if3 .taken) h in
     (rw (ne-eqb _ _ (c .before .before .before .before .if1 .left), le-ltb _ _ (c .before .before .if2 .left), p .0), c .if3 .taken, h)
 
 returns-4 : tie.Need-returns-4

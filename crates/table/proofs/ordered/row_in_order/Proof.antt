@@ -5,6 +5,8 @@ use borrow.Author.Needs.{needs}
 use borrow.Author.Tests.{eq-eqb, ne-eqb, not-true, not-false}
 use Rattle.model.specs.Table.{span, isRight, rowFitsParent, rowInOrder, parentInOrder}
 use Rattle.model.specs.Values.{legal}
+use native.Mathlib.Omega.{arith}
+use Rattle.table.proofs.Laws.Words.{rise-fits}
 use Rattle.table.specs.Words.{rowsIn}
 use Rattle.table.proofs.Laws.Ordered.{lookup-place}
 use Rattle.table.proofs.ordered.row_in_order.Statement.{statement}
@@ -26,12 +28,15 @@ returns-4 : tie.Need-returns-4
 unfolding rowInOrder parentInOrder
 returns-4 c = let e : legal (span (c .before .before .before .before .before .before .before .before .before .before .args .c)) ≡ c .before .before .before .before .before .before .before .before .is-legal .result = sym (c .before .before .before .before .before .before .before .before .is-legal .ensures ∙ ap legal (c .before .before .before .before .before .before .before .before .before .span-of .ensures)) in let f : isRight (c .before .before .before .before .before .before .before .before .before .before .args .c .right) ≡ c .before .before .before .before .before .before .is-right .result = sym (c .before .before .before .before .before .before .is-right .ensures) in
     let s = c .before .before .before .before .before .before .before .before .before .before in
-    let p = lookup-place (rowsIn (s .args .words .now)) (s .args .i) (s .args .q) (s .args .c .parent .0) (s .pre .1) (c .before .before .if4 .taken) (s .pre .2 .here (c .before .before .if4 .taken)) in
+    let p = lookup-place (rowsIn (s .args .table .now)) (s .args .i) (s .args .q) (s .args .c .parent .0) (s .pre .1) (c .before .before .if4 .taken) (s .pre .2 .here (c .before .before .if4 .taken)) in
     rw (e, not-false (c .before .before .before .before .before .before .before .before .is-legal .result) (c .before .before .before .before .before .before .before .if1 .left), f, not-false (c .before .before .before .before .before .before .is-right .result) (c .before .before .before .before .before .if2 .left), ne-eqb _ _ (c .before .before .before .if3 .left), p .0, p .1) (c .row-fits-parent .ensures ∙ ap (rowFitsParent (s .args .c)) (c .before .row-at .ensures))
 
 returns-5 : tie.Need-returns-5
 unfolding rowInOrder parentInOrder
 returns-5 c = let e : legal (span (c .before .before .before .before .before .before .before .before .args .c)) ≡ c .before .before .before .before .before .before .is-legal .result = sym (c .before .before .before .before .before .before .is-legal .ensures ∙ ap legal (c .before .before .before .before .before .before .before .span-of .ensures)) in let f : isRight (c .before .before .before .before .before .before .before .before .args .c .right) ≡ c .before .before .before .before .is-right .result = sym (c .before .before .before .before .is-right .ensures) in rw (e, not-false (c .before .before .before .before .before .before .is-legal .result) (c .before .before .before .before .before .if1 .left), f, not-false (c .before .before .before .before .is-right .result) (c .before .before .before .if2 .left), ne-eqb _ _ (c .before .if3 .left), c .before .before .before .before .before .before .before .before .pre .2 .gone (c .if4 .left))
+
+row-at-requires : tie.Need-row-at-requires
+row-at-requires c κs = let s = c .before .before .before .before .before .before .before .before in omega (arith, c .if4 .taken, rise-fits (s .args .table .now) (s .args .i) (s .pre .1))
 
 pub row-in-order-spec : {M : Type 1} → statement M
 row-in-order-spec =
@@ -43,7 +48,7 @@ row-in-order-spec =
     (λ c κs. search needs)
     returns-2
     returns-3
-    (λ c κs. search needs)
+    row-at-requires
     (λ c κs. search needs)
     returns-4
     returns-5)

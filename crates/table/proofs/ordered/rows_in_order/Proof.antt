@@ -7,6 +7,7 @@ use lib.ListN.{length, length-set, length-replicate}
 use borrow.Author.Tests.{not-true, not-false}
 use Rattle.model.specs.declared.Cap.{Cap}
 use Rattle.model.specs.Table.{rowInOrder}
+use Rattle.table.proofs.Laws.Words.{filled-fits}
 use Rattle.table.specs.Words.{rowsIn}
 use Rattle.table.specs.Rows.{nameAt, parentAt, before, Found, Places}
 use Rattle.model.proofs.Lists.{clash}
@@ -16,19 +17,19 @@ use Rattle.table.proofs.ordered.rows_in_order.Statement.{statement}
 use Rattle.table.proofs.ordered.rows_in_order.Tie as tie
 
 abbrev Inv-loop : tie.InvT-loop
-Inv-loop words k issued places₀ seen₀ last₀ i₀ places seen last i = (i ≤ k) × Checked (rowsIn words) i last × Places (rowsIn words) i places × (length seen ≡ 2048)
+Inv-loop table k issued places₀ seen₀ last₀ i₀ places seen last i = (i ≤ k) × Checked (rowsIn table) i last × Places (rowsIn table) i places × (length seen ≡ 2048)
 
 abbrev μ-loop : tie.MeasureT-loop
-μ-loop words k issued places₀ seen₀ last₀ i₀ places seen last i = k - i
+μ-loop table k issued places₀ seen₀ last₀ i₀ places seen last i = k - i
 
 loop-holds : tie.Need-loop-holds Inv-loop μ-loop
-loop-holds c = (omega arith, checked-none (rowsIn (c .args .words .now)), places-none (rowsIn (c .args .words .now)) (c .args .places .now) (c .pre .2), length-replicate {A = ℕ} 2048 0)
+loop-holds c = (omega arith, checked-none (rowsIn (c .args .table .now)), places-none (rowsIn (c .args .table .now)) (c .args .places .now) (c .pre .2), length-replicate {A = ℕ} 2048 0)
 
 row-at-requires : tie.Need-row-at-requires Inv-loop μ-loop
-row-at-requires c κs = omega (arith, c .before .before .pre .0, c .loop-test .taken)
+row-at-requires c κs = let s = c .before .before in omega (arith, filled-fits (s .args .table .now) (s .args .k) (s .pre .1), c .loop-test .taken)
 
 returns : tie.Need-returns Inv-loop μ-loop
-returns c = let s = c .before .before .before .before .before in let T = rowsIn (s .args .words .now) in
+returns c = let s = c .before .before .before .before .before in let T = rowsIn (s .args .table .now) in
     let i : ℕ = c .before .before .before .before .loop .i in
     let n : nameAt T i ≡ c .before .before .row-at .result .name .0 = ap (λ (d : Cap). d .name .0) (sym (c .before .before .row-at .ensures)) in
     (sym (fails-name T (suc (s .args .issued)) (s .args .k) i (c .before .before .before .before .loop .last) (c .before .before .before .before .loop .inv .1) (c .before .before .before .loop-test .taken) (s .pre .1) (omega (arith, n, c .if1 .taken))), record { known = λ e. clash e refl })
@@ -46,19 +47,19 @@ wide-requires : tie.Need-wide-requires Inv-loop μ-loop
 wide-requires c κs = tt
 
 find-near-requires : tie.Need-find-near-requires Inv-loop μ-loop
-find-near-requires c κs = let s = c .before .before .before .before .before .before .before in let T = rowsIn (s .args .words .now) in
+find-near-requires c κs = let s = c .before .before .before .before .before .before .before in let T = rowsIn (s .args .table .now) in
     let i : ℕ = c .before .before .before .before .before .before .loop .i in
     let n : nameAt T i ≡ c .before .before .before .before .row-at .result .name .0 = ap (λ (d : Cap). d .name .0) (sym (c .before .before .before .before .row-at .ensures)) in
     (omega (arith, s .pre .0, c .before .before .before .before .before .loop-test .taken), rowsInOrder-rise T (suc (c .before .before .before .before .before .before .loop .last)) i (λ j l. s .pre .1 j (omega (arith, c .before .before .before .before .before .loop-test .taken, l))) (c .before .before .before .before .before .before .loop .inv .1 .up))
 
 row-in-order-requires : tie.Need-row-in-order-requires Inv-loop μ-loop
-row-in-order-requires c κs = let s = c .before .before .before .before .before .before .before .before in let T = rowsIn (s .args .words .now) in
+row-in-order-requires c κs = let s = c .before .before .before .before .before .before .before .before in let T = rowsIn (s .args .table .now) in
     let i : ℕ = c .before .before .before .before .before .before .before .loop .i in
     let n : nameAt T i ≡ c .before .before .before .before .before .row-at .result .name .0 = ap (λ (d : Cap). d .name .0) (sym (c .before .before .before .before .before .row-at .ensures)) in
     (omega (arith, s .pre .0, c .before .before .before .before .before .before .loop-test .taken), rowsInOrder-rise T (suc (c .before .before .before .before .before .before .before .loop .last)) i (λ j l. s .pre .1 j (omega (arith, c .before .before .before .before .before .before .loop-test .taken, l))) (c .before .before .before .before .before .before .before .loop .inv .1 .up), c .find-near .ensures)
 
 returns-2 : tie.Need-returns-2 Inv-loop μ-loop
-returns-2 c = let s = c .before .before .before .before .before .before .before .before .before .before in let T = rowsIn (s .args .words .now) in
+returns-2 c = let s = c .before .before .before .before .before .before .before .before .before .before in let T = rowsIn (s .args .table .now) in
     let i : ℕ = c .before .before .before .before .before .before .before .before .before .loop .i in
     let n : nameAt T i ≡ c .before .before .before .before .before .before .before .row-at .result .name .0 = ap (λ (d : Cap). d .name .0) (sym (c .before .before .before .before .before .before .before .row-at .ensures)) in
     (sym (fails-place T (suc (s .args .issued)) (s .args .k) i (c .before .before .before .before .before .before .before .before .loop-test .taken) (ap (λ (d : Cap). rowInOrder d (before T i)) (sym (c .before .before .before .before .before .before .before .row-at .ensures)) ∙ sym (c .before .row-in-order .ensures) ∙ not-true (c .before .row-in-order .result) (c .if2 .taken))), record { known = λ e. clash e refl })
@@ -88,7 +89,7 @@ loop-less : tie.Need-loop-less Inv-loop μ-loop
 loop-less c = omega (arith, c .before .before .before .before .before .before .before .before .before .loop-test .taken)
 
 loop-again : tie.Need-loop-again Inv-loop μ-loop
-loop-again c = let s = c .before .before .before .before .before .before .before .before .before .before .before in let T = rowsIn (s .args .words .now) in
+loop-again c = let s = c .before .before .before .before .before .before .before .before .before .before .before in let T = rowsIn (s .args .table .now) in
     let i : ℕ = c .before .before .before .before .before .before .before .before .before .before .loop .i in
     let n : nameAt T i ≡ c .before .before .before .before .before .before .before .before .row-at .result .name .0 = ap (λ (d : Cap). d .name .0) (sym (c .before .before .before .before .before .before .before .before .row-at .ensures)) in
     let p : c .before .before .before .before .before .before .before .before .row-at .result .parent .0 ≡ parentAt T i = ap (λ (d : Cap). d .parent .0) (c .before .before .before .before .before .before .before .before .row-at .ensures) in
@@ -96,7 +97,7 @@ loop-again c = let s = c .before .before .before .before .before .before .before
     (omega (arith, c .before .before .before .before .before .before .before .before .before .loop-test .taken), rw (← n) (checked-more T i (c .before .before .before .before .before .before .before .before .before .before .loop .last) (c .before .before .before .before .before .before .before .before .before .before .loop .inv .1) (omega (arith, n, c .before .before .before .before .before .before .if1 .left)) (ap (λ (d : Cap). rowInOrder d (before T i)) (sym (c .before .before .before .before .before .before .before .before .row-at .ensures)) ∙ sym (c .before .before .row-in-order .ensures) ∙ not-false (c .before .before .row-in-order .result) (c .before .if2 .left))), places-more T T i (c .before .before .before .find-near .result) (c .before .before .before .before .before .before .before .before .before .before .loop .places) (omega (arith, s .pre .0, c .before .before .before .before .before .before .before .before .before .loop-test .taken)) (λ j l. (refl, refl)) f (c .before .before .before .before .before .before .before .before .before .before .loop .inv .2), simp length-set (c .before .before .before .before .before .before .before .before .before .before .loop .inv .3))
 
 returns-3 : tie.Need-returns-3 Inv-loop μ-loop
-returns-3 c = let e : c .before .loop .i ≡ c .before .before .args .k = omega (arith, c .before .loop .inv .0, c .loop-test .left) in rw (← e) (checked-all (rowsIn (c .before .before .args .words .now)) (c .before .loop .i) (c .before .loop .last) (c .before .before .args .issued) (c .before .loop .inv .1), record { known = λ _. c .before .loop .inv .2 })
+returns-3 c = let e : c .before .loop .i ≡ c .before .before .args .k = omega (arith, c .before .loop .inv .0, c .loop-test .left) in rw (← e) (checked-all (rowsIn (c .before .before .args .table .now)) (c .before .loop .i) (c .before .loop .last) (c .before .before .args .issued) (c .before .loop .inv .1), record { known = λ _. c .before .loop .inv .2 })
 
 pub rows-in-order-spec : {M : Type 1} → statement M
 rows-in-order-spec =

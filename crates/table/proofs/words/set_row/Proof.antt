@@ -1,35 +1,13 @@
--- `set_row` meets its contract: a row that is set in the words is set in their rows.
+-- `set_row` meets its contract: a row's six words set it.
 -- Assumes nothing.
 use mathlib.Core.Path.{refl}
 use Rattle.table.proofs.Laws.Words.{in-set}
-use lib.ListN.{length-set}
 use borrow.Author.Needs.{needs}
 use Rattle.table.proofs.words.set_row.Statement.{statement}
 use Rattle.table.proofs.words.set_row.Tie as tie
 
 returns : tie.Need-returns
-returns c = (in-set (c .args .words .now) (c .args .i) (c .args .c) (c .pre .1) (c .pre .0), simp length-set (c .pre .1), refl)
+returns c = (in-set (c .args .table .now) (c .args .i) (c .args .c), refl)
 
 pub set-row-spec : {M : Type 1} → statement M
-set-row-spec =
-    tie.close
-    (tie.spec
-    (λ c. search needs)
-    (λ c. search needs)
-    (λ c. search needs)
-    (λ c. search needs)
-    (λ c. search needs)
-    (λ c. search needs)
-    (λ c. search needs)
-    (λ c. search needs)
-    (λ c. search needs)
-    (λ c. search needs)
-    (λ c. search needs)
-    (λ c. search needs)
-    (λ c. search needs)
-    (λ c. search needs)
-    (λ c. search needs)
-    (λ c. search needs)
-    (λ c. search needs)
-    (λ c. search needs)
-    returns)
+set-row-spec = tie.close (tie.spec (λ c. search needs) (λ c. search needs) (λ c. search needs) returns)

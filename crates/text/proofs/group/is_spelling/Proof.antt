@@ -6,13 +6,13 @@ use mathlib.Core.List.{List}
 use Prim.Native.Nat.{ℕ}
 use lib.Seq.{length-take-le}
 use borrow.Author.Needs.{needs}
-use Rattle.model.specs.Together.{isGroup}
 use Rattle.text.specs.Group.{spellGroup}
 use Rattle.text.proofs.Laws.Write.{Wrote}
 use Rattle.text.proofs.Laws.Read.{same-is}
 use Rattle.text.proofs.Laws.Group.{wrote-group, wrote-no-group}
 use Rattle.text.proofs.group.is_spelling.Statement.{statement}
 use Rattle.text.proofs.group.is_spelling.Tie as tie
+use Rattle.model.specs.Requests.{isGroup}
 
 returns : tie.Need-returns
 returns c =

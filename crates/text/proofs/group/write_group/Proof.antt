@@ -5,11 +5,11 @@ use mathlib.Core.Bool.{true}
 use native.Mathlib.Omega.{arith}
 use borrow.Author.Needs.{needs}
 use borrow.Author.Tests.{not-true, not-false}
-use Rattle.model.specs.Together.{isGroup}
 use Rattle.text.specs.Group.{spellGroup}
 use Rattle.text.proofs.Laws.Group.{group-few, misgrouped-written, group-written}
 use Rattle.text.proofs.group.write_group.Statement.{statement}
 use Rattle.text.proofs.group.write_group.Tie as tie
+use Rattle.model.specs.Requests.{isGroup}
 
 returns : tie.Need-returns
 returns c =

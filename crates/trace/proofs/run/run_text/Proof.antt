@@ -25,15 +25,15 @@ part-run-ordered-start c =
 
 returns : tie.Need-returns
 returns c =
-    let s = c .before .before .before .before .before .before .before in
+    let s = c .before .before .before .before .before .before .before .before in
     let text = s .args .text .now in
-    let h : same (nextLine text) header ≡ true = sym (c .before .before .before .before .before .is-named .ensures) ∙ c .before .before .before .before .if1 .taken in
-    runs-named (s .args .words .now) (s .args .rows) (s .args .tally) text (known-order (s .pre)) h (take-all (length text - 10) (drop 10 text) (omega (arith, length-drop 10 text))) (c .run-ordered .ensures)
+    let h : same (nextLine text) header ≡ true = sym (c .before .before .before .before .before .before .is-named .ensures) ∙ c .before .before .before .before .before .if1 .taken in
+    runs-named (s .args .table .now) (s .args .tally) text (known-order (s .pre)) h (take-all (length text - 10) (drop 10 text) (omega (arith, length-drop 10 text))) (c .before .run-ordered .ensures)
 
 returns-2 : tie.Need-returns-2
 returns-2 c =
-    let s = c .before .before .before .before .before .before in
-    runs-plain (s .args .words .now) (s .args .rows) (s .args .tally) (s .args .text .now) (known-order (s .pre)) (sym (c .before .before .before .before .is-named .ensures) ∙ c .before .before .before .if1 .left) (c .run-ordered2 .ensures)
+    let s = c .before .before .before .before .before .before .before in
+    runs-plain (s .args .table .now) (s .args .tally) (s .args .text .now) (known-order (s .pre)) (sym (c .before .before .before .before .before .is-named .ensures) ∙ c .before .before .before .before .if1 .left) (c .before .run-ordered2 .ensures)
 
 pub run-text-spec : {M : Type 1} → statement M
 run-text-spec =
@@ -45,5 +45,7 @@ run-text-spec =
     (λ c. search needs)
     (λ c κs. search needs)
     (λ c κs. search needs)
+    (λ c. search needs)
     returns
+    (λ c. search needs)
     returns-2)

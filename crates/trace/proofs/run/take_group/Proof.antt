@@ -10,7 +10,6 @@ use Rattle.model.specs.Answers.{number}
 use Rattle.text.specs.Result.{Result, value, refused}
 use Rattle.text.specs.Group.{readGroup, groupAnswer, countOf}
 use Rattle.text.proofs.Laws.GroupLine.{refused-group-is-2}
-use Rattle.rules.specs.Steps.{Grouped}
 use Rattle.trace.proofs.Laws.Turn.{taken-group, taken-misspelt}
 use Rattle.trace.proofs.Laws.Names.{Got, got, none-got}
 use borrow.Author.Needs.{needs}
@@ -29,16 +28,19 @@ slice-aggregate-drop-known c = sym (length-take-le _ _ (left (c .before .before 
 
 returns : tie.Need-returns
 returns c =
-    let s = c .before .before .before .before .before .before .before .before .before .before in
-    let g = left (c .before .before .before .before .before) in
-    let k = c .drop-known .ensures in
-    (taken-group (s .args .words .now) (s .args .rows) (s .args .tally) (s .args .line .now) (g .read ∙ ap value (sym (g .taken))) (k .0), record { orderly = k .1; placed = k .2; long = k .0 .long })
+    let s = c .before .before .before .before .before .before .before .before .before .before .before in
+    let g = left (c .before .before .before .before .before .before) in
+    let k = c .before .drop-known .ensures in
+    (taken-group (s .args .table .now) (s .args .tally) (s .args .line .now) (g .read ∙ ap value (sym (g .taken))) (k .0), record { orderly = k .1; placed = k .2 })
 
 returns-2 : tie.Need-returns-2
 returns-2 c =
     let s = c .before .before .before .before .before .before in
     let read : readGroup (s .args .line .now) ≡ refused 2 = none-got (s .args .line .now) (number (c .before .enum-told .given .0 .0)) (ap groupAnswer (sym (c .before .enum-told .given .1)) ∙ c .before .before .before .read-group .ensures .0) in
-    (taken-misspelt (s .args .words .now) (s .args .rows) (s .args .tally) (s .args .line .now) read (c .count-refused .ensures) (s .pre .long), rw (ap (λ (y : Tally). y .issued) (c .count-refused .ensures)) (s .pre))
+    (taken-misspelt (s .args .table .now) (s .args .tally) (s .args .line .now) read (c .count-refused .ensures), rw (ap (λ (y : Tally). y .issued) (c .count-refused .ensures)) (s .pre))
+
+drop-known-requires : tie.Need-drop-known-requires
+drop-known-requires c κs = let s = c .before .before .before .before .before .before .before .before .before in (s .pre .orderly, s .pre .placed)
 
 pub take-group-spec : {M : Type 1} → statement M
 take-group-spec =
@@ -48,8 +50,9 @@ take-group-spec =
     (λ c. search needs)
     array-share-prefix-names
     slice-aggregate-drop-known
-    (λ c κs. search needs)
+    drop-known-requires
     (λ c. search needs)
     (λ c κs. search needs)
+    (λ c. search needs)
     returns
     returns-2)

@@ -10,17 +10,20 @@ use borrow.Author.Needs.{needs}
 use Rattle.trace.proofs.run.take_line.Statement.{statement}
 use Rattle.trace.proofs.run.take_line.Tie as tie
 
+step-known-requires : tie.Need-step-known-requires
+step-known-requires c κs = let s = c .before .before .before .before .before .before .before in (s .pre .orderly, s .pre .placed)
+
 returns : tie.Need-returns
 returns c =
-    let s = c .before .before .before .before .before .before .before .before in
-    let k = c .step-known .ensures in
-    (taken-event (s .args .words .now) (s .args .rows) (s .args .tally) (s .args .line .now) (s .args .spelling) (sym (ap readAnswer (sym (c .before .before .before .before .found .given .1)) ∙ c .before .before .before .before .before .before .read-event .ensures)) (k .0), record { orderly = k .1; placed = k .2; long = k .0 .long })
+    let s = c .before .before .before .before .before .before .before .before .before in
+    let k = c .before .step-known .ensures in
+    (taken-event (s .args .table .now) (s .args .tally) (s .args .line .now) (s .args .spelling) (sym (ap readAnswer (sym (c .before .before .before .before .before .found .given .1)) ∙ c .before .before .before .before .before .before .before .read-event .ensures)) (k .0), record { orderly = k .1; placed = k .2 })
 
 returns-2 : tie.Need-returns-2
 returns-2 c =
-    let s = c .before .before .before .before .before .before .before in
-    let read : readEvent (s .args .spelling) (s .args .line .now) ≡ refused (number (c .before .before .before .enum-told .given .0 .0)) = sym (ap readAnswer (sym (c .before .before .before .enum-told .given .1)) ∙ c .before .before .before .before .before .read-event .ensures) in
-    (taken-other (s .args .words .now) (s .args .rows) (s .args .tally) (s .args .line .now) (s .args .spelling) read (c .take-group .ensures .0), c .take-group .ensures .1)
+    let s = c .before .before .before .before .before .before .before .before in
+    let read : readEvent (s .args .spelling) (s .args .line .now) ≡ refused (number (c .before .before .before .before .enum-told .given .0 .0)) = sym (ap readAnswer (sym (c .before .before .before .before .enum-told .given .1)) ∙ c .before .before .before .before .before .before .read-event .ensures) in
+    (taken-other (s .args .table .now) (s .args .tally) (s .args .line .now) (s .args .spelling) read (c .before .take-group .ensures .0), c .before .take-group .ensures .1)
 
 pub take-line-spec : {M : Type 1} → statement M
 take-line-spec =
@@ -28,8 +31,10 @@ take-line-spec =
     (tie.spec
     (λ c κs. search needs)
     (λ c. search needs)
-    (λ c κs. search needs)
+    step-known-requires
     (λ c. search needs)
     (λ c κs. search needs)
+    (λ c. search needs)
     returns
+    (λ c. search needs)
     returns-2)

@@ -1,0 +1,30 @@
+-- "The table is lent by the caller as a run of records": what is asked of the engine over records, and how they go through rows.
+-- Assumes nothing.
+use Prim.Native.Nat.{ℕ, _≤_, _<_}
+use mathlib.Core.Path.{_≡_}
+use mathlib.Core.Bool.{cond}
+use mathlib.Core.List.{List}
+use lib.Dec.{leb}
+use lib.ListN.{length, take}
+use Rattle.model.specs.declared.Tally.{Tally}
+use Rattle.model.specs.Requests.{Request, Single, Group}
+use Rattle.model.specs.Answers.{verdictOf}
+use Rattle.rules.specs.declared.Asked.{Asked}
+use Rattle.rules.specs.declared.Asked.the-variants as A
+use Rattle.rules.specs.declared.Outcome.{Outcome}
+use Rattle.rules.specs.Steps.{Stepped}
+
+-- the request: an event, or the drop of the names that are lent beside it. An event has no use for them
+abbrev pub requestOf : Asked → List ℕ → Request
+requestOf (A.Single e) names = Single e
+requestOf A.Group names = Group names
+
+-- how many of n records are taken apart: none of more than 1,024, which are not in order
+abbrev pub held : ℕ → ℕ
+held n = cond (leb n 1024) n 0
+
+-- a request on the first n of the rows ws leaves the rows ws′, and gets this outcome: above 1,024 it is refusal 1, and the tally stays
+pub record Requested (ws : List (List ℕ)) (n : ℕ) (t : Tally) (q : Request) (ws′ : List (List ℕ)) (r : Outcome) : Type 0 where
+  pub long : length ws′ ≡ length ws
+  pub few : n ≤ 1024 → Stepped (take n ws) t q (take n ws′) r
+  pub many : 1024 < n → (r .tally ≡ t) × (verdictOf (r .answer) ≡ record { refusal = 1; name = 0 })
