@@ -17,7 +17,7 @@ ghost use lib.ListN.{length, getD, set, take, drop};
 ghost use Rattle.model.specs.Step;
 ghost use Rattle.model.specs.Table.{emptyRow};
 ghost use Rattle.model.specs.Answers.{verdictOf};
-ghost use Rattle.table.specs.Words.{six, rowsIn};
+ghost use Rattle.table.specs.Words.{wordsOf, rowsIn};
 ghost use Rattle.rules.specs.Steps.{lends, Stepped};
 ghost use Rattle.rules.specs.Records;
 ghost use Rattle.rules.specs.Records.{requestOf, Requested};
@@ -32,7 +32,7 @@ fn held(n: usize) -> usize
 // A record into the row i.
 fn put(rows: &mut [[u32; 6]; 1024], i: usize, c: Cap)
     requires { ⌜ (i < 1024) × (length (now rows) ≡ 1024) ⌝ }
-    ensures { λ _. ⌜ now (rows .exit) ≡ set (now (rows .entry)) i (six c) ⌝ }
+    ensures { λ _. ⌜ now (rows .exit) ≡ set (now (rows .entry)) i (wordsOf c) ⌝ }
 {
     set_row(rows, i, c);
 }
@@ -48,7 +48,7 @@ fn get(rows: &[[u32; 6]; 1024], i: usize) -> Cap
 // The first n records into rows. Internal: the caller keeps n within both.
 fn load(table: &[Cap], n: usize, rows: &mut [[u32; 6]; 1024])
     requires { ⌜ (n ≤ length (now table)) × (n ≤ 1024) ⌝ }
-    ensures { λ _. ⌜ now (rows .exit) ≡ map six (take n (now (table .entry))) ++ drop n (now (rows .entry)) ⌝ }
+    ensures { λ _. ⌜ now (rows .exit) ≡ map wordsOf (take n (now (table .entry))) ++ drop n (now (rows .entry)) ⌝ }
 {
     let mut i: usize = 0;
     while i < n {
