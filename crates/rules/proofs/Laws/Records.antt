@@ -26,7 +26,8 @@ use Rattle.table.proofs.Laws.Words.{length-in}
 use Rattle.rules.specs.declared.Outcome.{Outcome}
 use Rattle.rules.specs.Steps.{lends, Stepped}
 use Rattle.rules.specs.Records.{held, Requested}
-use Rattle.rules.proofs.Laws.Steps.{too-many, stepped-disordered}
+use Rattle.table.proofs.Laws.Ordered.{too-many}
+use Rattle.rules.proofs.Laws.Steps.{stepped-disordered}
 
 map-append : {A B : Type 0} (f : A → B) (xs ys : List A) → map f (xs ++ ys) ≡ map f xs ++ map f ys
 map-append f [] ys = refl
