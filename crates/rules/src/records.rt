@@ -8,6 +8,7 @@ use model::Cap;
 use model::Refusal;
 use model::Tally;
 use table::Row;
+use table::WIDTH;
 use table::words::row_at;
 use table::words::set_row;
 ghost use mathlib.Core.Path.{_≡_};
@@ -104,7 +105,7 @@ pub fn apply(table: &mut [Cap], tally: &mut Tally, asked: Asked, names: &[u32]) 
         × (now (tally .exit) ≡ Step.after (lends (now (table .entry)) (now (tally .entry))) (requestOf asked (now (names .entry))) .tally)
         × (verdictOf r ≡ Step.answer (lends (now (table .entry)) (now (tally .entry))) (requestOf asked (now (names .entry)))) ⌝ }
 {
-    let mut rows = [[0u32; 6]; 1024];
+    let mut rows = [[0u32; WIDTH]; 1024];
     let n = table.len();
     let m = held(n);
     load(table, m, &mut rows);

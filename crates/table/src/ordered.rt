@@ -174,3 +174,15 @@ pub fn look_at(table: &[Row], issued: u32, places: &mut [u16; 1024]) -> Look
         Look::Disordered
     }
 }
+
+// The same, for a caller that has no use for the places.
+pub fn in_order(table: &[Row], issued: u32) -> bool
+    ensures { λ r. ⌜ r ≡ inOrder (rowsIn (now (table .entry))) issued ⌝ }
+{
+    let mut places = [0u16; 1024];
+    let found = look_at(table, issued, &mut places);
+    match found {
+        Look::InOrder(_) => true,
+        Look::Disordered => false,
+    }
+}

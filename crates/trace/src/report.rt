@@ -4,6 +4,8 @@ use crate::run::RunAnswer;
 use listing::writing;
 use model::Refusal;
 use model::Tally;
+use table::Row;
+use table::WIDTH;
 use text::pieces;
 use text::write::Written;
 ghost use mathlib.Core.Path.{_≡_};
@@ -81,7 +83,7 @@ fn put_answer(refusal: u32, number: u32, out: &mut [u8]) -> usize
 // Writes the line of an answer and the listing of a table in order. The listing, which is measured before it is written, goes first:
 // where it does not fit, nothing is written.
 fn write_report(
-    table: &[[u32; 6]],
+    table: &[Row],
     issued: u32,
     refusal: u32,
     number: u32,
@@ -130,7 +132,7 @@ pub fn check(input: &[u8], out: &mut [u8]) -> Written
         drops: 0,
         refused: 0,
     };
-    let mut table = [[0u32; 6]; 1024];
+    let mut table = [[0u32; WIDTH]; 1024];
     let ran = run::run_lent(&mut table, none, input);
     let answer = ran.answer;
     let issued = ran.tally.issued;

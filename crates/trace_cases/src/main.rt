@@ -55,13 +55,13 @@ fn run_on_first(table: &mut [[u32; 6]], rows: usize, issued: u32, input: &[u8]) 
 
 // The same on so many empty rows, up to 1,025.
 fn run_on_empty(rows: usize, issued: u32, input: &[u8]) {
-    let mut table = [[0u32; 6]; 1025];
+    let mut table = [[0u32; WIDTH]; 1025];
     run_on_first(&mut table, rows, issued, input);
 }
 
 // The table of refusal 1: rows both named 3.
 fn run_on_disordered(input: &[u8]) {
-    let mut table = [[0u32; 6]; 2];
+    let mut table = [[0u32; WIDTH]; 2];
     table[0] = [3, 0, 0, 0, 0, 0];
     table[1] = [3, 0, 0, 0, 0, 0];
     run_on(&mut table, 3, input);
@@ -69,7 +69,7 @@ fn run_on_disordered(input: &[u8]) {
 
 // Trace 11, its second half: the listing of an empty table with all names but one issued is read, and two are asked for.
 fn last_name() {
-    let mut table = [[0u32; 6]; 1024];
+    let mut table = [[0u32; WIDTH]; 1024];
     let mut tally = [0u32; 7];
     reading::read_listing(b"(issued 999999)\n", &mut table, &mut tally);
     let answer = run::run(&mut table, &mut tally, b"(create 0 8 rw)\n(create 0 8 rw)\n");
