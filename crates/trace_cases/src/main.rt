@@ -3,6 +3,8 @@
 use libc::STDOUT_FILENO;
 use listing::reading;
 use model::Tally;
+use table::Row;
+use table::WIDTH;
 use trace::run;
 use trace::run::RunAnswer;
 
@@ -38,14 +40,14 @@ fn print_answer(answer: RunAnswer) {
 }
 
 // Runs a trace on a table, and prints the refusal, 0 where every line is allowed, and the number of lines or the line.
-fn run_on(table: &mut [[u32; 6]], issued: u32, input: &[u8]) {
+fn run_on(table: &mut [Row], issued: u32, input: &[u8]) {
     let ran = run::run_lent(table, issued_so_far(issued), input);
     let answer = ran.answer;
     print_answer(answer);
 }
 
 // The same on the first rows of a table, or on all where it has no more.
-fn run_on_first(table: &mut [[u32; 6]], rows: usize, issued: u32, input: &[u8]) {
+fn run_on_first(table: &mut [Row], rows: usize, issued: u32, input: &[u8]) {
     if rows < table.len() {
         run_on(&mut table[..rows], issued, input);
     } else {

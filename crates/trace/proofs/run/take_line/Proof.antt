@@ -12,9 +12,9 @@ use Rattle.trace.proofs.run.take_line.Tie as tie
 
 returns : tie.Need-returns
 returns c =
-    let s = c .before .before .before .before .before .before .before .before .before in
+    let s = c .before .before .before .before .before .before .before .before .before .before in
     let k = c .before .take .ensures in
-    (taken-event (s .args .table .now) (s .args .tally) (s .args .line .now) (s .args .spelling) (sym (ap readAnswer (sym (c .before .before .before .before .before .found .given .1)) ∙ c .before .before .before .before .before .before .before .read-event .ensures)) (k .0), k .1)
+    (taken-event (s .args .table .now) (s .args .tally) (s .args .line .now) (s .args .spelling) (sym (ap readAnswer (sym (c .before .before .before .before .before .before .found .given .1)) ∙ c .before .before .before .before .before .before .before .before .read-event .ensures)) (k .0), k .1)
 
 returns-2 : tie.Need-returns-2
 returns-2 c =
@@ -27,6 +27,7 @@ take-line-spec =
     tie.close
     (tie.spec
     (λ c κs. search needs)
+    (λ c. search needs)
     (λ c. search needs)
     (λ c κs. search needs)
     (λ c. search needs)
