@@ -30,7 +30,7 @@ fn add_row(table: &mut [Row; 1024], count: usize, row: Cap) -> usize
 }
 
 // The text behind its first bytes.
-pub fn past(text: &[u8], count: usize) -> &[u8]
+pub(crate) fn past(text: &[u8], count: usize) -> &[u8]
     ensures { λ r. ⌜ now r ≡ drop count (now (text .entry)) ⌝ }
 {
     if count < text.len() {
@@ -154,7 +154,7 @@ fn one_less(n: usize) -> usize
 }
 
 // Reads the lines of the roots into a table of zeros, and returns how many rows were stored.
-pub fn read_lines(text: &[u8], table: &mut [Row; 1024]) -> usize
+pub(crate) fn read_lines(text: &[u8], table: &mut [Row; 1024]) -> usize
     requires { ⌜ Stored (now table) 0 ⌝ }
     ensures { λ r. ⌜ Stored (now (table .exit)) r × (newest (now (table .exit)) r ≡ readLines 1024 (record { rest = now (text .entry); rows = [] })) ⌝ }
 {

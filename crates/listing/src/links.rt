@@ -40,7 +40,7 @@ fn parent_row(table: &[Row], n: usize, i: usize, seen: &[u16; 2048]) -> usize
 
 // Fills in each row's first child and next sibling, and behind the last row the first root: one pass from the last row to
 // the first, in which each row comes to stand before its later siblings.
-pub fn link(table: &[Row], n: usize, first: &mut [usize; 1025], next: &mut [usize; 1025])
+pub(crate) fn link(table: &[Row], n: usize, first: &mut [usize; 1025], next: &mut [usize; 1025])
     requires { ⌜ (n ≤ 1024) × Live (firstRows (now table) n) × (now first ≡ replicate 1025 n) × (now next ≡ replicate 1025 n) × (n ≤ length (now table)) ⌝ }
     ensures { λ _. ⌜ Linked (firstRows (now (table .entry)) n) (now (first .exit)) (now (next .exit)) ⌝ }
 {

@@ -139,7 +139,7 @@ fn listing_length(table: &[Row], n: usize, issued: u32) -> usize
 }
 
 // Writes the listing of the first n rows, all of them live, where it fits. Internal: it asks for rows in order.
-pub fn write_rows(table: &[Row], n: usize, issued: u32, out: &mut [u8]) -> Written
+pub(crate) fn write_rows(table: &[Row], n: usize, issued: u32, out: &mut [u8]) -> Written
     requires { ⌜ (n ≤ 1024) × Live (firstRows (now table) n) × (n ≤ length (now table)) ⌝ }
     ensures { λ r. ⌜ Writes true (listed (firstRows (now (table .entry)) n) issued) (now (out .entry)) (now (out .exit)) r × (length (listed (firstRows (now (table .entry)) n) issued) ≤ 39936) ⌝ }
 {

@@ -94,7 +94,7 @@ fn spread_access(
 }
 
 // The marks of an access through the name u.
-pub fn marks_of_access(
+pub(crate) fn marks_of_access(
     table: &[Row],
     k: usize,
     places: &[u16; 1024],
@@ -148,7 +148,7 @@ fn spread_names(
 }
 
 // The marks of names dropped together.
-pub fn marks_of_names(
+pub(crate) fn marks_of_names(
     table: &[Row],
     k: usize,
     places: &[u16; 1024],

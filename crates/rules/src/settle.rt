@@ -50,7 +50,7 @@ fn lower_row(table: &mut [Row], i: usize, mark: u8)
 }
 
 // Where no row ends: of the first k rows, those marked 1 get `ro`.
-pub fn lower(table: &mut [Row], k: usize, marks: &[u8; 1024])
+pub(crate) fn lower(table: &mut [Row], k: usize, marks: &[u8; 1024])
     requires { ⌜ (k ≤ 1024) × (k ≤ length (now table)) ⌝ }
     ensures { λ _. ⌜ Lowers (now (marks .entry)) (rowsIn (now (table .entry))) (rowsIn (now (table .exit))) k ⌝ }
 {
@@ -114,7 +114,7 @@ fn clear(table: &mut [Row], from: usize, to: usize)
 }
 
 // The first k rows after their marks; the answer is how many are left.
-pub fn settle(
+pub(crate) fn settle(
     table: &mut [Row],
     k: usize,
     marks: &[u8; 1024],

@@ -208,7 +208,7 @@ pub fn take(
 }
 
 // A request on any table; one that is not in order, as above 1,024 rows, is refusal 1.
-pub fn step(table: &mut [Row], t: Tally, asked: Asked, names: &[u32]) -> Outcome
+pub(crate) fn step(table: &mut [Row], t: Tally, asked: Asked, names: &[u32]) -> Outcome
     ensures { λ r. ⌜ Stepped (now (table .entry)) t (requestOf asked (now (names .entry))) (now (table .exit)) r ⌝ }
 {
     let mut places = [0u16; 1024];

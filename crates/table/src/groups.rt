@@ -53,7 +53,7 @@ fn judge_names(table: &[Row], k: usize, issued: u32, names: &[u32]) -> Answer
 }
 
 // The answer to a group of names. Internal: the caller shows that the table is in order.
-pub fn judge_group(table: &[Row], k: usize, issued: u32, names: &[u32]) -> Answer
+pub(crate) fn judge_group(table: &[Row], k: usize, issued: u32, names: &[u32]) -> Answer
     requires { ⌜ Orderly (rowsIn (now table)) (length (now table)) k issued ⌝ }
     ensures { λ a. ⌜ verdictOf a ≡ verdict (judge (viewOf (rowsIn (now (table .entry))) issued) (Group (now (names .entry)))) 0 ⌝ }
 {

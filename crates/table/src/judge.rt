@@ -35,7 +35,7 @@ pub enum Place {
 }
 
 // Internal. Refusals 4 and 5.
-pub fn place_of(table: &[Row], k: usize, issued: u32, u: Name) -> Place
+pub(crate) fn place_of(table: &[Row], k: usize, issued: u32, u: Name) -> Place
     requires { ⌜ (k ≤ 1024) × Rise (rowsIn (now table)) k ⌝ }
     ensures { λ r. ⌜ Stands (rowsIn (now (table .entry))) k issued u r ⌝ }
 {
@@ -156,7 +156,7 @@ fn judge_borrow(
 }
 
 // The answer to an event. Internal: the caller shows that the table is in order.
-pub fn judge(table: &[Row], k: usize, issued: u32, e: Event) -> Answer
+pub(crate) fn judge(table: &[Row], k: usize, issued: u32, e: Event) -> Answer
     requires { ⌜ Orderly (rowsIn (now table)) (length (now table)) k issued ⌝ }
     ensures { λ a. ⌜ verdictOf a ≡ verdict (Refusals.judge (viewOf (rowsIn (now (table .entry))) issued) (Single e)) (newName issued (Single e)) ⌝ }
 {

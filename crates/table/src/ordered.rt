@@ -54,7 +54,7 @@ fn rest_is_empty(table: &[Row], k: usize) -> bool
     true
 }
 
-pub fn is_right(r: u32) -> bool
+pub(crate) fn is_right(r: u32) -> bool
     ensures { λ b. ⌜ b ≡ isRight r ⌝ }
 {
     if r == 1 { true } else { r == 2 }

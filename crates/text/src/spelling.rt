@@ -11,7 +11,7 @@ pub enum Spelling {
 }
 
 // Internal. Whether a new name is written exactly where the spelling writes one.
-pub fn writes_name(spelling: Spelling, new: NewName) -> bool
+pub(crate) fn writes_name(spelling: Spelling, new: NewName) -> bool
     ensures { λ r. ⌜ r ≡ writesName spelling new ⌝ }
 {
     match spelling {

@@ -21,7 +21,7 @@ pub enum Written {
 }
 
 // Internal. Writes a line: its word, its numbers and its ending.
-pub fn write_line(word: &[u8], numbers: &[u32], ending: &[u8], out: &mut [u8]) -> Written
+pub(crate) fn write_line(word: &[u8], numbers: &[u32], ending: &[u8], out: &mut [u8]) -> Written
     requires { ⌜ Short (now word) (now numbers) (now ending) ⌝ }
     ensures { λ r. ⌜ Writes true (now (word .entry) ++ (spaced (now (numbers .entry)) ++ now (ending .entry))) (now (out .entry)) (now (out .exit)) r ⌝ }
 {

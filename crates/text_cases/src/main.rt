@@ -1,6 +1,7 @@
 // Runs the public calls on event lines, document 01, "The bracket text", and card 1: the examples for refusals 2 and 11, and a table
 // of good and bad lines, which is standard input. Each case is one line of output: what it is, and what was answered; a line that is
-// read is answered in both spellings.
+// read is answered in both spellings. Last comes the class of each of the 256 byte values, 64 to a line.
+mod classes;
 mod reading;
 mod show;
 mod writing;
@@ -13,4 +14,5 @@ fn main() {
     reading::next_lines();
     writing::lengths();
     writing::refusals();
+    classes::all();
 }
