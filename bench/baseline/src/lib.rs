@@ -1,8 +1,8 @@
 //! The library's promises kept by plain Rust, without `unsafe` and without allocation.
 //!
 //! It is the yardstick of the benchmarks, so it is written to be fast: one pass checks the order of
-//! a table and finds every parent's row, one more pass carries an event out, and a run checks the
-//! order once.
+//! a table and finds every parent's row, one more pass carries an event out on the lent rows, and a
+//! run checks the order once.
 
 mod event;
 mod group;
