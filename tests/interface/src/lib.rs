@@ -18,6 +18,17 @@ pub trait Interface {
     /// One event: `kz_apply_named` where a name is written, else `kz_apply`.
     fn apply(&self, table: &mut [Cap], tally: &mut Tally, event: Event) -> u64;
 
+    /// Events in turn, going on after refusals: how many were taken. An answer is the refusal's number
+    /// and a value.
+    fn apply_all(
+        &self,
+        table: &mut [Cap],
+        tally: &mut Tally,
+        events: &[Event],
+        names: &[u32],
+        answers: &mut [[u32; 2]],
+    ) -> usize;
+
     fn run(&self, table: &mut [Cap], tally: &mut Tally, text: &[u8]) -> u64;
 
     /// An event's line: `kz_write_named` where a name is written, else `kz_write_event`.

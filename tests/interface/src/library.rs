@@ -30,6 +30,22 @@ impl Interface for Library {
         }
     }
 
+    /// The library has no call for many events, so each is applied by itself.
+    fn apply_all(
+        &self,
+        table: &mut [Cap],
+        tally: &mut Tally,
+        events: &[Event],
+        _names: &[u32],
+        answers: &mut [[u32; 2]],
+    ) -> usize {
+        for (event, answer) in events.iter().zip(answers.iter_mut()) {
+            let packed = self.apply(table, tally, *event);
+            *answer = [(packed >> 32) as u32, packed as u32];
+        }
+        events.len().min(answers.len())
+    }
+
     fn run(&self, table: &mut [Cap], tally: &mut Tally, text: &[u8]) -> u64 {
         let rows = table.len();
         unsafe { ffi::kz_run(table.as_mut_ptr(), rows, tally, text.as_ptr(), text.len()) }

@@ -22,6 +22,17 @@ impl Interface for Baseline {
         packed(baseline::apply(table, tally, event))
     }
 
+    fn apply_all(
+        &self,
+        table: &mut [Cap],
+        tally: &mut Tally,
+        events: &[Event],
+        names: &[u32],
+        answers: &mut [[u32; 2]],
+    ) -> usize {
+        baseline::apply_all(table, tally, events, names, answers)
+    }
+
     fn run(&self, table: &mut [Cap], tally: &mut Tally, text: &[u8]) -> u64 {
         match baseline::run(table, tally, text) {
             Ok(lines) => u64::from(lines),
