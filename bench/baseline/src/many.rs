@@ -11,7 +11,7 @@ use crate::step::{Ordered, Tally, Work, in_order};
 pub fn apply_all(
     table: &mut [Cap],
     tally: &mut Tally,
-    events: &[Event],
+    events: &[impl Into<Event> + Copy],
     names: &[u32],
     answers: &mut [[u32; 2]],
 ) -> usize {
@@ -29,20 +29,21 @@ pub fn apply_all(
     taken
 }
 
-struct Many<'a> {
-    events: &'a [Event],
+struct Many<'a, E> {
+    events: &'a [E],
     names: &'a [u32],
     answers: &'a mut [[u32; 2]],
 }
 
-impl Work for Many<'_> {
+impl<E: Into<Event> + Copy> Work for Many<'_, E> {
     type Answer = ();
 
     fn on<const ROWS: usize>(self, mut ordered: Ordered<ROWS>) {
         for (event, answer) in self.events.iter().zip(self.answers) {
+            let event: Event = (*event).into();
             let outcome = match event.kind {
-                DROP_ALL => drop_names(&mut ordered, names_of(event, self.names)).map(|()| 0),
-                _ => ordered.step(*event),
+                DROP_ALL => drop_names(&mut ordered, names_of(&event, self.names)).map(|()| 0),
+                _ => ordered.step(event),
             };
             *answer = match outcome {
                 Ok(value) => [0, value],

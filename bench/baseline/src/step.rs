@@ -66,9 +66,14 @@ fn in_rows<const ROWS: usize, const SLOTS: usize, W: Work>(
     }))
 }
 
-/// One event: the new name (0 where none is made), or the refusal.
-pub fn apply(table: &mut [Cap], tally: &mut Tally, event: Event) -> Result<u32, Refusal> {
-    in_order(table, tally, One(event)).unwrap_or(Err(Refusal::Disordered))
+/// One event: the new name (0 where none is made), or the refusal. Whoever has its values in another
+/// layout need not copy them first.
+pub fn apply(
+    table: &mut [Cap],
+    tally: &mut Tally,
+    event: impl Into<Event>,
+) -> Result<u32, Refusal> {
+    in_order(table, tally, One(event.into())).unwrap_or(Err(Refusal::Disordered))
 }
 
 struct One(Event);
@@ -240,15 +245,23 @@ impl<const ROWS: usize> Ordered<'_, ROWS> {
         self.tally.issued
     }
 
-    /// The first row that the access strikes by itself. No row before it can inherit a mark.
+    /// The first row that the access strikes by itself. No row before it can inherit a mark. Most rows
+    /// are not touched, so four are looked at for each branch.
     #[inline]
     fn first_struck(&self, marks: &Marks<ROWS>, span: Span) -> usize {
         let rows = &self.table[..self.index.live];
-        let struck = |at: usize, row: &Cap| row.span().touches(span) && marks[at % ROWS] == 0;
-        let mut rows_at = rows.iter().enumerate();
-        rows_at
-            .position(|(at, row)| struck(at, row))
-            .unwrap_or(rows.len())
+        let touches = |row: &Cap| row.span().touches(span);
+        let struck = |at: &usize| touches(&rows[*at]) && marks[*at % ROWS] == 0;
+        let mut at = 0;
+        for [one, two, three, four] in rows.as_chunks().0 {
+            if touches(one) | touches(two) | touches(three) | touches(four)
+                && let Some(found) = (at..at + 4).find(struck)
+            {
+                return found;
+            }
+            at += 4;
+        }
+        (at..rows.len()).find(struck).unwrap_or(rows.len())
     }
 
     /// Marks what is struck from the row `first` on, and lowers it.
@@ -261,7 +274,8 @@ impl<const ROWS: usize> Ordered<'_, ROWS> {
     }
 
     /// Marks what is struck from the row `first` on, closes the gaps that it leaves, all in one
-    /// pass, and clears the rows that come free.
+    /// pass, and clears the rows that come free. Inlined, so that a drop asks for no span.
+    #[inline(always)]
     fn remove(&mut self, marks: &mut Marks<ROWS>, span: Span, first: usize) {
         let live = self.index.live;
         if first == live {
