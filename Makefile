@@ -10,16 +10,37 @@ RT ?= rt
 CARGO ?= cargo
 INSTALL ?= install
 
-libraries := target/staticlib
+# Each crate's own archive, and the archives that are linked.
+proved := target/staticlib
+libraries := target/lib
+archives := $(libraries)/libkelzoud.a $(libraries)/libkelzoud-events.a
+packages := kelzoud.pc kelzoud-events.pc
 root := $(DESTDIR)$(PREFIX)
 
-.PHONY: all library program install install-built uninstall test bench clean
+.PHONY: all library archives program install install-built uninstall test bench clean
 
 all: library program
 
 # rt itself knows what is up to date.
 library:
+	$(RT) staticlib kelzoud_events
 	$(RT) staticlib kelzoud
+	$(MAKE) archives
+
+archives: $(archives)
+
+# The calls for events are exported by a crate of their own, so that they can be linked alone. The
+# whole library has the objects of both.
+$(libraries)/libkelzoud.a: $(proved)/libkelzoud.a $(proved)/libkelzoud_events.a
+	rm -rf $(libraries)/objects $@
+	mkdir -p $(libraries)/objects
+	cd $(libraries)/objects && for archive in $^; do $(AR) x ../../../$$archive || exit 1; done
+	$(AR) rcs $@ $(libraries)/objects/*.o
+	rm -r $(libraries)/objects
+
+$(libraries)/libkelzoud-events.a: $(proved)/libkelzoud_events.a
+	mkdir -p $(libraries)
+	cp $< $@
 
 program:
 	$(RT) check capcheck
@@ -30,15 +51,18 @@ install: all
 install-built:
 	$(INSTALL) -d $(root)/include $(root)/lib/pkgconfig $(root)/bin $(root)/libexec/kelzoud
 	$(INSTALL) -m 644 include/kelzoud.h $(root)/include/
-	$(INSTALL) -m 644 $(libraries)/libkelzoud.a $(root)/lib/
+	$(INSTALL) -m 644 $(archives) $(root)/lib/
 	$(INSTALL) -m 755 capcheck $(root)/bin/
 	$(INSTALL) -m 755 target/bin/capcheck $(root)/libexec/kelzoud/
-	sed -e 's|@PREFIX@|$(PREFIX)|' -e 's|@VERSION@|$(VERSION)|' kelzoud.pc.in \
-	    > $(root)/lib/pkgconfig/kelzoud.pc
+	for package in $(packages); do \
+	    sed -e 's|@PREFIX@|$(PREFIX)|' -e 's|@VERSION@|$(VERSION)|' $$package.in \
+	        > $(root)/lib/pkgconfig/$$package || exit 1; \
+	done
 
 uninstall:
-	rm -f $(root)/include/kelzoud.h $(root)/lib/libkelzoud.a $(root)/bin/capcheck \
-	    $(root)/lib/pkgconfig/kelzoud.pc $(root)/libexec/kelzoud/capcheck
+	rm -f $(root)/include/kelzoud.h $(root)/bin/capcheck $(root)/libexec/kelzoud/capcheck \
+	    $(addprefix $(root)/lib/,$(notdir $(archives))) \
+	    $(addprefix $(root)/lib/pkgconfig/,$(packages))
 	if [ -d $(root)/libexec/kelzoud ]; then rmdir $(root)/libexec/kelzoud; fi
 
 test:

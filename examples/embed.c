@@ -42,32 +42,31 @@ static const struct entry entries[] = {
 };
 
 struct simulator {
-    kz_cap table[ROWS];
-    kz_tally tally;
+    kz_lent lent;              /* the table and its tally */
     uint32_t names[REGISTERS]; /* the name of the capability in each register */
 };
 
-static uint64_t take(struct simulator *s, const struct entry *e) {
+static kz_answer take(const struct simulator *s, const struct entry *e) {
     uint32_t name = s->names[e->from];
     switch (e->operation) {
     case ALLOCATE:
-        return kz_create(s->table, ROWS, &s->tally, e->address, e->size, KZ_RW);
+        return kz_create(&s->lent, e->address, e->size, KZ_RW);
     case BORROW:
-        return kz_borrow(s->table, ROWS, &s->tally, name, e->address, e->size, KZ_RW);
+        return kz_borrow(&s->lent, name, e->address, e->size, KZ_RW);
     case BORROW_SHARED:
-        return kz_borrow(s->table, ROWS, &s->tally, name, e->address, e->size, KZ_RO);
+        return kz_borrow(&s->lent, name, e->address, e->size, KZ_RO);
     case LOAD:
-        return kz_read(s->table, ROWS, &s->tally, name, e->address, e->size);
+        return kz_read(&s->lent, name, e->address, e->size);
     case STORE:
-        return kz_write(s->table, ROWS, &s->tally, name, e->address, e->size);
+        return kz_write(&s->lent, name, e->address, e->size);
     case RELEASE:
         break;
     }
-    return kz_drop(s->table, ROWS, &s->tally, name);
+    return kz_drop(&s->lent, name);
 }
 
-static const char *reason(uint32_t number) {
-    switch (number) {
+static const char *reason(uint32_t refusal) {
+    switch (refusal) {
     case KZ_ENDED:
         return "the capability has ended";
     case KZ_OUTSIDE_SPAN:
@@ -79,36 +78,38 @@ static const char *reason(uint32_t number) {
     }
 }
 
-static void report(const struct entry *e, uint64_t answer, uint32_t name) {
-    printf("%#x: capability %u: refusal %u, %s\n", e->pc, (unsigned)name,
-           (unsigned)kz_number(answer), reason(kz_number(answer)));
+static void report(const struct entry *e, uint32_t refusal, uint32_t name) {
+    printf("%#x: capability %u: refusal %u, %s\n", e->pc, (unsigned)name, (unsigned)refusal,
+           reason(refusal));
 }
 
 static void print_summary(const struct simulator *s) {
     static uint8_t listing[KZ_MAX_LISTING];
-    const kz_tally *t = &s->tally;
-    uint64_t answer = kz_write_listing(s->table, ROWS, t->issued, listing, sizeof listing);
+    const kz_tally *t = s->lent.tally;
+    kz_answer written = kz_write_listing(&s->lent, listing, sizeof listing);
     printf("%u creates, %u borrows, %u reads, %u writes, %u drops, %u refused\n",
            (unsigned)t->creates, (unsigned)t->borrows, (unsigned)t->reads, (unsigned)t->writes,
            (unsigned)t->drops, (unsigned)t->refused);
-    fwrite(listing, 1, kz_value(answer), stdout);
+    fwrite(listing, 1, written.value, stdout);
 }
 
 int main(void) {
-    static struct simulator s; /* all zeros: an empty table with no name issued */
+    static kz_cap table[ROWS]; /* all zeros: an empty table with no name issued */
+    static kz_tally tally;
+    struct simulator s = {{table, ROWS, &tally}, {0}};
     size_t count = sizeof entries / sizeof entries[0];
     size_t i;
     for (i = 0; i < count; i++) {
         const struct entry *e = &entries[i];
-        uint64_t answer;
+        kz_answer answer;
         if (e->operation == RELEASE) {
             print_summary(&s);
         }
         answer = take(&s, e);
-        if (kz_number(answer) != 0) {
-            report(e, answer, s.names[e->from]);
-        } else if (kz_value(answer) != 0) {
-            s.names[e->to] = kz_value(answer);
+        if (answer.refusal != 0) {
+            report(e, answer.refusal, s.names[e->from]);
+        } else if (answer.value != 0) {
+            s.names[e->to] = answer.value;
         }
     }
     print_summary(&s);

@@ -6,15 +6,20 @@
  * different memory may run at the same time on different threads.
  *
  * What a caller owes:
- *   - A pointer is followed by a length, and points to as many elements as the length says. A
- *     pointer whose length is 0 is not followed and may be NULL. `tally`, `fields` and the `names`
- *     of kz_read_drop have no length and are never NULL.
+ *   - A pointer is followed by a length or a count, and points to as many elements as that says. A
+ *     pointer whose length is 0 is not followed and may be NULL. `answers` of kz_apply_all has as
+ *     many elements as there are events. All other pointers without a length are never NULL, the
+ *     tally of a kz_lent among them.
  *   - Whatever a call may write overlaps nothing else that the call is given.
  * Nothing else is asked. Every event, table, tally, line, text and listing gets an answer.
  *
- * Every call answers with a number and a value in one 64-bit word: see kz_number and kz_value. The
- * number is 0 when the call was allowed, else that of a refusal. A call that is refused changes
- * nothing that was lent, except as kz_apply, kz_apply_named, kz_drop_all and kz_run say.
+ * A call answers with a kz_answer: a refusal, which is 0 when the call was allowed, and a value, as
+ * each call says. A call that is refused changes nothing that was lent, except as kz_apply,
+ * kz_apply_all, kz_drop_all and kz_run say.
+ *
+ * First come the values and structs, then the calls, and at the end what the calls are made of, for
+ * the foreign function interfaces of other languages. A program that makes no other calls than those
+ * for events, kz_lend to kz_drop_all, may link libkelzoud-events.a in place of libkelzoud.a.
  */
 #ifndef KELZOUD_H
 #define KELZOUD_H
@@ -55,7 +60,8 @@ enum {
     KZ_BORROW = 2,
     KZ_READ = 3,
     KZ_WRITE = 4,
-    KZ_DROP = 5
+    KZ_DROP = 5,
+    KZ_DROP_ALL = 6 /* names that are dropped together */
 };
 
 /* The refusals in the order in which they are judged: where several apply, the first is given. */
@@ -102,36 +108,98 @@ typedef struct kz_tally {
     uint32_t refused;
 } kz_tally;
 
+/* What a caller lends for events: a table of `rows` rows, 0 to KZ_MAX_ROWS of them, and its tally. */
+typedef struct kz_lent {
+    kz_cap *table;
+    size_t rows;
+    kz_tally *tally;
+} kz_lent;
+
+/* All memory for a table of KZ_MAX_ROWS rows, all zeros at first: see kz_lend. */
+typedef struct kz_part {
+    kz_cap table[KZ_MAX_ROWS];
+    kz_tally tally;
+} kz_part;
+
 /*
- * One event. `kind` is one of the five; what a kind lacks is passed as 0 and not looked at:
+ * One event. What a kind lacks is 0 where an event is read, and not looked at where one is given:
  *
- *   KZ_CREATE  start length right        a new root, freshly allocated: ends every capability that is
- *                                        touched, and its subtree
- *   KZ_BORROW  name start length right   a new capability under a live one; takes nothing away
- *   KZ_READ    name start length         lowers to read-only every capability that is touched and is
- *                                        neither the reader nor an ancestor of it, and its subtree
- *   KZ_WRITE   name start length         ends the same capabilities and their subtrees
- *   KZ_DROP    name                      ends the capability and its subtree
+ *   KZ_CREATE    start length right        a new root, freshly allocated: ends every capability that
+ *                                          is touched, and its subtree
+ *   KZ_BORROW    name start length right   a new capability under a live one; takes nothing away
+ *   KZ_READ      name start length         lowers to read-only every capability that is touched and
+ *                                          is neither the reader nor an ancestor of it, and its
+ *                                          subtree
+ *   KZ_WRITE     name start length         ends the same capabilities and their subtrees
+ *   KZ_DROP      name                      ends the capability and its subtree
+ *   KZ_DROP_ALL  start length              ends several, which stand in a list of names beside the
+ *                                          event: `length` names, from the place `start` on
  *
- * A span of length 0 touches nothing, so a create of length 0 ends nothing. Whether a row is empty is
- * judged on the table before the event: KZ_TABLE_FULL is given also where a create would end some.
+ * A span of length 0 touches nothing, so a create of length 0 ends nothing. Any other kind, and any
+ * other right than KZ_RO and KZ_RW, is KZ_MISSPELT.
+ *
+ * A log may write out the name of what a create or borrow makes. Then `named` is not 0, and `written`
+ * is that name. Where it is not the issued number plus one, as 0 never is, the event is refused
+ * KZ_MISNAMED. The other kinds lack both.
+ *
+ * Begin with all zeros: later releases add fields, in which 0 asks for what is said here.
+ */
+typedef struct kz_event {
+    uint32_t kind;    /* KZ_CREATE to KZ_DROP_ALL */
+    uint32_t name;    /* the capability that the event goes through */
+    uint32_t start;   /* the first address of its span, or the first place of its names, from 0 */
+    uint32_t length;  /* how many addresses, or how many names */
+    uint32_t right;   /* KZ_RO or KZ_RW */
+    uint32_t named;   /* not 0 where a new name is written out */
+    uint32_t written; /* the new name that is written out */
+} kz_event;
+
+/* An answer. */
+typedef struct kz_answer {
+    uint32_t refusal; /* 0 for allowed, else a kz_refusal */
+    uint32_t value;   /* as each call says */
+} kz_answer;
+
+/* The whole of a part, lent. */
+static inline kz_lent kz_lend(kz_part *part);
+
+/*
+ * One event. The names of a KZ_DROP_ALL cannot be given here: it is refused KZ_MISGROUPED, and
+ * kz_drop_all is the call for it.
+ *
+ * Whether a row is empty is judged on the table before the event: KZ_TABLE_FULL is given also where a
+ * create would end some.
  *
  * Allowed: the value is the new name for a create or borrow, else 0. The table and the tally follow
  * the event; the tally counts the event, and not what it ended.
  * Refused, with value 0: KZ_DISORDERED changes nothing. Any other refusal adds one to the refused
  * count and changes nothing else.
  */
-uint64_t kz_apply(kz_cap *table, size_t rows, kz_tally *tally, uint8_t kind, uint32_t name,
-                  uint32_t start, uint32_t length, uint8_t right);
+static inline kz_answer kz_apply(const kz_lent *lent, const kz_event *event);
 
 /*
- * One event from a log that writes new names out: kz_apply, with besides in `written` the name that a
- * create or borrow is to get. Where that is not the issued number plus one, as 0 never is, the event
- * is refused KZ_MISNAMED. For the other kinds `written` is not looked at.
+ * Many events in one call: each in its turn, as by a call of kz_apply, on what those before it left. A
+ * refused one stops nothing: those after it are taken too. In `names` stand the names of every
+ * KZ_DROP_ALL, which is taken as kz_drop_all takes it; several may share names. One that reaches past
+ * the end of the list has no names: KZ_MISGROUPED.
+ *
+ * `answers` gets the answer to each event, at the same place. The number of events is returned. The
+ * order of the table is judged once, before the first: where it is not in order every answer is
+ * KZ_DISORDERED, and nothing else is changed.
  */
-uint64_t kz_apply_named(kz_cap *table, size_t rows, kz_tally *tally, uint8_t kind,
-                        uint32_t written, uint32_t name, uint32_t start, uint32_t length,
-                        uint8_t right);
+static inline size_t kz_apply_all(const kz_lent *lent, const kz_event *events, size_t count,
+                                  const uint32_t *names, size_t names_len, kz_answer *answers);
+
+/* kz_apply for each kind, with the values that the kind has, and no written name. */
+static inline kz_answer kz_create(const kz_lent *lent, uint32_t start, uint32_t length,
+                                  uint32_t right);
+static inline kz_answer kz_borrow(const kz_lent *lent, uint32_t name, uint32_t start,
+                                  uint32_t length, uint32_t right);
+static inline kz_answer kz_read(const kz_lent *lent, uint32_t name, uint32_t start,
+                                uint32_t length);
+static inline kz_answer kz_write(const kz_lent *lent, uint32_t name, uint32_t start,
+                                 uint32_t length);
+static inline kz_answer kz_drop(const kz_lent *lent, uint32_t name);
 
 /*
  * Capabilities dropped together, as when a function returns: `names` has 1 to KZ_MAX_GROUP names,
@@ -144,90 +212,62 @@ uint64_t kz_apply_named(kz_cap *table, size_t rows, kz_tally *tally, uint8_t kin
  * first name that is refused gives KZ_UNISSUED or KZ_ENDED; these add one to the refused count and
  * change nothing else.
  */
-uint64_t kz_drop_all(kz_cap *table, size_t rows, kz_tally *tally, const uint32_t *names,
-                     size_t count);
+static inline kz_answer kz_drop_all(const kz_lent *lent, const uint32_t *names, size_t count);
 
 /*
  * A run of event lines, until one is refused. The table is then as after the last allowed line.
  *
- * In a text whose first line is KZ_NAMED_HEADER the other lines are those of kz_write_named, else all
- * lines are those of kz_write_event. That first line is counted as a line; it is no event and raises
- * no count. Anywhere else it is refused KZ_MISSPELT. In both, a line of kz_write_drop drops its names
- * together, as kz_drop_all does.
+ * In a text whose first line is KZ_NAMED_HEADER every create and borrow has its new name written out,
+ * else none has: the lines are those of kz_write_event. That first line is counted as a line; it is no
+ * event and raises no count. Anywhere else it is refused KZ_MISSPELT. In both, a line of several names
+ * drops them together, as kz_drop_all does.
  *
  * Allowed: the value is the number of lines. An empty text is a run of no lines.
  * Refused: the value is the number of the refused line, from 1, which adds one to the refused count;
  * KZ_DISORDERED has value 0 and changes nothing, whatever the text.
  */
-uint64_t kz_run(kz_cap *table, size_t rows, kz_tally *tally, const uint8_t *text, size_t text_len);
+static inline kz_answer kz_run(const kz_lent *lent, const uint8_t *text, size_t text_len);
 
 /*
  * Writes the line of an event, its newline included, to the start of `out`; the bytes after it stay.
  * What the kind lacks is not looked at. The lines are `(create START LENGTH RIGHT)`,
  * `(borrow NAME START LENGTH RIGHT)`, `(read NAME START LENGTH)`, `(write NAME START LENGTH)` and
- * `(drop NAME)`.
+ * `(drop NAME)`; with a written name `(create WRITTEN START LENGTH RIGHT)` and
+ * `(borrow WRITTEN NAME START LENGTH RIGHT)`; and `(drop NAME .. NAME)` of a KZ_DROP_ALL, whose names
+ * stand in `names` as for kz_apply_all. Of one name that is the line of KZ_DROP. Any numbers may be
+ * written; whether they are right is judged on a table.
  *
- * Allowed: the value is the length written.
- * Refused: KZ_MISSPELT for an unknown kind or right, else KZ_BUFFER_TOO_SHORT. `out` is untouched.
+ * Allowed: the value is the length written, at most KZ_MAX_LINE, KZ_MAX_NAMED_LINE with a written
+ * name, and KZ_MAX_DROP_LINE of a KZ_DROP_ALL.
+ * Refused: KZ_MISGROUPED for a KZ_DROP_ALL of no name, of more than KZ_MAX_GROUP, or of names that do
+ * not rise strictly; KZ_MISSPELT for an unknown kind or right; else KZ_BUFFER_TOO_SHORT. `out` is
+ * untouched.
  */
-uint64_t kz_write_event(uint8_t kind, uint32_t name, uint32_t start, uint32_t length,
-                        uint8_t right, uint8_t *out, size_t out_len);
+static inline kz_answer kz_write_event(const kz_event *event, const uint32_t *names,
+                                       size_t names_len, uint8_t *out, size_t out_len);
 
 /*
- * Reads exactly one line, its newline included. `fields` gets kind, name, start, length and right,
- * with 0 for what the kind lacks.
+ * Reads exactly one line of kz_write_event, its newline included: where `named` is not 0 one of a text
+ * in which new names are written out, else one of a text in which none is. Reads, writes and drops are
+ * the same in both. `names` has room for KZ_MAX_GROUP.
  *
- * Allowed: the value is 0.
- * Refused: KZ_MISSPELT. `fields` is untouched.
+ * Allowed: the value is 0. `event` gets the event, with 0 for what its kind lacks and 1 in `named`
+ * where a new name was read. A line of two names or more is a KZ_DROP_ALL from place 0 on: `names`
+ * gets its names, and those after them stay. Of any other line `names` is untouched.
+ * Refused: KZ_MISSPELT, as of names that do not rise strictly or are too many. `event` and `names` are
+ * untouched.
  */
-uint64_t kz_read_event(const uint8_t *line, size_t line_len, uint32_t fields[5]);
+static inline kz_answer kz_read_event(uint32_t named, const uint8_t *line, size_t line_len,
+                                      kz_event *event, uint32_t names[64]);
 
 /*
- * kz_write_event with the new name of a create or borrow written after the word:
- * `(create WRITTEN START LENGTH RIGHT)`, `(borrow WRITTEN NAME START LENGTH RIGHT)`. Any number may be
- * written; whether it is the right one is judged on a table. For the other kinds `written` is not
- * looked at, and the line is the same as without.
- */
-uint64_t kz_write_named(uint8_t kind, uint32_t written, uint32_t name, uint32_t start,
-                        uint32_t length, uint8_t right, uint8_t *out, size_t out_len);
-
-/*
- * kz_read_event of a line of kz_write_named. `fields` gets kind, written, name, start, length and
- * right, with 0 for what the kind lacks.
- */
-uint64_t kz_read_named(const uint8_t *line, size_t line_len, uint32_t fields[6]);
-
-/*
- * Writes the line of names that are dropped together, `(drop NAME .. NAME)`, its newline included,
- * to the start of `out`; the bytes after it stay. It is the same in every text. Of one name it is
- * the line that kz_write_event writes. Any numbers may be written; whether they can be dropped is
- * judged on a table.
- *
- * Allowed: the value is the length written.
- * Refused: KZ_MISGROUPED for a list of no name, of more than KZ_MAX_GROUP, or that does not rise
- * strictly, else KZ_BUFFER_TOO_SHORT. `out` is untouched.
- */
-uint64_t kz_write_drop(const uint32_t *names, size_t count, uint8_t *out, size_t out_len);
-
-/*
- * Reads exactly one line of kz_write_drop, its newline included, of one name or more. `names` has
- * room for KZ_MAX_GROUP; those after the names that are read stay. kz_read_event and kz_read_named
- * read such a line only where it has one name.
- *
- * Allowed: the value is the number of names.
- * Refused: KZ_MISSPELT, as of names that do not rise strictly or are too many. `names` is untouched.
- */
-uint64_t kz_read_drop(const uint8_t *line, size_t line_len, uint32_t names[64]);
-
-/*
- * Writes the listing of a table and its issued number to the start of `out`; the bytes after it
- * stay.
+ * Writes the listing of a table and of its tally's issued number to the start of `out`; the bytes
+ * after it stay.
  *
  * Allowed: the value is the length written.
  * Refused: KZ_DISORDERED, else KZ_BUFFER_TOO_SHORT. `out` is untouched.
  */
-uint64_t kz_write_listing(const kz_cap *table, size_t rows, uint32_t issued, uint8_t *out,
-                          size_t out_len);
+static inline kz_answer kz_write_listing(const kz_lent *lent, uint8_t *out, size_t out_len);
 
 /*
  * Reads a listing into a table, whose old contents are not judged, and into the tally's issued
@@ -237,8 +277,7 @@ uint64_t kz_write_listing(const kz_cap *table, size_t rows, uint32_t issued, uin
  * Refused: KZ_DISORDERED for more than KZ_MAX_ROWS rows, else KZ_MISSPELT when no table in order has
  * this listing, else KZ_TABLE_FULL when it has more capabilities than rows. Nothing is changed.
  */
-uint64_t kz_read_listing(const uint8_t *text, size_t text_len, kz_cap *table, size_t rows,
-                         kz_tally *tally);
+static inline kz_answer kz_read_listing(const kz_lent *lent, const uint8_t *text, size_t text_len);
 
 /*
  * Writes what the program capcheck prints for an input to the start of `out`; the bytes after it
@@ -248,56 +287,137 @@ uint64_t kz_read_listing(const uint8_t *text, size_t text_len, kz_cap *table, si
  * Allowed: the value is the length written, whatever the run's own verdict.
  * Refused: KZ_BUFFER_TOO_SHORT. `out` is untouched.
  */
-uint64_t kz_check(const uint8_t *input, size_t input_len, uint8_t *out, size_t out_len);
+static inline kz_answer kz_check(const uint8_t *input, size_t input_len, uint8_t *out,
+                                 size_t out_len);
 
-/* The number of an answer: 0 for allowed, else a kz_refusal. */
-static inline uint32_t kz_number(uint64_t answer) {
-    return (uint32_t)(answer >> 32);
+/*
+ * The functions that the archives export. The calls above are made of these, which have the parts of
+ * a kz_lent one by one. A language that cannot include this header declares them itself: each of their
+ * structs is a run of 32-bit words without gaps, and each length is a size_t. An answer is one number,
+ * the refusal times 2^32 plus the value; only kz_abi_apply_all writes kz_answer structs.
+ */
+
+/* Both archives. */
+
+/* kz_apply; for a KZ_DROP_ALL `names` is the list in which its names stand. */
+uint64_t kz_abi_apply(kz_cap *table, size_t rows, kz_tally *tally, const kz_event *event,
+                      const uint32_t *names, size_t names_len);
+
+/*
+ * kz_apply_all of as many events as there are answers for, or of all where there are more answers;
+ * those behind stay. It returns how many events it took.
+ */
+size_t kz_abi_apply_all(kz_cap *table, size_t rows, kz_tally *tally, const kz_event *events,
+                        size_t count, const uint32_t *names, size_t names_len, kz_answer *answers,
+                        size_t answers_len);
+
+/* libkelzoud.a alone. */
+
+uint64_t kz_abi_run(kz_cap *table, size_t rows, kz_tally *tally, const uint8_t *text,
+                    size_t text_len);
+
+uint64_t kz_abi_write_event(const kz_event *event, const uint32_t *names, size_t names_len,
+                            uint8_t *out, size_t out_len);
+
+uint64_t kz_abi_read_event(uint32_t named, const uint8_t *line, size_t line_len, kz_event *event,
+                           uint32_t names[64]);
+
+/* kz_write_listing, which takes of the tally the issued number alone. */
+uint64_t kz_abi_write_listing(const kz_cap *table, size_t rows, uint32_t issued, uint8_t *out,
+                              size_t out_len);
+
+uint64_t kz_abi_read_listing(kz_cap *table, size_t rows, kz_tally *tally, const uint8_t *text,
+                             size_t text_len);
+
+uint64_t kz_abi_check(const uint8_t *input, size_t input_len, uint8_t *out, size_t out_len);
+
+/* The bodies of the calls. */
+
+static inline kz_answer kz_abi_answer(uint64_t answer) {
+    const kz_answer parts = {(uint32_t)(answer >> 32), (uint32_t)(answer & 0xffffffffu)};
+    return parts;
 }
 
-/* The value of an answer, as each call says. */
-static inline uint32_t kz_value(uint64_t answer) {
-    return (uint32_t)(answer & 0xffffffffu);
+static inline kz_lent kz_lend(kz_part *part) {
+    const kz_lent lent = {part->table, KZ_MAX_ROWS, &part->tally};
+    return lent;
 }
 
-/* kz_apply for each kind, with the values that the kind has. */
-
-static inline uint64_t kz_create(kz_cap *table, size_t rows, kz_tally *tally, uint32_t start,
-                                 uint32_t length, uint8_t right) {
-    return kz_apply(table, rows, tally, KZ_CREATE, 0, start, length, right);
+static inline kz_answer kz_apply(const kz_lent *lent, const kz_event *event) {
+    return kz_abi_answer(kz_abi_apply(lent->table, lent->rows, lent->tally, event, NULL, 0));
 }
 
-static inline uint64_t kz_borrow(kz_cap *table, size_t rows, kz_tally *tally, uint32_t name,
-                                 uint32_t start, uint32_t length, uint8_t right) {
-    return kz_apply(table, rows, tally, KZ_BORROW, name, start, length, right);
+static inline size_t kz_apply_all(const kz_lent *lent, const kz_event *events, size_t count,
+                                  const uint32_t *names, size_t names_len, kz_answer *answers) {
+    return kz_abi_apply_all(lent->table, lent->rows, lent->tally, events, count, names, names_len,
+                            answers, count);
 }
 
-static inline uint64_t kz_read(kz_cap *table, size_t rows, kz_tally *tally, uint32_t name,
-                               uint32_t start, uint32_t length) {
-    return kz_apply(table, rows, tally, KZ_READ, name, start, length, 0);
+static inline kz_answer kz_create(const kz_lent *lent, uint32_t start, uint32_t length,
+                                  uint32_t right) {
+    const kz_event event = {KZ_CREATE, 0, start, length, right, 0, 0};
+    return kz_apply(lent, &event);
 }
 
-static inline uint64_t kz_write(kz_cap *table, size_t rows, kz_tally *tally, uint32_t name,
-                                uint32_t start, uint32_t length) {
-    return kz_apply(table, rows, tally, KZ_WRITE, name, start, length, 0);
+static inline kz_answer kz_borrow(const kz_lent *lent, uint32_t name, uint32_t start,
+                                  uint32_t length, uint32_t right) {
+    const kz_event event = {KZ_BORROW, name, start, length, right, 0, 0};
+    return kz_apply(lent, &event);
 }
 
-static inline uint64_t kz_drop(kz_cap *table, size_t rows, kz_tally *tally, uint32_t name) {
-    return kz_apply(table, rows, tally, KZ_DROP, name, 0, 0, 0);
+static inline kz_answer kz_read(const kz_lent *lent, uint32_t name, uint32_t start,
+                                uint32_t length) {
+    const kz_event event = {KZ_READ, name, start, length, 0, 0, 0};
+    return kz_apply(lent, &event);
 }
 
-/* kz_apply_named for the two kinds that make a name. */
-
-static inline uint64_t kz_create_named(kz_cap *table, size_t rows, kz_tally *tally,
-                                       uint32_t written, uint32_t start, uint32_t length,
-                                       uint8_t right) {
-    return kz_apply_named(table, rows, tally, KZ_CREATE, written, 0, start, length, right);
+static inline kz_answer kz_write(const kz_lent *lent, uint32_t name, uint32_t start,
+                                 uint32_t length) {
+    const kz_event event = {KZ_WRITE, name, start, length, 0, 0, 0};
+    return kz_apply(lent, &event);
 }
 
-static inline uint64_t kz_borrow_named(kz_cap *table, size_t rows, kz_tally *tally,
-                                       uint32_t written, uint32_t name, uint32_t start,
-                                       uint32_t length, uint8_t right) {
-    return kz_apply_named(table, rows, tally, KZ_BORROW, written, name, start, length, right);
+static inline kz_answer kz_drop(const kz_lent *lent, uint32_t name) {
+    const kz_event event = {KZ_DROP, name, 0, 0, 0, 0, 0};
+    return kz_apply(lent, &event);
+}
+
+static inline kz_answer kz_drop_all(const kz_lent *lent, const uint32_t *names, size_t count) {
+    /* No list above KZ_MAX_GROUP is a group, so that of a longer one, which may be longer than 32 bits
+       can say, one name more than that is enough to be refused. */
+    const size_t length = count <= KZ_MAX_GROUP ? count : KZ_MAX_GROUP + 1;
+    const kz_event event = {KZ_DROP_ALL, 0, 0, (uint32_t)length, 0, 0, 0};
+    return kz_abi_answer(
+        kz_abi_apply(lent->table, lent->rows, lent->tally, &event, names, length));
+}
+
+static inline kz_answer kz_run(const kz_lent *lent, const uint8_t *text, size_t text_len) {
+    return kz_abi_answer(kz_abi_run(lent->table, lent->rows, lent->tally, text, text_len));
+}
+
+static inline kz_answer kz_write_event(const kz_event *event, const uint32_t *names,
+                                       size_t names_len, uint8_t *out, size_t out_len) {
+    return kz_abi_answer(kz_abi_write_event(event, names, names_len, out, out_len));
+}
+
+static inline kz_answer kz_read_event(uint32_t named, const uint8_t *line, size_t line_len,
+                                      kz_event *event, uint32_t names[64]) {
+    return kz_abi_answer(kz_abi_read_event(named, line, line_len, event, names));
+}
+
+static inline kz_answer kz_write_listing(const kz_lent *lent, uint8_t *out, size_t out_len) {
+    return kz_abi_answer(kz_abi_write_listing(lent->table, lent->rows, lent->tally->issued, out,
+                                              out_len));
+}
+
+static inline kz_answer kz_read_listing(const kz_lent *lent, const uint8_t *text, size_t text_len) {
+    return kz_abi_answer(
+        kz_abi_read_listing(lent->table, lent->rows, lent->tally, text, text_len));
+}
+
+static inline kz_answer kz_check(const uint8_t *input, size_t input_len, uint8_t *out,
+                                 size_t out_len) {
+    return kz_abi_answer(kz_abi_check(input, input_len, out, out_len));
 }
 
 #ifdef __cplusplus

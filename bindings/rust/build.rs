@@ -8,5 +8,5 @@ mod link;
 fn main() {
     let repository = Path::new(env!("CARGO_MANIFEST_DIR")).join("../..");
     let directory = link::named_directory(&repository);
-    link::link_from(&directory.unwrap_or_else(|| repository.join("target/staticlib")));
+    link::link_from(&directory.unwrap_or_else(|| repository.join("target/lib")));
 }

@@ -102,6 +102,41 @@ pub enum Answer {
     Refused(Refusal),
 }
 
+impl Answer {
+    /// The answer of a value, which is the new name or 0, or of a refusal.
+    pub(crate) fn of(value: Result<u32, Refusal>) -> Answer {
+        match value {
+            Ok(0) => Answer::Allowed(None),
+            Ok(name) => Answer::Allowed(Some(Name(name))),
+            Err(refusal) => Answer::Refused(refusal),
+        }
+    }
+}
+
+/// The answer to one request of many, laid out as `kz_answer` is.
+#[repr(C)]
+#[derive(Clone, Copy, Debug, PartialEq, Eq, Hash)]
+pub struct Outcome {
+    refusal: u32,
+    value: u32,
+}
+
+impl Outcome {
+    /// Room for an answer. It reads as allowed until one is written.
+    pub const EMPTY: Outcome = Outcome {
+        refusal: 0,
+        value: 0,
+    };
+
+    /// The answer.
+    pub fn answer(self) -> Answer {
+        Answer::of(match self.refusal {
+            0 => Ok(self.value),
+            number => Err(numbered(number)),
+        })
+    }
+}
+
 /// The answer to a run.
 #[derive(Clone, Copy, Debug, PartialEq, Eq, Hash)]
 pub enum RunAnswer {
@@ -128,15 +163,17 @@ impl From<Answer> for Result<Option<Name>, Refusal> {
     }
 }
 
+/// The refusal of a number that the library gave.
+fn numbered(number: u32) -> Refusal {
+    Refusal::from_number(number).expect("refusals are numbered 1 to 13")
+}
+
 /// An answer of the C interface taken apart: its value, or its refusal with its value.
 pub(crate) fn split(answer: u64) -> Result<u32, (Refusal, u32)> {
     let number = (answer >> 32) as u32;
     let value = answer as u32;
     match number {
         0 => Ok(value),
-        _ => Err((
-            Refusal::from_number(number).expect("refusals are numbered 1 to 13"),
-            value,
-        )),
+        _ => Err((numbered(number), value)),
     }
 }

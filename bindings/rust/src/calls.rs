@@ -1,83 +1,32 @@
 //! The calls of the C interface, made safe.
 //!
 //! Safety, of each call below: a slice is a pointer to as many elements as its length says, an
-//! exclusive one overlaps nothing else, `Cap` and `Tally` are laid out as the C records are and a
-//! `Name` as its number is, and the library follows no pointer whose length is 0.
+//! exclusive one overlaps nothing else, `Cap`, `Tally`, `Request` and `Outcome` are laid out as the C
+//! structs are and a `Name` as its number is, and the library follows no pointer whose length is 0.
+
+use core::mem::size_of;
+use core::ptr;
 
 use crate::answers::split;
 use crate::{
-    ffi, Addr, Answer, Cap, Event, Name, Refusal, Right, RunAnswer, Span, Tally, MAX_GROUP,
+    ffi, Answer, Cap, Event, Line, Name, Outcome, Refusal, Request, RunAnswer, Spelling, Tally,
+    MAX_GROUP,
 };
 
-/// An event as the C interface passes it, with 0 for what its kind lacks.
-struct Fields {
-    kind: u8,
-    written: u32,
-    name: u32,
-    start: u32,
-    length: u32,
-    right: u8,
-}
-
-impl Fields {
-    fn of(event: Event) -> Fields {
-        let none = Span {
-            start: Addr(0),
-            length: 0,
-        };
-        let (kind, name, span, right) = match event {
-            Event::Create { span, right, .. } => (1, Name(0), span, right as u8),
-            Event::Borrow {
-                parent,
-                span,
-                right,
-                ..
-            } => (2, parent, span, right as u8),
-            Event::Read { name, span } => (3, name, span, 0),
-            Event::Write { name, span } => (4, name, span, 0),
-            Event::Drop { name } => (5, name, none, 0),
-        };
-        Fields {
-            kind,
-            written: event.written().map_or(0, |written| written.0),
-            name: name.0,
-            start: span.start.0,
-            length: span.length,
-            right,
-        }
-    }
-}
-
-/// The event of the fields that the C interface gives, with a written name or without.
-fn event_of(written: Option<Name>, fields: [u32; 5]) -> Option<Event> {
-    let [kind, name, start, length, right] = fields;
-    let name = Name(name);
-    let span = Span {
-        start: Addr(start),
-        length,
-    };
-    Some(match kind {
-        1 => Event::Create {
-            written,
-            span,
-            right: Right::from_number(right)?,
-        },
-        2 => Event::Borrow {
-            written,
-            parent: name,
-            span,
-            right: Right::from_number(right)?,
-        },
-        3 => Event::Read { name, span },
-        4 => Event::Write { name, span },
-        5 => Event::Drop { name },
-        _ => return None,
-    })
-}
+/// Each is cast to the other, where it is passed.
+const _: () = assert!(
+    size_of::<Request>() == size_of::<ffi::EventWords>()
+        && size_of::<Outcome>() == size_of::<ffi::AnswerWords>()
+);
 
 /// The value of an answer, or its refusal.
 fn value(answer: u64) -> Result<u32, Refusal> {
     split(answer).map_err(|(refusal, _)| refusal)
+}
+
+/// The length that was written.
+fn length(answer: u64) -> Result<usize, Refusal> {
+    value(answer).map(|length| length as usize)
 }
 
 /// One event on a lent table and tally, which follow it.
@@ -85,31 +34,70 @@ fn value(answer: u64) -> Result<u32, Refusal> {
 /// [`Refusal::Disordered`] changes nothing; any other refusal adds one to the refused count and
 /// changes nothing else.
 pub fn apply(table: &mut [Cap], tally: &mut Tally, event: Event) -> Answer {
-    let e = Fields::of(event);
-    let rows = table.len();
-    let table = table.as_mut_ptr();
-    let answer = match event.written() {
-        None => unsafe {
-            ffi::kz_apply(
-                table, rows, tally, e.kind, e.name, e.start, e.length, e.right,
-            )
-        },
-        Some(_) => unsafe {
-            ffi::kz_apply_named(
-                table, rows, tally, e.kind, e.written, e.name, e.start, e.length, e.right,
-            )
-        },
-    };
-    answer_of(answer)
+    request(table, tally, event.into(), &[])
 }
 
-/// The answer to an event.
-fn answer_of(answer: u64) -> Answer {
-    match value(answer) {
-        Ok(0) => Answer::Allowed(None),
-        Ok(name) => Answer::Allowed(Some(Name(name))),
-        Err(refusal) => Answer::Refused(refusal),
-    }
+/// One request and the list in which its names stand, if it has some.
+fn request(table: &mut [Cap], tally: &mut Tally, request: Request, names: &[Name]) -> Answer {
+    let rows = table.len();
+    let table = table.as_mut_ptr();
+    let request = ptr::from_ref(&request).cast();
+    let list = names.as_ptr().cast();
+    let answer = unsafe { ffi::kz_abi_apply(table, rows, tally, request, list, names.len()) };
+    Answer::of(value(answer))
+}
+
+/// Many requests on a lent table and tally, each in its turn on what those before it left; a refused
+/// one stops nothing. In `names` stand the names of every [`Request::drop_all`], which is taken as
+/// [`drop_all`] takes it; several may share names.
+///
+/// The answers are written to the start of `answers`, one for each request, and given back. Where it
+/// is shorter than the requests, those that it has no room for are not taken; the entries behind the
+/// answers stay.
+///
+/// On a table that is not in order every answer is [`Refusal::Disordered`], and nothing else changes.
+///
+/// ```
+/// use kelzoud::*;
+///
+/// let mut table = [Cap::EMPTY; 16];
+/// let mut tally = Tally::default();
+/// let create = |start| Event::Create {
+///     written: None,
+///     span: Span { start: Addr(start), length: 8 },
+///     right: Right::ReadWrite,
+/// };
+/// let names = [Name(1), Name(2)];
+/// let mut requests = [Request::drop_all(0..2); 4];
+/// requests[0] = create(0).into();
+/// requests[1] = create(8).into();
+/// let mut answers = [Outcome::EMPTY; 4];
+/// let answers = apply_all(&mut table, &mut tally, &requests, &names, &mut answers);
+/// assert_eq!(answers[1].answer(), Answer::Allowed(Some(Name(2))));
+/// assert_eq!(answers[2].answer(), Answer::Allowed(None));
+/// assert_eq!(answers[3].answer(), Answer::Refused(Refusal::Ended));
+/// ```
+pub fn apply_all<'a>(
+    table: &mut [Cap],
+    tally: &mut Tally,
+    requests: &[Request],
+    names: &[Name],
+    answers: &'a mut [Outcome],
+) -> &'a [Outcome] {
+    let taken = unsafe {
+        ffi::kz_abi_apply_all(
+            table.as_mut_ptr(),
+            table.len(),
+            tally,
+            requests.as_ptr().cast(),
+            requests.len(),
+            names.as_ptr().cast(),
+            names.len(),
+            answers.as_mut_ptr().cast(),
+            answers.len(),
+        )
+    };
+    &answers[..taken]
 }
 
 /// Capabilities dropped together, as when a function returns: 1 to [`MAX_GROUP`] names, each above the
@@ -122,120 +110,95 @@ fn answer_of(answer: u64) -> Answer {
 /// [`Refusal::Disordered`] changes nothing; any other refusal, [`Refusal::Misgrouped`] among them, adds
 /// one to the refused count and changes nothing else.
 pub fn drop_all(table: &mut [Cap], tally: &mut Tally, names: &[Name]) -> Answer {
-    let rows = table.len();
-    let table = table.as_mut_ptr();
-    answer_of(unsafe { ffi::kz_drop_all(table, rows, tally, names.as_ptr().cast(), names.len()) })
+    request(table, tally, Request::drop_all(0..names.len()), names)
 }
 
 /// A run of event lines on a lent table and tally, until one is refused.
 ///
-/// In a text whose first line is [`NAMED_HEADER`](crate::NAMED_HEADER) the other lines are those of
-/// [`write_named`], else all lines are those of [`write_event`]. That first line is counted as a
-/// line; it is no event and raises no count. Anywhere else it is refused. In both, a line of
-/// [`write_drop`] drops its names together.
+/// In a text whose first line is [`NAMED_HEADER`](crate::NAMED_HEADER) every create and borrow has its
+/// new name written out, else none has: the lines are those of [`write_event`]. That first line is
+/// counted as a line; it is no event and raises no count. Anywhere else it is refused. In both, a line
+/// of [`write_drop`] drops its names together.
 ///
 /// The table is then as after the last allowed line. The refused line adds one to the refused
 /// count; [`Refusal::Disordered`] changes nothing.
 pub fn run(table: &mut [Cap], tally: &mut Tally, text: &[u8]) -> RunAnswer {
     let rows = table.len();
     let table = table.as_mut_ptr();
-    match split(unsafe { ffi::kz_run(table, rows, tally, text.as_ptr(), text.len()) }) {
+    match split(unsafe { ffi::kz_abi_run(table, rows, tally, text.as_ptr(), text.len()) }) {
         Ok(lines) => RunAnswer::Allowed { lines },
         Err((refusal, line)) => RunAnswer::Refused { refusal, line },
     }
 }
 
 /// Writes the line of an event, its newline included, to the start of the buffer, and answers its
-/// length. The bytes after it stay. Such a line is at most [`MAX_LINE`](crate::MAX_LINE) bytes long.
+/// length. The bytes after it stay. Where the event has a written name so has the line, which is then
+/// one of the [named spelling](Spelling::Named), and at most
+/// [`MAX_NAMED_LINE`](crate::MAX_NAMED_LINE) bytes long; else it is at most
+/// [`MAX_LINE`](crate::MAX_LINE) bytes long.
 ///
 /// # Errors
 ///
-/// [`Refusal::Misspelt`] for an event with a written name, which has no line of this sort, else
 /// [`Refusal::BufferTooShort`], with the buffer untouched.
 pub fn write_event(event: Event, out: &mut [u8]) -> Result<usize, Refusal> {
-    if event.written().is_some() {
-        return Err(Refusal::Misspelt);
-    }
-    let e = Fields::of(event);
-    let size = out.len();
-    let out = out.as_mut_ptr();
-    let answer =
-        unsafe { ffi::kz_write_event(e.kind, e.name, e.start, e.length, e.right, out, size) };
-    value(answer).map(|length| length as usize)
-}
-
-/// Reads exactly one line of [`write_event`], its newline included.
-///
-/// # Errors
-///
-/// [`Refusal::Misspelt`].
-pub fn read_event(line: &[u8]) -> Result<Event, Refusal> {
-    let mut fields = [0; 5];
-    value(unsafe { ffi::kz_read_event(line.as_ptr(), line.len(), fields.as_mut_ptr()) })?;
-    Ok(event_of(None, fields).expect("a line that is read has a known kind and right"))
-}
-
-/// Writes the line of an event with the name of what it makes after the word, its newline included,
-/// to the start of the buffer, and answers its length. The bytes after it stay. Such a line is at
-/// most [`MAX_NAMED_LINE`](crate::MAX_NAMED_LINE) bytes long.
-///
-/// # Errors
-///
-/// [`Refusal::Misspelt`] for a create or borrow without a written name, which has no line of this
-/// sort, else [`Refusal::BufferTooShort`], with the buffer untouched.
-pub fn write_named(event: Event, out: &mut [u8]) -> Result<usize, Refusal> {
-    if event.makes() && event.written().is_none() {
-        return Err(Refusal::Misspelt);
-    }
-    let e = Fields::of(event);
-    let size = out.len();
-    let out = out.as_mut_ptr();
-    let answer = unsafe {
-        ffi::kz_write_named(
-            e.kind, e.written, e.name, e.start, e.length, e.right, out, size,
-        )
-    };
-    value(answer).map(|length| length as usize)
-}
-
-/// Reads exactly one line of [`write_named`], its newline included.
-///
-/// # Errors
-///
-/// [`Refusal::Misspelt`].
-pub fn read_named(line: &[u8]) -> Result<Event, Refusal> {
-    let mut fields = [0; 6];
-    value(unsafe { ffi::kz_read_named(line.as_ptr(), line.len(), fields.as_mut_ptr()) })?;
-    let [kind, written, name, start, length, right] = fields;
-    let event = event_of(Some(Name(written)), [kind, name, start, length, right]);
-    Ok(event.expect("a line that is read has a known kind and right"))
+    write_request(event.into(), &[], out)
 }
 
 /// Writes the line of names that are dropped together, its newline included, to the start of the
-/// buffer, and answers its length. The bytes after it stay. It is the same in every text, and at most
-/// [`MAX_DROP_LINE`](crate::MAX_DROP_LINE) bytes long.
+/// buffer, and answers its length. The bytes after it stay. It is the same in both spellings, and at
+/// most [`MAX_DROP_LINE`](crate::MAX_DROP_LINE) bytes long. Of one name it is the line of
+/// [`Event::Drop`].
 ///
 /// # Errors
 ///
 /// [`Refusal::Misgrouped`] for a list of no name, of more than [`MAX_GROUP`], or that does not rise
 /// strictly, else [`Refusal::BufferTooShort`], with the buffer untouched.
 pub fn write_drop(names: &[Name], out: &mut [u8]) -> Result<usize, Refusal> {
-    let size = out.len();
-    let out = out.as_mut_ptr();
-    let answer = unsafe { ffi::kz_write_drop(names.as_ptr().cast(), names.len(), out, size) };
-    value(answer).map(|length| length as usize)
+    write_request(Request::drop_all(0..names.len()), names, out)
 }
 
-/// Reads exactly one line of [`write_drop`], its newline included, of one name or more, and answers
-/// how many it has. The entries after them stay.
+fn write_request(request: Request, names: &[Name], out: &mut [u8]) -> Result<usize, Refusal> {
+    let request = ptr::from_ref(&request).cast();
+    let list = names.as_ptr().cast();
+    let size = out.len();
+    let out = out.as_mut_ptr();
+    length(unsafe { ffi::kz_abi_write_event(request, list, names.len(), out, size) })
+}
+
+/// Reads exactly one line of a text in this spelling, its newline included: an event, or names that are
+/// dropped together. Reads, writes and drops are the same in both spellings.
+///
+/// ```
+/// use kelzoud::{read_event, Event, Line, Name, Refusal, Spelling};
+///
+/// let line = read_event(Spelling::Plain, b"(drop 2)\n");
+/// assert_eq!(line, Ok(Line::Event(Event::Drop { name: Name(2) })));
+/// match read_event(Spelling::Plain, b"(drop 2 5)\n") {
+///     Ok(Line::DropAll(names)) => assert_eq!(*names, [Name(2), Name(5)]),
+///     other => panic!("{other:?}"),
+/// }
+/// assert_eq!(read_event(Spelling::Named, b"(create 0 64 rw)\n"), Err(Refusal::Misspelt));
+/// ```
 ///
 /// # Errors
 ///
-/// [`Refusal::Misspelt`], with the names untouched.
-pub fn read_drop(line: &[u8], names: &mut [Name; MAX_GROUP]) -> Result<usize, Refusal> {
-    let names = names.as_mut_ptr().cast();
-    let answer = unsafe { ffi::kz_read_drop(line.as_ptr(), line.len(), names) };
-    value(answer).map(|count| count as usize)
+/// [`Refusal::Misspelt`].
+pub fn read_event(spelling: Spelling, line: &[u8]) -> Result<Line, Refusal> {
+    let named = (spelling == Spelling::Named).into();
+    let mut request = Request::NONE;
+    let mut names = [Name(0); MAX_GROUP];
+    let answer = unsafe {
+        ffi::kz_abi_read_event(
+            named,
+            line.as_ptr(),
+            line.len(),
+            ptr::from_mut(&mut request).cast(),
+            ptr::from_mut(&mut names).cast(),
+        )
+    };
+    value(answer)?;
+    let line = request.line(names);
+    Ok(line.expect("a line that is read has a known kind and right"))
 }
 
 /// Writes the listing of a table and its issued number to the start of the buffer, and answers its
@@ -247,8 +210,8 @@ pub fn read_drop(line: &[u8], names: &mut [Name; MAX_GROUP]) -> Result<usize, Re
 pub fn write_listing(table: &[Cap], issued: u32, out: &mut [u8]) -> Result<usize, Refusal> {
     let size = out.len();
     let out = out.as_mut_ptr();
-    let answer = unsafe { ffi::kz_write_listing(table.as_ptr(), table.len(), issued, out, size) };
-    value(answer).map(|length| length as usize)
+    let rows = table.len();
+    length(unsafe { ffi::kz_abi_write_listing(table.as_ptr(), rows, issued, out, size) })
 }
 
 /// Reads a listing into a table, whose old contents are not judged, and into the tally's issued
@@ -262,7 +225,7 @@ pub fn write_listing(table: &[Cap], issued: u32, out: &mut [u8]) -> Result<usize
 pub fn read_listing(text: &[u8], table: &mut [Cap], tally: &mut Tally) -> Result<(), Refusal> {
     let rows = table.len();
     let table = table.as_mut_ptr();
-    value(unsafe { ffi::kz_read_listing(text.as_ptr(), text.len(), table, rows, tally) })?;
+    value(unsafe { ffi::kz_abi_read_listing(table, rows, tally, text.as_ptr(), text.len()) })?;
     Ok(())
 }
 
@@ -274,6 +237,6 @@ pub fn read_listing(text: &[u8], table: &mut [Cap], tally: &mut Tally) -> Result
 /// [`Refusal::BufferTooShort`], with the buffer untouched.
 pub fn check(input: &[u8], out: &mut [u8]) -> Result<usize, Refusal> {
     let size = out.len();
-    let answer = unsafe { ffi::kz_check(input.as_ptr(), input.len(), out.as_mut_ptr(), size) };
-    value(answer).map(|length| length as usize)
+    let out = out.as_mut_ptr();
+    length(unsafe { ffi::kz_abi_check(input.as_ptr(), input.len(), out, size) })
 }

@@ -1,40 +1,36 @@
-//! The C interface, declaration by declaration as `include/kelzoud.h` has it.
+//! The functions that the archive exports, declaration by declaration as `include/kelzoud.h` has them.
 
 use crate::{Cap, Tally};
 
+/// `kz_event`, word for word.
+pub type EventWords = [u32; 7];
+
+/// `kz_answer`, word for word.
+pub type AnswerWords = [u32; 2];
+
 unsafe extern "C" {
-    pub fn kz_apply(
+    pub fn kz_abi_apply(
         table: *mut Cap,
         rows: usize,
         tally: *mut Tally,
-        kind: u8,
-        name: u32,
-        start: u32,
-        length: u32,
-        right: u8,
-    ) -> u64;
-
-    pub fn kz_apply_named(
-        table: *mut Cap,
-        rows: usize,
-        tally: *mut Tally,
-        kind: u8,
-        written: u32,
-        name: u32,
-        start: u32,
-        length: u32,
-        right: u8,
-    ) -> u64;
-
-    pub fn kz_drop_all(
-        table: *mut Cap,
-        rows: usize,
-        tally: *mut Tally,
+        event: *const EventWords,
         names: *const u32,
-        count: usize,
+        names_len: usize,
     ) -> u64;
 
-    pub fn kz_run(
+    pub fn kz_abi_apply_all(
+        table: *mut Cap,
+        rows: usize,
+        tally: *mut Tally,
+        events: *const EventWords,
+        count: usize,
+        names: *const u32,
+        names_len: usize,
+        answers: *mut AnswerWords,
+        answers_len: usize,
+    ) -> usize;
+
+    pub fn kz_abi_run(
         table: *mut Cap,
         rows: usize,
         tally: *mut Tally,
@@ -42,36 +38,23 @@ unsafe extern "C" {
         text_len: usize,
     ) -> u64;
 
-    pub fn kz_write_event(
-        kind: u8,
-        name: u32,
-        start: u32,
-        length: u32,
-        right: u8,
+    pub fn kz_abi_write_event(
+        event: *const EventWords,
+        names: *const u32,
+        names_len: usize,
         out: *mut u8,
         out_len: usize,
     ) -> u64;
 
-    pub fn kz_read_event(line: *const u8, line_len: usize, fields: *mut u32) -> u64;
-
-    pub fn kz_write_named(
-        kind: u8,
-        written: u32,
-        name: u32,
-        start: u32,
-        length: u32,
-        right: u8,
-        out: *mut u8,
-        out_len: usize,
+    pub fn kz_abi_read_event(
+        named: u32,
+        line: *const u8,
+        line_len: usize,
+        event: *mut EventWords,
+        names: *mut [u32; 64],
     ) -> u64;
 
-    pub fn kz_read_named(line: *const u8, line_len: usize, fields: *mut u32) -> u64;
-
-    pub fn kz_write_drop(names: *const u32, count: usize, out: *mut u8, out_len: usize) -> u64;
-
-    pub fn kz_read_drop(line: *const u8, line_len: usize, names: *mut u32) -> u64;
-
-    pub fn kz_write_listing(
+    pub fn kz_abi_write_listing(
         table: *const Cap,
         rows: usize,
         issued: u32,
@@ -79,13 +62,13 @@ unsafe extern "C" {
         out_len: usize,
     ) -> u64;
 
-    pub fn kz_read_listing(
-        text: *const u8,
-        text_len: usize,
+    pub fn kz_abi_read_listing(
         table: *mut Cap,
         rows: usize,
         tally: *mut Tally,
+        text: *const u8,
+        text_len: usize,
     ) -> u64;
 
-    pub fn kz_check(input: *const u8, input_len: usize, out: *mut u8, out_len: usize) -> u64;
+    pub fn kz_abi_check(input: *const u8, input_len: usize, out: *mut u8, out_len: usize) -> u64;
 }

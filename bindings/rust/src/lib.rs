@@ -65,6 +65,9 @@
 //! assert_eq!((table[0].name, tally.drops), (2, 1));
 //! ```
 //!
+//! Many events are handed over in one call by [`apply_all`], and a log is read line by line by
+//! [`read_event`].
+//!
 //! The calls are those of the C library `libkelzoud.a`, which the build script links from the
 //! directory in `KELZOUD_LIB`. They keep nothing between calls and allocate nothing.
 
@@ -74,13 +77,15 @@
 mod answers;
 mod calls;
 mod ffi;
+mod requests;
 mod values;
 
-pub use answers::{Answer, Refusal, RunAnswer};
+pub use answers::{Answer, Outcome, Refusal, RunAnswer};
 pub use calls::{
-    apply, check, drop_all, read_drop, read_event, read_listing, read_named, run, write_drop,
-    write_event, write_listing, write_named,
+    apply, apply_all, check, drop_all, read_event, read_listing, run, write_drop, write_event,
+    write_listing,
 };
+pub use requests::{Group, Line, Request, Spelling};
 pub use values::{Addr, Cap, Event, Name, Right, Span, Tally};
 
 /// The most rows of a table.
@@ -98,10 +103,10 @@ pub const MAX_GROUP: usize = 64;
 /// The most bytes of input that [`check`] runs.
 pub const MAX_INPUT: usize = 65_536;
 
-/// The most bytes of a line of [`write_event`], its newline included.
+/// The most bytes of a line of [`write_event`] without a written name, its newline included.
 pub const MAX_LINE: usize = 45;
 
-/// The most bytes of a line of [`write_named`], its newline included.
+/// The most bytes of a line of [`write_event`] with a written name, its newline included.
 pub const MAX_NAMED_LINE: usize = 56;
 
 /// The most bytes of a line of [`write_drop`], its newline included.

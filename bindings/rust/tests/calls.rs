@@ -1,10 +1,10 @@
 //! Each call of the safe interface, with its answers turned into enums.
 
 use kelzoud::{
-    apply, check, drop_all, read_drop, read_event, read_listing, read_named, run, write_drop,
-    write_event, write_listing, write_named, Addr, Answer, Cap, Event, Name, Refusal, Right,
-    RunAnswer, Span, Tally, MAX_CHECK, MAX_DROP_LINE, MAX_GROUP, MAX_LINE, MAX_NAMED_LINE,
-    MAX_ROWS, NAMED_HEADER,
+    apply, apply_all, check, drop_all, read_event, read_listing, run, write_drop, write_event,
+    write_listing, Addr, Answer, Cap, Event, Line, Name, Outcome, Refusal, Request, Right,
+    RunAnswer, Span, Spelling, Tally, MAX_CHECK, MAX_DROP_LINE, MAX_GROUP, MAX_LINE,
+    MAX_NAMED_LINE, MAX_ROWS, NAMED_HEADER,
 };
 
 fn span(start: u32, length: u32) -> Span {
@@ -65,43 +65,44 @@ fn with_name(event: Event, name: u32) -> Event {
     }
 }
 
-/// What writes a line, and what reads it.
-type Writer = fn(Event, &mut [u8]) -> Result<usize, Refusal>;
-type Reader = fn(&[u8]) -> Result<Event, Refusal>;
-
-fn check_line(event: Event, line: &str, write: Writer, read: Reader) {
+fn check_line(event: Event, line: &str, spelling: Spelling) {
     let mut out = [b'?'; 64];
-    assert_eq!(write(event, &mut out), Ok(line.len()));
+    assert_eq!(write_event(event, &mut out), Ok(line.len()));
     assert_eq!(&out[..line.len()], line.as_bytes());
     assert_eq!(out[line.len()], b'?');
-    assert_eq!(read(line.as_bytes()), Ok(event));
+    let read = read_event(spelling, line.as_bytes());
+    assert_eq!(read, Ok(Line::Event(event)));
     let short = &mut out[..line.len() - 1];
-    assert_eq!(write(event, short), Err(Refusal::BufferTooShort));
+    assert_eq!(write_event(event, short), Err(Refusal::BufferTooShort));
 }
+
+const BOTH: [Spelling; 2] = [Spelling::Plain, Spelling::Named];
 
 #[test]
 fn events_are_written_and_read() {
     for (event, line, _) in spellings() {
-        check_line(event, line, write_event, read_event);
+        check_line(event, line, Spelling::Plain);
     }
-    assert_eq!(read_event(b"(read 01 0 8)\n"), Err(Refusal::Misspelt));
-    assert_eq!(read_event(b""), Err(Refusal::Misspelt));
+    for spelling in BOTH {
+        for line in [&b"(read 01 0 8)\n"[..], b"", b"(drop 1)", NAMED_HEADER] {
+            assert_eq!(read_event(spelling, line), Err(Refusal::Misspelt));
+        }
+    }
 }
 
 #[test]
 fn names_are_written_and_read() {
     for (event, line, named_line) in spellings() {
-        let named = with_name(event, 40);
-        check_line(named, named_line, write_named, read_named);
-        if event.makes() {
-            // Neither spelling has a line for an event of the other, and no line is in both.
-            assert_eq!(write_event(named, &mut []), Err(Refusal::Misspelt));
-            assert_eq!(write_named(event, &mut []), Err(Refusal::Misspelt));
-            assert_eq!(read_event(named_line.as_bytes()), Err(Refusal::Misspelt));
-            assert_eq!(read_named(line.as_bytes()), Err(Refusal::Misspelt));
-        }
+        check_line(with_name(event, 40), named_line, Spelling::Named);
+        let as_plain = read_event(Spelling::Plain, named_line.as_bytes());
+        let as_named = read_event(Spelling::Named, line.as_bytes());
+        // A create or borrow of one spelling is no line of the other; the rest is in both.
+        let expected = match event.makes() {
+            true => Err(Refusal::Misspelt),
+            false => Ok(Line::Event(event)),
+        };
+        assert_eq!((as_plain, as_named), (expected, expected));
     }
-    assert_eq!(read_named(NAMED_HEADER), Err(Refusal::Misspelt));
 }
 
 #[test]
@@ -115,7 +116,7 @@ fn lines_have_their_longest_lengths() {
     let mut out = [0; 64];
     assert_eq!(write_event(borrow, &mut out), Ok(MAX_LINE));
     let named = with_name(borrow, u32::MAX);
-    assert_eq!(write_named(named, &mut out), Ok(MAX_NAMED_LINE));
+    assert_eq!(write_event(named, &mut out), Ok(MAX_NAMED_LINE));
 }
 
 #[test]
@@ -246,19 +247,74 @@ fn names_dropped_together_are_written_and_read() {
     let short = &mut out[..line.len() - 1];
     assert_eq!(write_drop(&group, short), Err(Refusal::BufferTooShort));
     assert_eq!(write_drop(&[], &mut []), Err(Refusal::Misgrouped));
-    let mut names = [Name(7); MAX_GROUP];
-    assert_eq!(read_drop(line, &mut names), Ok(3));
-    assert_eq!((&names[..3], names[3]), (&group[..], Name(7)));
-    assert_eq!(
-        read_drop(b"(drop 5 2)\n", &mut names),
-        Err(Refusal::Misspelt)
-    );
-    assert_eq!(read_event(line), Err(Refusal::Misspelt));
-    assert_eq!(read_drop(b"(drop 8)\n", &mut names), Ok(1));
-    assert_eq!(&names[..2], [Name(8), Name(5)]);
+    for spelling in BOTH {
+        let read = read_event(spelling, line);
+        assert!(matches!(read, Ok(Line::DropAll(names)) if *names == group));
+        let one = Event::Drop { name: Name(8) };
+        assert_eq!(read_event(spelling, b"(drop 8)\n"), Ok(Line::Event(one)));
+        let falling = read_event(spelling, b"(drop 5 2)\n");
+        assert_eq!(falling, Err(Refusal::Misspelt));
+    }
     let longest: Vec<Name> = (u32::MAX - 63..=u32::MAX).map(Name).collect();
     assert_eq!(write_drop(&longest, &mut out), Ok(MAX_DROP_LINE));
-    assert_eq!(read_drop(&out, &mut names), Ok(MAX_GROUP));
+    let read = read_event(Spelling::Plain, &out);
+    assert!(matches!(read, Ok(Line::DropAll(names)) if *names == *longest));
+    assert_eq!(longest.len(), MAX_GROUP);
+}
+
+#[test]
+fn many_requests_are_taken_in_turn() {
+    let mut table = [Cap::EMPTY; 3];
+    let mut tally = Tally::default();
+    let create = |start| Event::Create {
+        written: None,
+        span: span(start, 8),
+        right: Right::ReadWrite,
+    };
+    let names = [Name(1), Name(3), Name(2)];
+    let requests = [
+        create(0).into(),
+        create(8).into(),
+        with_name(create(16), 2).into(),
+        with_name(create(16), 3).into(),
+        create(24).into(),
+        Request::drop_all(1..3),
+        Request::drop_all(0..2),
+        Request::drop_all(0..2),
+        Request::drop_all(2..4),
+        Request::drop_all(usize::MAX - 1..usize::MAX),
+        Event::Drop { name: Name(2) }.into(),
+    ];
+    let expected = [
+        Answer::Allowed(Some(Name(1))),
+        Answer::Allowed(Some(Name(2))),
+        Answer::Refused(Refusal::Misnamed),
+        Answer::Allowed(Some(Name(3))),
+        Answer::Refused(Refusal::TableFull),
+        Answer::Refused(Refusal::Misgrouped),
+        Answer::Allowed(None),
+        Answer::Refused(Refusal::Ended),
+        Answer::Refused(Refusal::Misgrouped),
+        Answer::Refused(Refusal::Misgrouped),
+        Answer::Allowed(None),
+    ];
+    let mut room = [Outcome::EMPTY; 20];
+    let answers = apply_all(&mut table, &mut tally, &requests, &names, &mut room);
+    assert!(answers.iter().map(|outcome| outcome.answer()).eq(expected));
+    assert_eq!(table, [Cap::EMPTY; 3]);
+    assert_eq!((tally.issued, tally.drops, tally.refused), (3, 2, 6));
+    // As many as there is room for, and none.
+    let answers = apply_all(&mut table, &mut tally, &requests, &names, &mut room[..1]);
+    assert_eq!(answers.len(), 1);
+    assert_eq!(answers[0].answer(), Answer::Allowed(Some(Name(4))));
+    let answers = apply_all(&mut table, &mut tally, &[], &[], &mut room);
+    assert_eq!((answers.len(), tally.issued), (0, 4));
+    table[2].name = 1;
+    let answers = apply_all(&mut table, &mut tally, &requests, &names, &mut room);
+    let disordered = Answer::Refused(Refusal::Disordered);
+    assert_eq!(answers.len(), requests.len());
+    assert!(answers.iter().all(|outcome| outcome.answer() == disordered));
+    assert_eq!(tally.refused, 6);
 }
 
 #[test]

@@ -2,7 +2,7 @@
 
 use std::fmt::Debug;
 
-use interface::{Cap, Event, Interface, MAX_GROUP};
+use interface::{AnswerWords, Cap, DROP_ALL, Event, Interface, MAX_GROUP, Words};
 use oracle::{Refused, Row, Span, Spelling, Tally};
 
 use crate::report::{Checked, Met, MetAnswers, check_few};
@@ -54,6 +54,35 @@ pub fn span_of(event: Event) -> Span {
 pub fn oracle_event(event: Event) -> oracle::Event {
     let span = span_of(event);
     oracle::Event::from_fields(event.kind, event.written, event.name, span, event.right)
+}
+
+/// What words ask for: an event, or names to drop together.
+pub enum Asked<'a> {
+    Event(oracle::Event),
+    Names(&'a [u32]),
+}
+
+/// Names that reach past the end of their list are none; kinds and rights above a byte are as unknown
+/// as 0 is; any number but 0 says that a name is written.
+pub fn asked<'a>(words: &Words, names: &'a [u32]) -> Asked<'a> {
+    if words.kind == DROP_ALL {
+        let start = u64::from(words.start);
+        let end = start + u64::from(words.length);
+        return Asked::Names(match end <= names.len() as u64 {
+            true => &names[start as usize..end as usize],
+            false => &[],
+        });
+    }
+    let byte = |number: u32| u8::try_from(number).unwrap_or(0);
+    let (kind, right) = (byte(words.kind), byte(words.right));
+    let written = (words.named != 0).then_some(words.written);
+    let span = Span {
+        start: words.start,
+        length: words.length,
+    };
+    Asked::Event(oracle::Event::from_fields(
+        kind, written, words.name, span, right,
+    ))
 }
 
 /// The spelling in which the interface writes the event.
@@ -202,11 +231,73 @@ pub fn apply(subject: Subject, lent: &mut Lent, event: Event) -> Result<u64, Str
     Ok(answer)
 }
 
-pub fn apply_all(subject: Subject, mut lent: Lent, events: &[Event]) -> Agreed {
+/// Events on what is lent, one call for each.
+pub fn apply_each(subject: Subject, mut lent: Lent, events: &[Event]) -> Agreed {
     for event in events {
         apply(subject, &mut lent, *event)?;
     }
     Ok(())
+}
+
+/// What words ask for, by the oracle alone.
+pub fn oracle_ask(lent: &mut Lent, words: &Words, names: &[u32]) -> Result<u32, Refused> {
+    match asked(words, names) {
+        Asked::Event(event) => oracle::apply(&mut lent.rows, &mut lent.tally, event),
+        Asked::Names(names) => oracle_drop_all(lent, names),
+    }
+}
+
+/// What words ask for, on what is lent, which is then as the call leaves it.
+pub fn apply_words(
+    subject: Subject,
+    lent: &mut Lent,
+    words: &Words,
+    names: &[u32],
+) -> Result<u64, String> {
+    let (answer, found) = lend(lent, |table, tally| {
+        subject.apply_words(table, tally, words, names)
+    })?;
+    let verdict = oracle_ask(lent, words, names);
+    MET.count_answer(verdict);
+    same_answer(packed(verdict), answer)?;
+    same_lent(lent, &found)?;
+    Ok(answer)
+}
+
+/// Answers that stand after those lent and are not the call's to write.
+const GUARD_ANSWERS: usize = 3;
+
+/// Many events in one call with so many answers lent, on what is lent, which is then as the call leaves
+/// it: beside the oracle, and beside one call for each. Gives the answers.
+pub fn apply_all(
+    subject: Subject,
+    lent: &mut Lent,
+    events: &[Words],
+    names: &[u32],
+    room: usize,
+) -> Result<Vec<AnswerWords>, String> {
+    let untouched = |at: usize| [UNTOUCHED ^ at as u32, !(at as u32)];
+    let mut answers: Vec<AnswerWords> = (0..room + GUARD_ANSWERS).map(untouched).collect();
+    let mut expected = answers.clone();
+    let (taken, found) = lend(lent, |table, tally| {
+        subject.apply_all(table, tally, events, names, &mut answers[..room]) as u64
+    })?;
+    let count = events.len().min(room);
+    for (words, answer) in events.iter().zip(&mut expected[..room]) {
+        let singly = apply_words(subject, lent, words, names)?;
+        *answer = [(singly >> 32) as u32, singly as u32];
+    }
+    same("events taken", count as u64, taken)?;
+    for (at, (expected, found)) in expected.iter().zip(&answers).enumerate() {
+        same(
+            &format!("answer {at} (number, value), in one call"),
+            expected,
+            found,
+        )?;
+    }
+    same_lent(lent, &found).map_err(|why| format!("in one call: {why}"))?;
+    answers.truncate(count);
+    Ok(answers)
 }
 
 /// Checks what is lent; on failure gives few rows that still fail.
@@ -244,54 +335,76 @@ pub fn run(subject: Subject, lent: &mut Lent, text: &[u8]) -> Result<u64, String
     Ok(answer)
 }
 
-/// What the fields of a line hold before it is read, and after a refusal.
+/// What words and names hold before a line is read into them, and after a refusal.
 const UNTOUCHED: u32 = 0xA5A5_A5A5;
 
-/// A line in the plain spelling.
-pub fn read_event(subject: Subject, line: &[u8]) -> Agreed {
-    let read = oracle::read_event_line(line, Spelling::Plain);
-    same_fields(read.map(oracle::Event::fields), |fields| {
-        subject.read_event(line, fields)
-    })
-}
+const UNTOUCHED_WORDS: Words = words_of([UNTOUCHED; 7]);
 
-/// A line in the named spelling.
-pub fn read_named(subject: Subject, line: &[u8]) -> Agreed {
-    let read = oracle::read_event_line(line, Spelling::Named);
-    same_fields(read.map(oracle::Event::named_fields), |fields| {
-        subject.read_named(line, fields)
-    })
-}
-
-/// The fields that a reader should give, if it should give any, and those that it gives.
-fn same_fields<const COUNT: usize>(
-    expected: Option<[u32; COUNT]>,
-    call: impl FnOnce(&mut [u32; COUNT]) -> u64,
-) -> Agreed {
-    let mut fields = [UNTOUCHED; COUNT];
-    let answer = call(&mut fields);
-    same_answer(packed(expected.map(|_| 0).ok_or(2)), answer)?;
-    same("fields", expected.unwrap_or([UNTOUCHED; COUNT]), fields)
+const fn words_of([kind, name, start, length, right, named, written]: [u32; 7]) -> Words {
+    Words {
+        kind,
+        name,
+        start,
+        length,
+        right,
+        named,
+        written,
+    }
 }
 
 /// A line in the given spelling.
 pub fn read_line(subject: Subject, line: &[u8], spelling: Spelling) -> Agreed {
-    match spelling {
-        Spelling::Plain => read_event(subject, line),
-        Spelling::Named => read_named(subject, line),
-    }
+    read_line_as(subject, line, u32::from(spelling == Spelling::Named))
 }
 
-/// A line of names that are dropped together: the entries after its names stay, and all do on refusal.
-pub fn read_drop(subject: Subject, line: &[u8]) -> Agreed {
-    let mut names = [UNTOUCHED; MAX_GROUP];
-    let answer = subject.read_drop(line, &mut names);
-    let read = oracle::read_drop_line(line);
-    let count = read.as_ref().map(|names| names.len() as u32);
-    same_answer(packed(count.ok_or(2)), answer)?;
-    let mut expected = read.unwrap_or_default();
-    expected.resize(MAX_GROUP, UNTOUCHED);
-    same("names", &expected[..], &names[..])
+/// A line of an event or of names dropped together, in both spellings.
+pub fn read_both(subject: Subject, line: &[u8]) -> Agreed {
+    read_line(subject, line, Spelling::Plain)?;
+    read_line(subject, line, Spelling::Named)
+}
+
+/// A line in the spelling that a number says. Names after those that are read stay, and on refusal
+/// everything does.
+pub fn read_line_as(subject: Subject, line: &[u8], named: u32) -> Agreed {
+    let mut words = [UNTOUCHED_WORDS; 2];
+    let mut names = [UNTOUCHED; MAX_GROUP + 1];
+    let lent_names = names.first_chunk_mut().expect("there is a name more");
+    let answer = subject.read_line(named, line, &mut words[0], lent_names);
+    let read = expected_line(line, named);
+    same_answer(packed(read.as_ref().map(|_| 0).ok_or(2)), answer)?;
+    let (expected, mut expected_names) = read.unwrap_or((UNTOUCHED_WORDS, Vec::new()));
+    expected_names.resize(MAX_GROUP + 1, UNTOUCHED);
+    same("words", [expected, UNTOUCHED_WORDS], words)?;
+    same("names", &expected_names[..], &names[..])
+}
+
+/// The words and the names of a line, if it is one. Of one name it is an event's.
+fn expected_line(line: &[u8], named: u32) -> Option<(Words, Vec<u32>)> {
+    let spelling = match named {
+        0 => Spelling::Plain,
+        _ => Spelling::Named,
+    };
+    if let Some(event) = oracle::read_event_line(line, spelling) {
+        return Some((words_of(event.words()), Vec::new()));
+    }
+    let names = oracle::read_drop_line(line)?;
+    let count = names.len() as u32;
+    Some((words_of([DROP_ALL, 0, 0, count, 0, 0, 0]), names))
+}
+
+/// The line of what words ask for.
+pub fn write_words(subject: Subject, words: &Words, names: &[u32]) -> Agreed {
+    let expected = |size: usize| match asked(words, names) {
+        Asked::Event(event) => {
+            let spelling = match words.named {
+                0 => Spelling::Plain,
+                _ => Spelling::Named,
+            };
+            oracle::write_event(event, spelling, size)
+        }
+        Asked::Names(names) => oracle::write_drop(names, size),
+    };
+    into_buffers(expected, |out| subject.write_words(words, names, out))
 }
 
 pub fn write_drop(subject: Subject, names: &[u32]) -> Agreed {

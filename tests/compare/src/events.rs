@@ -220,7 +220,7 @@ fn on_table(
 ) -> Checked {
     let events = generate::events(random, lent.clone(), count, spelling);
     let check =
-        |events: &[Event]| agree::check_rows(lent, |lent| agree::apply_all(subject, lent, events));
+        |events: &[Event]| agree::check_rows(lent, |lent| agree::apply_each(subject, lent, events));
     check_few(&events, check).map_err(|(why, events)| format!("{why}\n  events {events:?}"))?;
     Ok(count as u64)
 }

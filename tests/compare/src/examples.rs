@@ -1,7 +1,7 @@
 //! Every trace and example of document 01 and of cards 1, 2 and 4, with the answers written out.
 
-use interface::Event;
-use oracle::{MAX_DEPTH, MAX_NAME, MAX_ROWS, Spelling, Tally};
+use interface::{Event, Words};
+use oracle::{MAX_DEPTH, MAX_GROUP, MAX_NAME, MAX_ROWS, Spelling, Tally};
 
 use crate::agree::{self, Agreed, Lent, Subject, packed, same_answer};
 use crate::generate::{self, Request};
@@ -490,18 +490,22 @@ fn check_listing(subject: Subject, lent: &Lent, expected: &str) -> Agreed {
 /// The event of a line, as the implementation reads it.
 fn read(subject: Subject, line: &str) -> Result<Event, String> {
     let line = format!("{line}\n");
-    agree::read_event(subject, line.as_bytes())?;
-    let mut fields = [0; 5];
-    same_answer(0, subject.read_event(line.as_bytes(), &mut fields))?;
-    let [kind, name, start, length, right] = fields;
+    agree::read_line(subject, line.as_bytes(), Spelling::Plain)?;
+    let mut words = Words::default();
+    same_answer(0, read_into(subject, line.as_bytes(), &mut words))?;
     Ok(Event {
-        kind: kind as u8,
+        kind: words.kind as u8,
         written: None,
-        name,
-        start,
-        length,
-        right: right as u8,
+        name: words.name,
+        start: words.start,
+        length: words.length,
+        right: words.right as u8,
     })
+}
+
+/// A line that is no names dropped together.
+fn read_into(subject: Subject, line: &[u8], words: &mut Words) -> u64 {
+    subject.read_line(0, line, words, &mut [0; MAX_GROUP])
 }
 
 /// A chain of borrows down to depth 64; one more is refused.
@@ -552,8 +556,7 @@ fn disordered(subject: Subject) -> Checked {
 
 fn misspelt(subject: Subject) -> Checked {
     let line = b"(read 01 0 8)\n";
-    let mut fields = [0; 5];
-    same_answer(2 << 32, subject.read_event(line, &mut fields))?;
+    same_answer(2 << 32, read_into(subject, line, &mut Words::default()))?;
     let mut lent = Lent::empty(2);
     let create = read(subject, "(create 0 64 rw)")?;
     agree::apply(subject, &mut lent, create)?;

@@ -1,5 +1,6 @@
 //! Lines of names that are dropped together, written, read, and in both spellings of traces.
 
+use interface::{DROP_ALL, Words};
 use oracle::{HEADER, MAX_GROUP, MAX_INPUT, MAX_ROWS, Spelling, Tally};
 
 use crate::agree::{self, Agreed, Lent, Subject, packed, packed_run, same, same_answer};
@@ -39,7 +40,7 @@ pub fn groups(report: &mut Report, subject: Subject) {
         read(random, subject, 2)
     });
     report.group("every change of one byte of names dropped together", |_| {
-        each_byte(&SAMPLES, |line| read_all(subject, line))
+        each_byte(&SAMPLES, |line| agree::read_both(subject, line))
     });
     report.group("numbers in lines of names dropped together", |_| {
         words(subject)
@@ -195,14 +196,23 @@ fn as_call(
     line: &str,
     expected: Result<u32, u8>,
 ) -> Agreed {
-    read_all(subject, line.as_bytes())?;
+    agree::read_both(subject, line.as_bytes())?;
+    let mut words = Words::default();
     let mut names = [0; MAX_GROUP];
-    let answer = subject.read_drop(line.as_bytes(), &mut names);
+    let answer = subject.read_line(0, line.as_bytes(), &mut words, &mut names);
     if expected == Err(2) {
         return same_answer(packed(Err(2)), answer);
     }
+    same_answer(0, answer)?;
+    let answer = agree::apply_words(subject, &mut before.clone(), &words, &names)?;
+    same_answer(packed(expected), answer)?;
+    agree::write_words(subject, &words, &names)?;
+    // One name is an event; as a list of one it is the same.
+    let names = match words.kind {
+        DROP_ALL => &names[..words.length as usize],
+        _ => &[words.name],
+    };
     let mut lent = before.clone();
-    let names = &names[..answer as usize];
     same_answer(
         packed(expected),
         agree::drop_all(subject, &mut lent, names)?,
@@ -289,13 +299,6 @@ fn written(random: &mut Random, subject: Subject) -> Checked {
     Ok(lists)
 }
 
-/// A line by each of the readers.
-fn read_all(subject: Subject, line: &[u8]) -> Agreed {
-    agree::read_drop(subject, line)?;
-    agree::read_event(subject, line)?;
-    agree::read_named(subject, line)
-}
-
 /// Lines of groups and of what is none, damaged up to so many times.
 fn read(random: &mut Random, subject: Subject, damages: usize) -> Checked {
     let lines = 16_000;
@@ -308,7 +311,7 @@ fn read(random: &mut Random, subject: Subject, damages: usize) -> Checked {
         for _ in 0..damages.min(random.between(1, 2)) {
             generate::damage(random, &mut line);
         }
-        check_text(&line, |line| read_all(subject, line))?;
+        check_text(&line, |line| agree::read_both(subject, line))?;
     }
     Ok(lines)
 }
@@ -318,7 +321,7 @@ fn words(subject: Subject) -> Checked {
     let mut cases = 0;
     let mut one = |line: String| {
         cases += 1;
-        check_text(line.as_bytes(), |text| read_all(subject, text))
+        check_text(line.as_bytes(), |text| agree::read_both(subject, text))
     };
     for first in NUMBERS {
         one(format!("(drop {first})\n"))?;
@@ -343,7 +346,7 @@ fn limits(subject: Subject) -> Checked {
             let names: Vec<u32> = (first..=u32::MAX).take(count as usize).collect();
             agree::write_drop(subject, &names)?;
             let line = generate::requests_text(&[Request::Group(names)], Spelling::Plain);
-            read_all(subject, &line)?;
+            agree::read_both(subject, &line)?;
             let text = [creates.as_bytes(), &line].concat();
             agree::run(subject, &mut Lent::empty(MAX_ROWS), &text)?;
             agree::check(subject, &text)?;
@@ -353,13 +356,16 @@ fn limits(subject: Subject) -> Checked {
     let longest: Vec<u32> = (u32::MAX - 63..=u32::MAX).collect();
     let mut out = [0; 711];
     same_answer(711, subject.write_drop(&longest, &mut out))?;
-    same_answer(64, subject.read_drop(&out, &mut [0; MAX_GROUP]))?;
+    let mut words = Words::default();
+    let answer = subject.read_line(0, &out, &mut words, &mut [0; MAX_GROUP]);
+    same_answer(0, answer)?;
+    same("words", Words::drop_all(0, 64), words)?;
     for length in [MAX_INPUT, MAX_INPUT + 1] {
         for filling in [" 1", " ", "1", "0"] {
             let mut text = format!("(drop 1{}", filling.repeat(MAX_INPUT)).into_bytes();
             text.truncate(length);
             agree::check(subject, &text)?;
-            agree::read_drop(subject, &text)?;
+            agree::read_both(subject, &text)?;
             cases += 2;
         }
     }

@@ -204,7 +204,9 @@ fn words(subject: Subject) -> Checked {
     let mut cases = 0;
     let mut one = |line: String| {
         cases += 1;
-        check_text(line.as_bytes(), |text| agree::read_event(subject, text))
+        check_text(line.as_bytes(), |text| {
+            agree::read_line(subject, text, Spelling::Plain)
+        })
     };
     for first in NUMBERS {
         one(format!("(drop {first})\n"))?;
@@ -225,7 +227,9 @@ fn named_words(subject: Subject) -> Checked {
     let mut cases = 0;
     let mut one = |line: String| {
         cases += 1;
-        check_text(line.as_bytes(), |text| agree::read_named(subject, text))
+        check_text(line.as_bytes(), |text| {
+            agree::read_line(subject, text, Spelling::Named)
+        })
     };
     for first in NUMBERS {
         for second in NUMBERS {

@@ -13,6 +13,7 @@ mod grouped_text;
 mod histories;
 mod lines;
 mod listings;
+mod many;
 mod random;
 mod report;
 mod runs;
@@ -77,6 +78,7 @@ fn main() -> ExitCode {
     spellings::groups(&mut report, subject);
     together::groups(&mut report, subject);
     grouped_text::groups(&mut report, subject);
+    many::groups(&mut report, subject);
     report.met("every answer of an event was met", agree::every_answer_met);
     report.met(
         "every answer of the history was met",

@@ -2,6 +2,7 @@
 //! measures the one can test or measure the other.
 
 pub use baseline::{Cap, Event, MAX_GROUP, Tally};
+pub use words::{AnswerWords, DROP_ALL, Words};
 
 #[cfg(library)]
 #[allow(unsafe_code)]
@@ -10,46 +11,87 @@ mod ffi;
 #[cfg(library)]
 mod library;
 mod plain;
+mod words;
 
-/// The calls of the C interface. Each answers the refusal's number times 2^32 plus a value.
+/// The functions of the C interface, and below them the same in the shapes that a caller has at hand.
+/// Each but `apply_all` answers the refusal's number times 2^32 plus a value.
 pub trait Interface {
     fn name(&self) -> &'static str;
 
-    /// One event: `kz_apply_named` where a name is written, else `kz_apply`.
-    fn apply(&self, table: &mut [Cap], tally: &mut Tally, event: Event) -> u64;
+    /// `kz_abi_apply`: an event, or names dropped together that stand in the list.
+    fn apply_words(
+        &self,
+        table: &mut [Cap],
+        tally: &mut Tally,
+        words: &Words,
+        names: &[u32],
+    ) -> u64;
 
-    /// Events in turn, going on after refusals: how many were taken. An answer is the refusal's number
-    /// and a value.
+    /// As many events as there are answers for: how many were taken.
     fn apply_all(
         &self,
         table: &mut [Cap],
         tally: &mut Tally,
-        events: &[Event],
+        events: &[Words],
         names: &[u32],
-        answers: &mut [[u32; 2]],
+        answers: &mut [AnswerWords],
     ) -> usize;
 
     fn run(&self, table: &mut [Cap], tally: &mut Tally, text: &[u8]) -> u64;
 
-    /// An event's line: `kz_write_named` where a name is written, else `kz_write_event`.
-    fn write_event(&self, event: Event, out: &mut [u8]) -> u64;
+    /// `kz_abi_write_event`: the line of what `apply_words` takes.
+    fn write_words(&self, words: &Words, names: &[u32], out: &mut [u8]) -> u64;
 
-    fn read_event(&self, line: &[u8], fields: &mut [u32; 5]) -> u64;
-
-    fn read_named(&self, line: &[u8], fields: &mut [u32; 6]) -> u64;
-
-    /// Names dropped together.
-    fn drop_all(&self, table: &mut [Cap], tally: &mut Tally, names: &[u32]) -> u64;
-
-    fn write_drop(&self, names: &[u32], out: &mut [u8]) -> u64;
-
-    fn read_drop(&self, line: &[u8], names: &mut [u32; MAX_GROUP]) -> u64;
+    /// `kz_abi_read_event`: a line of either sort, in the named spelling where `named` is not 0.
+    fn read_line(
+        &self,
+        named: u32,
+        line: &[u8],
+        words: &mut Words,
+        names: &mut [u32; MAX_GROUP],
+    ) -> u64;
 
     fn write_listing(&self, table: &[Cap], issued: u32, out: &mut [u8]) -> u64;
 
     fn read_listing(&self, text: &[u8], table: &mut [Cap], tally: &mut Tally) -> u64;
 
     fn check(&self, input: &[u8], out: &mut [u8]) -> u64;
+
+    /// One event.
+    fn apply(&self, table: &mut [Cap], tally: &mut Tally, event: Event) -> u64 {
+        self.apply_words(table, tally, &event.into(), &[])
+    }
+
+    /// Names dropped together.
+    fn drop_all(&self, table: &mut [Cap], tally: &mut Tally, names: &[u32]) -> u64 {
+        self.apply_words(table, tally, &Words::drop_all(0, names.len() as u32), names)
+    }
+
+    /// An event's line, in the named spelling where a name is written.
+    fn write_event(&self, event: Event, out: &mut [u8]) -> u64 {
+        self.write_words(&event.into(), &[], out)
+    }
+
+    /// The line of names dropped together.
+    fn write_drop(&self, names: &[u32], out: &mut [u8]) -> u64 {
+        self.write_words(&Words::drop_all(0, names.len() as u32), names, out)
+    }
+
+    /// A line in the plain spelling: kind, name, start, length and right.
+    fn read_event(&self, line: &[u8], fields: &mut [u32; 5]) -> u64 {
+        let mut words = Words::default();
+        let answer = self.read_line(0, line, &mut words, &mut [0; MAX_GROUP]);
+        if answer == 0 {
+            *fields = [
+                words.kind,
+                words.name,
+                words.start,
+                words.length,
+                words.right,
+            ];
+        }
+        answer
+    }
 }
 
 pub fn baseline() -> &'static dyn Interface {

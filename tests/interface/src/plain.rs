@@ -2,7 +2,7 @@
 
 use baseline::{Cap, Event, MAX_GROUP, Refusal, Spelling, Tally};
 
-use crate::Interface;
+use crate::{AnswerWords, DROP_ALL, Interface, Words};
 
 pub struct Baseline;
 
@@ -13,22 +13,38 @@ fn packed(answer: Result<u32, Refusal>) -> u64 {
     }
 }
 
+/// The names that the words mean, where they mean names; those past the end of the list are none.
+fn group<'a>(words: &Words, names: &'a [u32]) -> Option<&'a [u32]> {
+    let start = words.start as usize;
+    let end = start.saturating_add(words.length as usize);
+    (words.kind == DROP_ALL).then(|| names.get(start..end).unwrap_or(&[]))
+}
+
 impl Interface for Baseline {
     fn name(&self) -> &'static str {
         "baseline"
     }
 
-    fn apply(&self, table: &mut [Cap], tally: &mut Tally, event: Event) -> u64 {
-        packed(baseline::apply(table, tally, event))
+    fn apply_words(
+        &self,
+        table: &mut [Cap],
+        tally: &mut Tally,
+        words: &Words,
+        names: &[u32],
+    ) -> u64 {
+        match group(words, names) {
+            Some(names) => self.drop_all(table, tally, names),
+            None => packed(baseline::apply(table, tally, *words)),
+        }
     }
 
     fn apply_all(
         &self,
         table: &mut [Cap],
         tally: &mut Tally,
-        events: &[Event],
+        events: &[Words],
         names: &[u32],
-        answers: &mut [[u32; 2]],
+        answers: &mut [AnswerWords],
     ) -> usize {
         baseline::apply_all(table, tally, events, names, answers)
     }
@@ -40,40 +56,32 @@ impl Interface for Baseline {
         }
     }
 
-    fn write_event(&self, event: Event, out: &mut [u8]) -> u64 {
-        let spelling = match event.written {
-            Some(_) => Spelling::Named,
-            None => Spelling::Plain,
+    fn write_words(&self, words: &Words, names: &[u32], out: &mut [u8]) -> u64 {
+        match group(words, names) {
+            Some(names) => self.write_drop(names, out),
+            None => self.write_event((*words).into(), out),
+        }
+    }
+
+    fn read_line(
+        &self,
+        named: u32,
+        line: &[u8],
+        words: &mut Words,
+        names: &mut [u32; MAX_GROUP],
+    ) -> u64 {
+        let spelling = match named {
+            0 => Spelling::Plain,
+            _ => Spelling::Named,
         };
-        packed(baseline::write_event(event, spelling, out))
-    }
-
-    fn read_event(&self, line: &[u8], fields: &mut [u32; 5]) -> u64 {
-        packed(baseline::read_event(line, Spelling::Plain).map(|e| {
-            *fields = [e.kind.into(), e.name, e.start, e.length, e.right.into()];
+        if let Ok(event) = baseline::read_event(line, spelling) {
+            *words = event.into();
+            return 0;
+        }
+        packed(baseline::read_drop(line, names).map(|count| {
+            *words = Words::drop_all(0, count);
             0
         }))
-    }
-
-    fn read_named(&self, line: &[u8], fields: &mut [u32; 6]) -> u64 {
-        packed(baseline::read_event(line, Spelling::Named).map(|e| {
-            let kind = e.kind.into();
-            let written = e.written.unwrap_or(0);
-            *fields = [kind, written, e.name, e.start, e.length, e.right.into()];
-            0
-        }))
-    }
-
-    fn drop_all(&self, table: &mut [Cap], tally: &mut Tally, names: &[u32]) -> u64 {
-        packed(baseline::drop_all(table, tally, names).map(|()| 0))
-    }
-
-    fn write_drop(&self, names: &[u32], out: &mut [u8]) -> u64 {
-        packed(baseline::write_drop(names, out))
-    }
-
-    fn read_drop(&self, line: &[u8], names: &mut [u32; MAX_GROUP]) -> u64 {
-        packed(baseline::read_drop(line, names))
     }
 
     fn write_listing(&self, table: &[Cap], issued: u32, out: &mut [u8]) -> u64 {
@@ -86,5 +94,25 @@ impl Interface for Baseline {
 
     fn check(&self, input: &[u8], out: &mut [u8]) -> u64 {
         packed(baseline::check(input, out))
+    }
+
+    fn apply(&self, table: &mut [Cap], tally: &mut Tally, event: Event) -> u64 {
+        packed(baseline::apply(table, tally, event))
+    }
+
+    fn drop_all(&self, table: &mut [Cap], tally: &mut Tally, names: &[u32]) -> u64 {
+        packed(baseline::drop_all(table, tally, names).map(|()| 0))
+    }
+
+    fn write_event(&self, event: Event, out: &mut [u8]) -> u64 {
+        let spelling = match event.written {
+            Some(_) => Spelling::Named,
+            None => Spelling::Plain,
+        };
+        packed(baseline::write_event(event, spelling, out))
+    }
+
+    fn write_drop(&self, names: &[u32], out: &mut [u8]) -> u64 {
+        packed(baseline::write_drop(names, out))
     }
 }

@@ -100,7 +100,7 @@ impl Event {
         }
     }
 
-    /// Kind, name, start, length and right as the C interface gives them, 0 for what a kind lacks.
+    /// Kind, name, start, length and right as the C interface has them, 0 for what a kind lacks.
     pub fn fields(self) -> [u32; 5] {
         match self {
             Event::Create { span, right, .. } => [1, 0, span.start, span.length, right.into()],
@@ -117,11 +117,12 @@ impl Event {
         }
     }
 
-    /// The same with the written name after the kind, as the C interface gives it.
-    pub fn named_fields(self) -> [u32; 6] {
+    /// The same, and after them whether a new name is written and which, as the C interface has it.
+    pub fn words(self) -> [u32; 7] {
         let [kind, name, start, length, right] = self.fields();
+        let named = u32::from(self.written().is_some());
         let written = self.written().unwrap_or(0);
-        [kind, written, name, start, length, right]
+        [kind, name, start, length, right, named, written]
     }
 
     /// The name that the event carries for what it makes.

@@ -1,0 +1,172 @@
+//! Events and names dropped together, as the C interface passes them and as lines hold them.
+
+use core::fmt;
+use core::ops::{Deref, Range};
+
+use crate::{Addr, Event, Name, Right, Span, MAX_GROUP};
+
+const CREATE: u32 = 1;
+const BORROW: u32 = 2;
+const READ: u32 = 3;
+const WRITE: u32 = 4;
+const DROP: u32 = 5;
+const DROP_ALL: u32 = 6;
+
+/// One request of many: an [`Event`], or names that are dropped together, which stand in a list beside
+/// the requests. It is made of one or the other, and laid out as `kz_event` is.
+///
+/// ```
+/// use kelzoud::{Event, Name, Request};
+///
+/// let names = [Name(2), Name(5), Name(9)];
+/// let requests = [Request::from(Event::Drop { name: Name(1) }), Request::drop_all(0..names.len())];
+/// ```
+#[repr(C)]
+#[derive(Clone, Copy, Debug, PartialEq, Eq, Hash)]
+pub struct Request {
+    kind: u32,
+    name: u32,
+    start: u32,
+    length: u32,
+    right: u32,
+    named: u32,
+    written: u32,
+}
+
+impl Request {
+    /// What is overwritten when a line is read. No request has this kind.
+    pub(crate) const NONE: Request = Request {
+        kind: 0,
+        name: 0,
+        start: 0,
+        length: 0,
+        right: 0,
+        named: 0,
+        written: 0,
+    };
+
+    /// Drops the names together that stand at these places of the list. Places past its end, and places
+    /// that 32 bits cannot hold, are no names, and refused so.
+    pub fn drop_all(places: Range<usize>) -> Request {
+        let start = u32::try_from(places.start);
+        let length = u32::try_from(places.len());
+        let (start, length) = start.and_then(|at| Ok((at, length?))).unwrap_or((0, 0));
+        Request {
+            kind: DROP_ALL,
+            start,
+            length,
+            ..Request::NONE
+        }
+    }
+
+    /// What a line asks for that was read into this request and these names; nothing for a kind or right
+    /// that no line has.
+    pub(crate) fn line(self, names: [Name; MAX_GROUP]) -> Option<Line> {
+        let name = Name(self.name);
+        let written = (self.named != 0).then_some(Name(self.written));
+        let span = Span {
+            start: Addr(self.start),
+            length: self.length,
+        };
+        Some(Line::Event(match self.kind {
+            CREATE => Event::Create {
+                written,
+                span,
+                right: Right::from_number(self.right)?,
+            },
+            BORROW => Event::Borrow {
+                written,
+                parent: name,
+                span,
+                right: Right::from_number(self.right)?,
+            },
+            READ => Event::Read { name, span },
+            WRITE => Event::Write { name, span },
+            DROP => Event::Drop { name },
+            DROP_ALL => {
+                let count = self.length as usize;
+                return Some(Line::DropAll(Group { names, count }));
+            }
+            _ => return None,
+        }))
+    }
+}
+
+impl From<Event> for Request {
+    fn from(event: Event) -> Request {
+        let none = Span {
+            start: Addr(0),
+            length: 0,
+        };
+        let (kind, name, span, right) = match event {
+            Event::Create { span, right, .. } => (CREATE, Name(0), span, right as u32),
+            Event::Borrow {
+                parent,
+                span,
+                right,
+                ..
+            } => (BORROW, parent, span, right as u32),
+            Event::Read { name, span } => (READ, name, span, 0),
+            Event::Write { name, span } => (WRITE, name, span, 0),
+            Event::Drop { name } => (DROP, name, none, 0),
+        };
+        Request {
+            kind,
+            name: name.0,
+            start: span.start.0,
+            length: span.length,
+            right,
+            named: event.written().is_some().into(),
+            written: event.written().map_or(0, |written| written.0),
+        }
+    }
+}
+
+/// Whether the lines of a text write out the names of what creates and borrows make.
+#[derive(Clone, Copy, Debug, PartialEq, Eq, Hash)]
+pub enum Spelling {
+    /// No name is written out: `(create 0 64 rw)`.
+    Plain,
+    /// Each is, in a text that starts with [`NAMED_HEADER`](crate::NAMED_HEADER):
+    /// `(create 1 0 64 rw)`.
+    Named,
+}
+
+/// What a line asks for.
+#[derive(Clone, Copy, Debug, PartialEq, Eq)]
+#[allow(clippy::large_enum_variant)] // Nothing can be allocated for the names.
+pub enum Line {
+    /// An event, of which a line of one name is [`Event::Drop`].
+    Event(Event),
+    /// Two names or more that are dropped together.
+    DropAll(Group),
+}
+
+/// The names of a line that drops them together: a slice of them, strictly rising.
+#[derive(Clone, Copy)]
+pub struct Group {
+    names: [Name; MAX_GROUP],
+    count: usize,
+}
+
+impl Deref for Group {
+    type Target = [Name];
+
+    fn deref(&self) -> &[Name] {
+        &self.names[..self.count]
+    }
+}
+
+impl fmt::Debug for Group {
+    fn fmt(&self, formatter: &mut fmt::Formatter<'_>) -> fmt::Result {
+        formatter.debug_list().entries(self.iter()).finish()
+    }
+}
+
+impl PartialEq for Group {
+    fn eq(&self, other: &Group) -> bool {
+        **self == **other
+    }
+}
+
+impl Eq for Group {}

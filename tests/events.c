@@ -1,0 +1,44 @@
+/*
+ * A program that hands over events and nothing else, for the archive that has no more than their
+ * calls. Prints each check that fails; the exit status is 0 when none does.
+ */
+#include <stdio.h>
+
+#include "kelzoud.h"
+
+static int failures = 0;
+
+static void check(const char *what, kz_answer answer, uint32_t refusal, uint32_t value) {
+    if (answer.refusal != refusal || answer.value != value) {
+        printf("events.c: %s: refusal %u, value %u\n", what, (unsigned)answer.refusal,
+               (unsigned)answer.value);
+        failures++;
+    }
+}
+
+int main(void) {
+    static kz_part part;
+    static const uint32_t names[] = {1, 3};
+    static const kz_event events[] = {
+        {KZ_CREATE, 0, 64, 64, KZ_RW, 1, 3},
+        {KZ_READ, 3, 128, 1, 0, 0, 0},
+        {KZ_DROP_ALL, 0, 0, 2, 0, 0, 0},
+    };
+    const kz_lent lent = kz_lend(&part);
+    kz_answer answers[3];
+    check("create", kz_create(&lent, 0, 64, KZ_RW), 0, 1);
+    check("borrow", kz_borrow(&lent, 1, 0, 16, KZ_RW), 0, 2);
+    check("read", kz_read(&lent, 2, 0, 8), 0, 0);
+    check("write", kz_write(&lent, 1, 0, 8), 0, 0);
+    check("drop", kz_drop(&lent, 2), KZ_ENDED, 0);
+    if (kz_apply_all(&lent, events, 3, names, 2, answers) != 3) {
+        puts("events.c: not all events were taken");
+        failures++;
+    }
+    check("create in many", answers[0], 0, 3);
+    check("read in many", answers[1], KZ_OUTSIDE_SPAN, 0);
+    check("drop in many", answers[2], 0, 0);
+    check("apply", kz_apply(&lent, events), KZ_MISNAMED, 0);
+    check("drop all", kz_drop_all(&lent, names, 2), KZ_ENDED, 0);
+    return failures != 0;
+}

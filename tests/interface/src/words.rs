@@ -1,0 +1,63 @@
+//! Events as the C interface passes them.
+
+use baseline::Event;
+
+/// The kind of names that are dropped together.
+pub const DROP_ALL: u32 = 6;
+
+/// An event, or names that are dropped together, as `kz_event` has it word by word. Any words may be
+/// passed.
+#[repr(C)]
+#[derive(Clone, Copy, Debug, Default, PartialEq, Eq)]
+pub struct Words {
+    pub kind: u32,
+    pub name: u32,
+    pub start: u32,
+    pub length: u32,
+    pub right: u32,
+    pub named: u32,
+    pub written: u32,
+}
+
+impl Words {
+    /// So many names dropped together, from a place of a list on.
+    pub fn drop_all(start: u32, length: u32) -> Words {
+        Words {
+            kind: DROP_ALL,
+            start,
+            length,
+            ..Words::default()
+        }
+    }
+}
+
+impl From<Event> for Words {
+    fn from(event: Event) -> Words {
+        Words {
+            kind: event.kind.into(),
+            name: event.name,
+            start: event.start,
+            length: event.length,
+            right: event.right.into(),
+            named: event.written.is_some().into(),
+            written: event.written.unwrap_or(0),
+        }
+    }
+}
+
+/// Kinds and rights above what the baseline's have room for are as unknown as 0 is.
+impl From<Words> for Event {
+    fn from(words: Words) -> Event {
+        Event {
+            kind: words.kind.try_into().unwrap_or(0),
+            written: (words.named != 0).then_some(words.written),
+            name: words.name,
+            start: words.start,
+            length: words.length,
+            right: words.right.try_into().unwrap_or(0),
+        }
+    }
+}
+
+/// The refusal and the value of an event, as `kz_answer` has them.
+pub type AnswerWords = [u32; 2];
