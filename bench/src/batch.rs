@@ -2,9 +2,9 @@
 
 use std::hint::black_box;
 
-use interface::{Event, Interface};
+use interface::{Interface, MAX_GROUP, Words};
 
-use crate::shape::Lent;
+use crate::shape::{Lent, READ_WRITE};
 use crate::timing::Batch;
 use crate::workload::{self, BORROW, CREATE, DROP, READ, WRITE};
 
@@ -103,29 +103,33 @@ fn refused(expected: u64, answer: u64) {
     );
 }
 
-pub fn apply(event: Event, lent: Lent) -> Box<dyn Batch> {
+pub fn apply(event: Words, lent: Lent) -> Box<dyn Batch> {
     apply_refused(0, event, lent)
 }
 
-pub fn apply_refused(refusal: u64, event: Event, lent: Lent) -> Box<dyn Batch> {
+pub fn apply_refused(refusal: u64, event: Words, lent: Lent) -> Box<dyn Batch> {
     let bytes = lent.table.len() * size_of::<interface::Cap>();
     on_copies(lent, BATCH_BYTES / bytes, 1, move |implementation, lent| {
-        let answer = implementation.apply(&mut lent.table, &mut lent.tally, event);
-        refused(refusal, answer);
+        let (table, tally) = (&mut lent.table, &mut lent.tally);
+        refused(
+            refusal,
+            implementation.apply_words(table, tally, &event, &[]),
+        );
     })
 }
 
 /// Each event by a call of its own.
-pub fn apply_each(events: Vec<Event>, lent: Lent) -> Box<dyn Batch> {
+pub fn apply_each(events: Vec<Words>, lent: Lent) -> Box<dyn Batch> {
     on_copies(lent, 1, events.len(), move |implementation, lent| {
         for event in &events {
-            allowed(implementation.apply(&mut lent.table, &mut lent.tally, *event));
+            let (table, tally) = (&mut lent.table, &mut lent.tally);
+            allowed(implementation.apply_words(table, tally, event, &[]));
         }
     })
 }
 
 /// All events by one call.
-pub fn apply_all(events: Vec<Event>, lent: Lent) -> Box<dyn Batch> {
+pub fn apply_all(events: Vec<Words>, lent: Lent) -> Box<dyn Batch> {
     let mut answers = vec![[0; 2]; events.len()];
     on_copies(lent, 1, events.len(), move |implementation, lent| {
         let (table, tally) = (&mut lent.table, &mut lent.tally);
@@ -142,14 +146,14 @@ pub fn run(lent: Lent, text: Vec<u8>) -> Box<dyn Batch> {
 }
 
 /// One event of each kind, their numbers from one digit to ten.
-fn events() -> [Event; 5] {
-    [CREATE, BORROW, READ, WRITE, DROP].map(|kind| Event {
+fn events() -> [Words; 5] {
+    [CREATE, BORROW, READ, WRITE, DROP].map(|kind| Words {
         kind,
-        written: None,
         name: 40,
         start: 4_294_901_760,
         length: 8,
-        right: 2,
+        right: READ_WRITE,
+        ..Words::default()
     })
 }
 
@@ -157,15 +161,16 @@ pub fn write_event() -> Box<dyn Batch> {
     let events = events();
     let mut out = [0; 64];
     repeated(BATCH_LINES, move |implementation, at| {
-        implementation.write_event(events[at % events.len()], &mut out)
+        implementation.write_words(&events[at % events.len()], &[], &mut out)
     })
 }
 
 pub fn read_event() -> Box<dyn Batch> {
     let lines = events().map(workload::line);
-    let mut fields = [0; 5];
+    let mut event = Words::default();
+    let mut names = [0; MAX_GROUP];
     repeated(BATCH_LINES, move |implementation, at| {
-        implementation.read_event(&lines[at % lines.len()], &mut fields)
+        implementation.read_line(0, &lines[at % lines.len()], &mut event, &mut names)
     })
 }
 

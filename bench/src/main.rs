@@ -68,7 +68,7 @@ const ON_TABLES: [Measurement; 10] = [
     }),
 ];
 
-fn apply_on_first(kind: u8, lent: shape::Lent) -> Box<dyn Batch> {
+fn apply_on_first(kind: u32, lent: shape::Lent) -> Box<dyn Batch> {
     batch::apply(event_on_first(&lent, kind), lent)
 }
 

@@ -4,7 +4,7 @@ use interface::{Cap, Tally};
 
 use crate::random::Random;
 
-pub const READ_WRITE: u8 = 2;
+pub const READ_WRITE: u32 = 2;
 
 const MAX_DEPTH: u32 = 64;
 const MAX_NAME: u32 = 1_000_000;
@@ -165,7 +165,7 @@ fn root(name: u32, start: u32, length: u32) -> Cap {
         parent: 0,
         start,
         length,
-        right: READ_WRITE.into(),
+        right: READ_WRITE,
         depth: 1,
     }
 }

@@ -1,34 +1,34 @@
 //! Events and texts to time the calls on.
 
-use interface::{Cap, Event};
+use interface::{Cap, Words};
 
 use crate::random::Random;
 use crate::shape::{BESIDE, Lent, READ_WRITE};
 
-pub const CREATE: u8 = 1;
-pub const BORROW: u8 = 2;
-pub const READ: u8 = 3;
-pub const WRITE: u8 = 4;
-pub const DROP: u8 = 5;
+pub const CREATE: u32 = 1;
+pub const BORROW: u32 = 2;
+pub const READ: u32 = 3;
+pub const WRITE: u32 = 4;
+pub const DROP: u32 = 5;
 
 /// An event over the whole span of the first row, through it where the kind has a name: a read lowers
 /// what was borrowed from it, a write, drop or create ends it, a borrow takes nothing.
-pub fn event_on_first(lent: &Lent, kind: u8) -> Event {
+pub fn event_on_first(lent: &Lent, kind: u32) -> Words {
     let first = lent.table[0];
-    Event {
+    Words {
         kind,
-        written: None,
         name: first.name,
         start: first.start,
         length: first.length,
         right: READ_WRITE,
+        ..Words::default()
     }
 }
 
 /// The event moved behind the shape: a create there touches nothing and so ends nothing, a read there
 /// is outside of its span.
-pub fn beside(event: Event) -> Event {
-    Event {
+pub fn beside(event: Words) -> Words {
+    Words {
         start: BESIDE,
         ..event
     }
@@ -43,14 +43,14 @@ pub const ROUND_EVENTS: usize = 8;
 /// Events that are all allowed: an object beside the shape is made, borrowed, used and dropped, and
 /// some live row is read through. A round's create has the memory of the last round's object, which
 /// has been dropped, and so ends nothing.
-fn round(object: u32, reader: &Cap) -> [Event; ROUND_EVENTS] {
-    let event = |kind, name, length| Event {
+fn round(object: u32, reader: &Cap) -> [Words; ROUND_EVENTS] {
+    let event = |kind, name, length| Words {
         kind,
-        written: None,
         name,
         start: BESIDE,
         length,
         right: READ_WRITE,
+        ..Words::default()
     };
     let (first, second) = (object + 1, object + 2);
     [
@@ -59,7 +59,7 @@ fn round(object: u32, reader: &Cap) -> [Event; ROUND_EVENTS] {
         event(BORROW, first, 16),
         event(WRITE, second, 8),
         event(READ, first, 8),
-        Event {
+        Words {
             start: reader.start,
             ..event(READ, reader.name, 1)
         },
@@ -69,7 +69,7 @@ fn round(object: u32, reader: &Cap) -> [Event; ROUND_EVENTS] {
 }
 
 /// Rounds one after the other, on a table with room for one.
-pub fn rounds(lent: &Lent) -> impl Iterator<Item = [Event; ROUND_EVENTS]> {
+pub fn rounds(lent: &Lent) -> impl Iterator<Item = [Words; ROUND_EVENTS]> {
     let mut random = Random::new();
     let live: Vec<Cap> = lent
         .table
@@ -95,9 +95,9 @@ pub fn steady_text(lent: &Lent, size: usize) -> Vec<u8> {
 }
 
 /// The line of an event.
-pub fn line(event: Event) -> Vec<u8> {
+pub fn line(event: Words) -> Vec<u8> {
     let mut line = vec![0; 64];
-    let length = interface::baseline().write_event(event, &mut line) as usize;
+    let length = interface::baseline().write_words(&event, &[], &mut line) as usize;
     line.truncate(length);
     line
 }
