@@ -44,9 +44,6 @@ impl Span {
         end: ADDRESSES,
     };
 
-    /// No address: it touches nothing.
-    pub(crate) const NONE: Span = Span { start: 0, end: 0 };
-
     #[inline]
     pub(crate) fn new(start: u32, length: u32) -> Span {
         let start = u64::from(start);

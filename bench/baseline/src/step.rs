@@ -125,7 +125,7 @@ impl<const ROWS: usize> Ordered<'_, ROWS> {
             }
         }
         self.tally.count_allowed(Kind::Drop);
-        self.remove(&mut marks, Span::NONE, first);
+        self.remove(&mut marks, first, |_| false);
         Ok(())
     }
 
@@ -200,7 +200,7 @@ impl<const ROWS: usize> Ordered<'_, ROWS> {
             (Kind::Drop, Some(at)) => {
                 let mut marks = [0; ROWS];
                 marks[at] = STRUCK;
-                self.remove(&mut marks, Span::NONE, at);
+                self.remove(&mut marks, at, |_| false);
             }
             _ => self.access(kind, user, event.span()),
         }
@@ -218,10 +218,11 @@ impl<const ROWS: usize> Ordered<'_, ROWS> {
             marks[at] = SPARED;
             next = self.index.parent(at);
         }
-        let first = self.first_struck(&marks, span);
+        let touched = |row: &Cap| row.span().touches(span);
+        let first = self.first_struck(&marks, touched);
         match kind {
-            Kind::Read => self.lower(&mut marks, span, first),
-            _ => self.remove(&mut marks, span, first),
+            Kind::Read => self.lower(&mut marks, first, touched),
+            _ => self.remove(&mut marks, first, touched),
         }
     }
 
@@ -248,13 +249,12 @@ impl<const ROWS: usize> Ordered<'_, ROWS> {
     /// The first row that the access strikes by itself. No row before it can inherit a mark. Most rows
     /// are not touched, so four are looked at for each branch.
     #[inline]
-    fn first_struck(&self, marks: &Marks<ROWS>, span: Span) -> usize {
+    fn first_struck(&self, marks: &Marks<ROWS>, touched: impl Fn(&Cap) -> bool) -> usize {
         let rows = &self.table[..self.index.live];
-        let touches = |row: &Cap| row.span().touches(span);
-        let struck = |at: &usize| touches(&rows[*at]) && marks[*at % ROWS] == 0;
+        let struck = |at: &usize| touched(&rows[*at]) && marks[*at % ROWS] == 0;
         let mut at = 0;
         for [one, two, three, four] in rows.as_chunks().0 {
-            if touches(one) | touches(two) | touches(three) | touches(four)
+            if touched(one) | touched(two) | touched(three) | touched(four)
                 && let Some(found) = (at..at + 4).find(struck)
             {
                 return found;
@@ -265,18 +265,19 @@ impl<const ROWS: usize> Ordered<'_, ROWS> {
     }
 
     /// Marks what is struck from the row `first` on, and lowers it.
-    fn lower(&mut self, marks: &mut Marks<ROWS>, span: Span, first: usize) {
+    fn lower(&mut self, marks: &mut Marks<ROWS>, first: usize, touched: impl Fn(&Cap) -> bool) {
         for at in first..self.index.live {
-            let mark = self.mark(marks, at, span);
+            let mark = self.mark(marks, at, &touched);
             let row = &mut self.table[at];
             row.right = if mark == STRUCK { 1 } else { row.right };
         }
     }
 
     /// Marks what is struck from the row `first` on, closes the gaps that it leaves, all in one
-    /// pass, and clears the rows that come free. Inlined, so that a drop asks for no span.
-    #[inline(always)]
-    fn remove(&mut self, marks: &mut Marks<ROWS>, span: Span, first: usize) {
+    /// pass, and clears the rows that come free. Not inlined, so that events that end nothing do not
+    /// make room for its places.
+    #[inline(never)]
+    fn remove(&mut self, marks: &mut Marks<ROWS>, first: usize, touched: impl Fn(&Cap) -> bool) {
         let live = self.index.live;
         if first == live {
             return;
@@ -287,7 +288,7 @@ impl<const ROWS: usize> Ordered<'_, ROWS> {
         }
         let mut kept = first;
         for at in first..live {
-            let mark = self.mark(marks, at, span);
+            let mark = self.mark(marks, at, &touched);
             moved[at] = kept as u16;
             // A row that ends is written too, and the next one is written over it.
             self.table[kept] = self.table[at];
@@ -298,13 +299,13 @@ impl<const ROWS: usize> Ordered<'_, ROWS> {
         self.index.live = kept;
     }
 
-    /// Marks a row whose parent has been marked: a mark is inherited, had before, or its own by the
-    /// span. A root's parent is its own row, from which it inherits what it had.
+    /// Marks a row whose parent has been marked: a mark is inherited, had before, or the row's own
+    /// where it is touched. A root's parent is its own row, from which it inherits what it had.
     #[inline(always)]
-    fn mark(&self, marks: &mut Marks<ROWS>, at: usize, span: Span) -> u8 {
+    fn mark(&self, marks: &mut Marks<ROWS>, at: usize, touched: impl Fn(&Cap) -> bool) -> u8 {
         let inherited = marks[usize::from(self.index.parents[at]) % ROWS] & STRUCK;
-        let touched = self.table[at].span().touches(span) & (marks[at] != SPARED);
-        let mark = (marks[at] & STRUCK) | inherited | u8::from(touched);
+        let own = touched(&self.table[at]) & (marks[at] != SPARED);
+        let mark = (marks[at] & STRUCK) | inherited | u8::from(own);
         marks[at] = mark;
         mark
     }
