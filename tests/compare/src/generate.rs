@@ -238,7 +238,7 @@ fn event(random: &mut Random, lent: &Lent, area: Span, spelling: Spelling) -> Ev
         _ => live.get(random.index(live.len().max(1))).copied(),
     };
     let kind = match random.one_in(50) {
-        true => random.pick(&[0, 6, 7, 128, 255]),
+        true => random.pick(&[0, 7, 8, 128, 255]),
         false => random.pick(&[1, 2, 2, 2, 3, 3, 4, 4, 5]),
     };
     let outer = user.map_or(area, |user| user.span());

@@ -189,7 +189,7 @@ const RIGHTS: [u32; 14] = [
 /// Words of an event, with anything in those that its kind lacks.
 fn words_of_event(random: &mut Random, event: interface::Event) -> Words {
     let mut words = Words::from(event);
-    if words.named != 0 && random.one_in(3) {
+    if words.named != 0 && random.one_in(2) {
         words.named = random.pick(&NAMED);
     }
     if !matches!(words.kind, 1 | 2) {
@@ -202,6 +202,7 @@ fn words_of_event(random: &mut Random, event: interface::Event) -> Words {
         2 => words.kind |= 1 << random.between(8, 31),
         3 | 4 => words.right = random.pick(&RIGHTS),
         5 => words.right |= 1 << random.between(8, 31),
+        6..=9 => words.written = random.number(),
         _ => {}
     }
     words

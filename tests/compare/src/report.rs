@@ -86,7 +86,10 @@ impl<const SORTS: usize> Met<SORTS> {
         let met = self.counts();
         match met.iter().all(|count| *count >= least) {
             true => Ok(met.iter().sum()),
-            false => Err(format!("sorts: {:?}", names.iter().zip(met))),
+            false => {
+                let sorts: Vec<_> = names.iter().zip(met).collect();
+                Err(format!("sorts, each {least} times or more: {sorts:#?}"))
+            }
         }
     }
 }
