@@ -1,6 +1,8 @@
 //! Times each call of the C interface, the library beside the baseline where this was built with
 //! `KELZOUD_LIB` set: how the times grow with the rows, how they depend on the table's shape, and what
 //! is gained by many events in one call.
+//!
+//! `bench [rows] [shapes] [many]`: with words only those tables are made.
 
 mod batch;
 mod print;
@@ -8,6 +10,8 @@ mod random;
 mod shape;
 mod timing;
 mod workload;
+
+use std::env;
 
 use shape::{Case, Shape, chains, random_trees, roots, shared_slots, spread_star, star, two_trees};
 use timing::{Batch, Contenders, median_times};
@@ -28,6 +32,9 @@ type Measurement = (&'static str, &'static str, fn(Case) -> Box<dyn Batch>);
 
 /// A call, and the batch that times it.
 type LineMeasurement = (&'static str, fn() -> Box<dyn Batch>);
+
+/// A table by its name, what is said before it, and what prints it.
+type Table = (&'static str, &'static str, fn(&Contenders));
 
 /// The calls whose time depends on the table. Where all rows are live, creates and the borrow begin
 /// with one row less; after the create beside the rows and after the borrow the table is full.
@@ -124,12 +131,19 @@ fn main() {
         .into_iter()
         .chain([interface::baseline()])
         .collect();
-    println!("{NOTES}\n");
-    growth_by_rows(&contenders);
-    println!("\n{SHAPE_NOTES}\n");
-    ratios_by_shape(&contenders);
-    println!("\n{MANY_NOTES}\n");
-    many_events(&contenders);
+    let wanted: Vec<String> = env::args().skip(1).collect();
+    let tables: [Table; 3] = [
+        ("rows", NOTES, growth_by_rows),
+        ("shapes", SHAPE_NOTES, ratios_by_shape),
+        ("many", MANY_NOTES, many_events),
+    ];
+    for (name, notes, table) in tables {
+        if wanted.is_empty() || wanted.iter().any(|word| word == name) {
+            println!("{notes}\n");
+            table(&contenders);
+            println!();
+        }
+    }
 }
 
 fn growth_by_rows(contenders: &Contenders) {
