@@ -181,6 +181,35 @@ mod tests {
     }
 
     #[test]
+    fn names_past_the_end_of_the_list_are_no_group() {
+        let drop_all = |(start, length)| Event {
+            kind: DROP_ALL,
+            start,
+            length,
+            ..Event::default()
+        };
+        let most = u32::MAX;
+        let places = [(1, 2), (2, 1), (3, 0), (most, most), (most, 2), (0, 2)];
+        let mut table = [Cap::default(); 2];
+        let mut tally = Tally::default();
+        for length in 1..=2 {
+            let create = Event {
+                kind: 1,
+                length: length - 1,
+                right: 2,
+                ..Event::default()
+            };
+            assert_eq!(apply(&mut table, &mut tally, create), Ok(length));
+        }
+        let mut answers = [[7, 7]; 6];
+        let events = places.map(drop_all);
+        apply_all(&mut table, &mut tally, &events, &[1, 2], &mut answers);
+        assert_eq!(answers[..5], [[13, 0]; 5]);
+        assert_eq!((answers[5], table), ([0, 0], [Cap::default(); 2]));
+        assert_eq!((tally.refused, tally.drops), (5, 1));
+    }
+
+    #[test]
     fn a_disordered_table_refuses_all() {
         let mut table = [Cap::default(); 4];
         table[1].name = 1;
