@@ -2,10 +2,11 @@
 
 use std::hint::black_box;
 
-use interface::{Event, Interface};
+use interface::{Interface, MAX_GROUP, Words};
 
+use crate::shape::{Lent, READ_WRITE};
 use crate::timing::Batch;
-use crate::workload::Lent;
+use crate::workload::{self, BORROW, CREATE, DROP, READ, WRITE};
 
 /// About so many bytes of tables stand in a batch, few enough for the second cache.
 const BATCH_BYTES: usize = 128 * 1024;
@@ -13,20 +14,28 @@ const BATCH_BYTES: usize = 128 * 1024;
 /// How many lines, or rows of listings, stand in a batch.
 const BATCH_LINES: usize = 4 * 1024;
 
-type LentCall = Box<dyn Fn(&dyn Interface, &mut Lent) -> u64>;
+type LentCall = Box<dyn FnMut(&dyn Interface, &mut Lent)>;
 
 /// Calls that change what is lent: each has a copy of its own, made anew before every batch.
 struct OnCopies {
     original: Lent,
     copies: Vec<Lent>,
+    /// How many calls, or events of one call, are timed on a copy.
+    on_each: usize,
     call: LentCall,
 }
 
-fn on_copies(original: Lent, copies: usize, call: LentCall) -> Box<dyn Batch> {
+fn on_copies(
+    original: Lent,
+    copies: usize,
+    on_each: usize,
+    call: impl FnMut(&dyn Interface, &mut Lent) + 'static,
+) -> Box<dyn Batch> {
     Box::new(OnCopies {
         copies: vec![original.clone(); copies],
         original,
-        call,
+        on_each,
+        call: Box::new(call),
     })
 }
 
@@ -40,12 +49,12 @@ impl Batch for OnCopies {
 
     fn call(&mut self, implementation: &dyn Interface) {
         for copy in &mut self.copies {
-            allowed((self.call)(implementation, copy));
+            (self.call)(implementation, copy);
         }
     }
 
     fn calls(&self) -> usize {
-        self.copies.len()
+        self.copies.len() * self.on_each
     }
 }
 
@@ -81,35 +90,70 @@ impl Batch for Repeated {
     }
 }
 
-/// A refused call would be timed for nothing.
+/// A call that is refused by mistake would be timed for nothing.
 fn allowed(answer: u64) {
-    assert!(black_box(answer) >> 32 == 0, "refusal {}", answer >> 32);
+    refused(0, answer);
 }
 
-pub fn apply(event: Event, lent: Lent) -> Box<dyn Batch> {
+fn refused(expected: u64, answer: u64) {
+    assert!(
+        black_box(answer) >> 32 == expected,
+        "refusal {}",
+        answer >> 32
+    );
+}
+
+pub fn apply(event: Words, lent: Lent) -> Box<dyn Batch> {
+    apply_refused(0, event, lent)
+}
+
+pub fn apply_refused(refusal: u64, event: Words, lent: Lent) -> Box<dyn Batch> {
     let bytes = lent.table.len() * size_of::<interface::Cap>();
-    let call = move |implementation: &dyn Interface, lent: &mut Lent| {
-        implementation.apply(&mut lent.table, &mut lent.tally, event)
-    };
-    on_copies(lent, BATCH_BYTES / bytes, Box::new(call))
+    on_copies(lent, BATCH_BYTES / bytes, 1, move |implementation, lent| {
+        let (table, tally) = (&mut lent.table, &mut lent.tally);
+        refused(
+            refusal,
+            implementation.apply_words(table, tally, &event, &[]),
+        );
+    })
+}
+
+/// Each event by a call of its own.
+pub fn apply_each(events: Vec<Words>, lent: Lent) -> Box<dyn Batch> {
+    on_copies(lent, 1, events.len(), move |implementation, lent| {
+        for event in &events {
+            let (table, tally) = (&mut lent.table, &mut lent.tally);
+            allowed(implementation.apply_words(table, tally, event, &[]));
+        }
+    })
+}
+
+/// All events by one call.
+pub fn apply_all(events: Vec<Words>, lent: Lent) -> Box<dyn Batch> {
+    let mut answers = vec![[0; 2]; events.len()];
+    on_copies(lent, 1, events.len(), move |implementation, lent| {
+        let (table, tally) = (&mut lent.table, &mut lent.tally);
+        let taken = implementation.apply_all(table, tally, &events, &[], &mut answers);
+        assert_eq!(taken, events.len());
+        assert!(black_box(&answers).iter().all(|answer| answer[0] == 0));
+    })
 }
 
 pub fn run(lent: Lent, text: Vec<u8>) -> Box<dyn Batch> {
-    let call = move |implementation: &dyn Interface, lent: &mut Lent| {
-        implementation.run(&mut lent.table, &mut lent.tally, &text)
-    };
-    on_copies(lent, 1, Box::new(call))
+    on_copies(lent, 1, 1, move |implementation, lent| {
+        allowed(implementation.run(&mut lent.table, &mut lent.tally, &text));
+    })
 }
 
 /// One event of each kind, their numbers from one digit to ten.
-fn events() -> [Event; 5] {
-    [1, 2, 3, 4, 5].map(|kind| Event {
+fn events() -> [Words; 5] {
+    [CREATE, BORROW, READ, WRITE, DROP].map(|kind| Words {
         kind,
-        written: None,
         name: 40,
         start: 4_294_901_760,
         length: 8,
-        right: 2,
+        right: READ_WRITE,
+        ..Words::default()
     })
 }
 
@@ -117,20 +161,16 @@ pub fn write_event() -> Box<dyn Batch> {
     let events = events();
     let mut out = [0; 64];
     repeated(BATCH_LINES, move |implementation, at| {
-        implementation.write_event(events[at % events.len()], &mut out)
+        implementation.write_words(&events[at % events.len()], &[], &mut out)
     })
 }
 
 pub fn read_event() -> Box<dyn Batch> {
-    let lines = events().map(|event| {
-        let mut line = vec![0; 64];
-        let length = interface::baseline().write_event(event, &mut line) as usize;
-        line.truncate(length);
-        line
-    });
-    let mut fields = [0; 5];
+    let lines = events().map(workload::line);
+    let mut event = Words::default();
+    let mut names = [0; MAX_GROUP];
     repeated(BATCH_LINES, move |implementation, at| {
-        implementation.read_event(&lines[at % lines.len()], &mut fields)
+        implementation.read_line(0, &lines[at % lines.len()], &mut event, &mut names)
     })
 }
 

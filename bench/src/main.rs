@@ -1,65 +1,108 @@
 //! Times each call of the C interface, the library beside the baseline where this was built with
-//! `KELZOUD_LIB` set, and shows how the times grow with the rows.
+//! `KELZOUD_LIB` set: how the times grow with the rows, how they depend on the table's shape, and what
+//! is gained by many events in one call.
+//!
+//! `bench [rows] [shapes] [many]`: with words only those tables are made.
 
 mod batch;
+mod print;
+mod random;
+mod shape;
 mod timing;
 mod workload;
 
+use std::env;
+
+use shape::{Case, Shape, chains, random_trees, roots, shared_slots, spread_star, star, two_trees};
 use timing::{Batch, Contenders, median_times};
 use workload::{
-    BORROW, CREATE, DROP, READ, STEADY_ROWS, WRITE, create_beside, event_on_first_tree,
-    steady_text, two_trees,
+    BORROW, CREATE, DROP, READ, ROUND_EVENTS, ROUND_ROWS, WRITE, beside, event_on_first, rounds,
+    steady_text,
 };
 
 const SIZES: [usize; 4] = [16, 64, 256, 1_024];
 
 const RUN_BYTES: usize = 65_536;
 
-/// A call, and the batch that times it at a number of live rows.
-type Measurement = (&'static str, fn(usize) -> Box<dyn Batch>);
+/// The refusal of a read outside of its span.
+const OUTSIDE: u64 = 6;
+
+/// A call by its long and its short name, and the batch that times it on a table.
+type Measurement = (&'static str, &'static str, fn(Case) -> Box<dyn Batch>);
 
 /// A call, and the batch that times it.
 type LineMeasurement = (&'static str, fn() -> Box<dyn Batch>);
 
-/// The calls whose time depends on the rows. Creates and the borrow begin with one row less; after
-/// the create beside the trees and after the borrow the table is full.
-const BY_ROWS: [Measurement; 9] = [
-    ("apply create", |rows| {
-        batch::apply(create_beside(), two_trees(rows - 1, rows))
+/// A table by its name, what is said before it, and what prints it.
+type Table = (&'static str, &'static str, fn(&Contenders));
+
+/// The calls whose time depends on the table. Where all rows are live, creates and the borrow begin
+/// with one row less; after the create beside the rows and after the borrow the table is full.
+const ON_TABLES: [Measurement; 10] = [
+    ("apply create", "create", |case| {
+        let lent = case.with_room(1);
+        batch::apply(beside(event_on_first(&lent, CREATE)), lent)
     }),
-    ("apply reuse", |rows| {
-        batch::apply(event_on_first_tree(CREATE), two_trees(rows - 1, rows))
+    ("apply reuse", "reuse", |case| {
+        apply_on_first(CREATE, case.with_room(1))
     }),
-    ("apply borrow", |rows| {
-        batch::apply(event_on_first_tree(BORROW), two_trees(rows - 1, rows))
+    ("apply borrow", "borrow", |case| {
+        apply_on_first(BORROW, case.with_room(1))
     }),
-    ("apply read", |rows| {
-        batch::apply(event_on_first_tree(READ), two_trees(rows, rows))
+    ("apply read", "read", |case| {
+        apply_on_first(READ, case.with_room(0))
     }),
-    ("apply write", |rows| {
-        batch::apply(event_on_first_tree(WRITE), two_trees(rows, rows))
+    ("apply write", "write", |case| {
+        apply_on_first(WRITE, case.with_room(0))
     }),
-    ("apply drop", |rows| {
-        batch::apply(event_on_first_tree(DROP), two_trees(rows, rows))
+    ("apply drop", "drop", |case| {
+        apply_on_first(DROP, case.with_room(0))
     }),
-    ("write_listing", |rows| {
-        batch::write_listing(two_trees(rows, rows))
+    ("apply refused", "refused", |case| {
+        let lent = case.with_room(0);
+        batch::apply_refused(OUTSIDE, beside(event_on_first(&lent, READ)), lent)
     }),
-    ("read_listing", |rows| {
-        batch::read_listing(two_trees(rows, rows))
+    ("write_listing", "w_list", |case| {
+        batch::write_listing(case.with_room(0))
     }),
-    ("run", |rows| {
-        let lent = two_trees(rows - STEADY_ROWS, rows);
+    ("read_listing", "r_list", |case| {
+        batch::read_listing(case.with_room(0))
+    }),
+    ("run", "run", |case| {
+        let lent = case.with_room(ROUND_ROWS);
         let text = steady_text(&lent, RUN_BYTES);
         batch::run(lent, text)
     }),
 ];
 
-/// The calls whose time does not depend on the rows.
-const BY_LINE: [LineMeasurement; 2] = [
+fn apply_on_first(kind: u32, lent: shape::Lent) -> Box<dyn Batch> {
+    batch::apply(event_on_first(&lent, kind), lent)
+}
+
+/// The calls whose time does not depend on a table.
+const ON_LINES: [LineMeasurement; 2] = [
     ("write_event", batch::write_event),
     ("read_event", batch::read_event),
 ];
+
+/// The shapes besides the two trees, all rows live.
+const SHAPES: [(&str, Shape); 6] = [
+    ("random trees", random_trees),
+    ("roots", roots),
+    ("star", star),
+    ("chains", chains),
+    ("spread star", spread_star),
+    ("shared slots", shared_slots),
+];
+
+/// So many rows of the two trees are live of all that can be lent.
+const FEW_LIVE: [usize; 2] = [1, 16];
+
+const MOST_ROWS: usize = 1_024;
+
+/// How many events one call is given, and on how many rows.
+const MANY_EVENTS: usize = 1_000;
+const MANY_SIZES: [usize; 4] = [16, 64, 256, 1_000];
 
 const NOTES: &str = "\
 Times are medians for one call, both implementations taking turns; 'growth' is the time over the
@@ -67,60 +110,92 @@ time at a quarter of the rows. All rows are live: two trees of borrows, their ro
 timed apply and run has a fresh copy of the table, made outside the timed part. 'apply create' makes
 a root beside the trees and ends nothing; 'apply reuse' is a create over one tree's whole span and
 ends its rows, half of all. The read, write and drop go through one tree's root over its whole span
-and so meet half of the rows. A listing is written into and read from the same buffers each time. A
-run takes up to 65,536 bytes of lines, all allowed and in the same proportions at every size, that
-keep the table nearly full; its creates are beside the trees and end nothing.";
+and so meet half of the rows; 'apply refused' is a read through it outside of its span. A listing is
+written into and read from the same buffers each time. A run takes up to 65,536 bytes of lines, all
+allowed and in the same proportions at every size, that keep the table nearly full; its creates are
+beside the trees and end nothing.";
+
+const SHAPE_NOTES: &str = "\
+The same calls by shape, through the first row over its whole span: the library's time over the
+baseline's. Random trees have a root in eight rows; a star is one root and its borrows; chains are
+64 deep; a spread star's names lie over a million; shared slots are two trees whose names are equal
+modulo 2,048, at 1,024 rows of three such kinds; '16 of 1,024' has 16 live rows of the two trees of
+1,024 lent.";
+
+const MANY_NOTES: &str = "\
+Time for one event of 1,000, by a call for each and by one call for all, on the two trees nearly
+full; 'gain' is the one over the other. The events are a run's.";
 
 fn main() {
     let contenders: Vec<_> = interface::library()
         .into_iter()
         .chain([interface::baseline()])
         .collect();
-    println!("{NOTES}\n");
-    print_heading(&contenders);
-    for (name, batch) in BY_LINE {
-        let times = median_times(&contenders, &mut *batch());
-        print_row(name, None, &times, None);
+    let wanted: Vec<String> = env::args().skip(1).collect();
+    let tables: [Table; 3] = [
+        ("rows", NOTES, growth_by_rows),
+        ("shapes", SHAPE_NOTES, ratios_by_shape),
+        ("many", MANY_NOTES, many_events),
+    ];
+    for (name, notes, table) in tables {
+        if wanted.is_empty() || wanted.iter().any(|word| word == name) {
+            println!("{notes}\n");
+            table(&contenders);
+            println!();
+        }
     }
-    for (name, batch) in BY_ROWS {
+}
+
+fn growth_by_rows(contenders: &Contenders) {
+    print::growth_heading(contenders);
+    for (name, batch) in ON_LINES {
+        let times = median_times(contenders, &mut *batch());
+        print::growth_row(name, None, &times, None);
+    }
+    for (name, _, batch) in ON_TABLES {
         let mut previous: Option<Vec<f64>> = None;
         for rows in SIZES {
-            let times = median_times(&contenders, &mut *batch(rows));
-            print_row(name, Some(rows), &times, previous.as_deref());
+            let times = median_times(contenders, &mut *batch(Case::full(two_trees, rows)));
+            print::growth_row(name, Some(rows), &times, previous.as_deref());
             previous = Some(times);
         }
     }
 }
 
-fn print_heading(contenders: &Contenders) {
-    print!("{:<14}{:>6}", "call", "rows");
-    for contender in contenders {
-        print!("{:>15}{:>8}", contender.name(), "growth");
+fn ratios_by_shape(contenders: &Contenders) {
+    print::shape_heading(&ON_TABLES.map(|(_, name, _)| name));
+    for (name, shape) in SHAPES {
+        for rows in SIZES {
+            shape_row(contenders, name, &rows.to_string(), Case::full(shape, rows));
+        }
     }
-    let ratio = if contenders.len() > 1 { "ratio" } else { "" };
-    println!("{ratio:>8}");
-}
-
-/// One line of the table; the ratio is the library's time over the baseline's.
-fn print_row(name: &str, rows: Option<usize>, times: &[f64], previous: Option<&[f64]>) {
-    let rows = rows.map_or("any".to_string(), |rows| rows.to_string());
-    print!("{name:<14}{rows:>6}");
-    for (at, time) in times.iter().enumerate() {
-        let growth = previous.map_or(String::new(), |previous| {
-            format!("{:.1}", time / previous[at])
-        });
-        print!("{:>15}{growth:>8}", in_units(*time));
-    }
-    match times {
-        [library, baseline] => println!("{:>8.2}", library / baseline),
-        _ => println!(),
+    for live in FEW_LIVE {
+        let case = Case {
+            shape: two_trees,
+            live,
+            lent: MOST_ROWS,
+        };
+        shape_row(contenders, &format!("{live} of 1,024"), "1024", case);
     }
 }
 
-fn in_units(nanoseconds: f64) -> String {
-    match nanoseconds {
-        time if time < 10_000.0 => format!("{time:.0} ns"),
-        time if time < 10_000_000.0 => format!("{:.1} us", time / 1e3),
-        time => format!("{:.1} ms", time / 1e6),
+fn shape_row(contenders: &Contenders, name: &str, rows: &str, case: Case) {
+    let all_times = ON_TABLES.map(|(_, _, batch)| median_times(contenders, &mut *batch(case)));
+    print::shape_row(name, rows, &all_times);
+}
+
+fn many_events(contenders: &Contenders) {
+    print::many_heading(contenders);
+    for rows in MANY_SIZES {
+        let lent = Case::full(two_trees, rows).with_room(ROUND_ROWS);
+        let events: Vec<_> = rounds(&lent)
+            .take(MANY_EVENTS / ROUND_EVENTS)
+            .flatten()
+            .collect();
+        let mut each = batch::apply_each(events.clone(), lent.clone());
+        let mut all = batch::apply_all(events, lent);
+        let each = median_times(contenders, &mut *each);
+        let all = median_times(contenders, &mut *all);
+        print::many_row(rows, &each, &all);
     }
 }

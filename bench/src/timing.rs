@@ -8,7 +8,7 @@ use interface::Interface;
 pub type Contenders = [&'static dyn Interface];
 
 /// How many batches a median is taken over.
-const BATCHES: usize = 41;
+const BATCHES: usize = 201;
 
 /// A batch of calls.
 pub trait Batch {

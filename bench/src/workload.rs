@@ -1,147 +1,103 @@
-//! Tables, events and texts to time the calls on.
+//! Events and texts to time the calls on.
 
-use interface::{Cap, Event, Tally};
+use interface::{Cap, Words};
 
-pub const CREATE: u8 = 1;
-pub const BORROW: u8 = 2;
-pub const READ: u8 = 3;
-pub const WRITE: u8 = 4;
-pub const DROP: u8 = 5;
+use crate::random::Random;
+use crate::shape::{BESIDE, Lent, READ_WRITE};
 
-const READ_WRITE: u8 = 2;
+pub const CREATE: u32 = 1;
+pub const BORROW: u32 = 2;
+pub const READ: u32 = 3;
+pub const WRITE: u32 = 4;
+pub const DROP: u32 = 5;
 
-/// The length of the span of each of the two trees.
-const TREE_LENGTH: u32 = 1 << 20;
-
-/// A lent table and tally.
-#[derive(Clone)]
-pub struct Lent {
-    pub table: Vec<Cap>,
-    pub tally: Tally,
-}
-
-/// Numbers that look random and are the same each time (xorshift).
-struct Random(u64);
-
-impl Random {
-    fn new() -> Random {
-        Random(0x2545_F491_4F6C_DD1D)
-    }
-
-    fn below(&mut self, bound: u32) -> u32 {
-        self.0 ^= self.0 << 13;
-        self.0 ^= self.0 >> 7;
-        self.0 ^= self.0 << 17;
-        ((self.0 >> 32) % u64::from(bound)) as u32
-    }
-
-    fn pick<T: Copy>(&mut self, items: &[T]) -> T {
-        items[self.below(items.len() as u32) as usize]
-    }
-}
-
-/// Two trees of borrows over two spans side by side, their rows in turn. A parent is any earlier
-/// row of the same tree. Every second name has ended.
-pub fn two_trees(live: usize, rows: usize) -> Lent {
-    let mut random = Random::new();
-    let mut table: Vec<Cap> = Vec::with_capacity(rows);
-    for at in 0..live as u32 {
-        let tree = at % 2;
-        let mut row = match at / 2 {
-            0 => root(tree * TREE_LENGTH),
-            earlier => {
-                let parent = tree + 2 * random.below(earlier);
-                borrowed(&mut random, &table[parent as usize])
-            }
-        };
-        row.name = 2 * at + 1;
-        table.push(row);
-    }
-    let tally = Tally {
-        issued: 2 * live as u32,
-        ..Tally::default()
-    };
-    table.resize(rows, Cap::default());
-    Lent { table, tally }
-}
-
-fn root(start: u32) -> Cap {
-    Cap {
-        start,
-        length: TREE_LENGTH,
-        right: READ_WRITE.into(),
-        depth: 1,
-        ..Cap::default()
-    }
-}
-
-fn borrowed(random: &mut Random, parent: &Cap) -> Cap {
-    let quarter = parent.length / 4 + 1;
-    let offset = random.below(quarter);
-    Cap {
-        parent: parent.name,
-        start: parent.start + offset,
-        length: parent.length - offset - random.below(quarter),
-        depth: parent.depth + 1,
-        ..*parent
-    }
-}
-
-/// An event over the whole span of the first tree, through its root where the kind has a name: a read
-/// lowers half of the rows of `two_trees`, a write, drop or create ends them, a borrow takes nothing.
-pub fn event_on_first_tree(kind: u8) -> Event {
-    Event {
+/// An event over the whole span of the first row, through it where the kind has a name: a read lowers
+/// what was borrowed from it, a write, drop or create ends it, a borrow takes nothing.
+pub fn event_on_first(lent: &Lent, kind: u32) -> Words {
+    let first = lent.table[0];
+    Words {
         kind,
-        written: None,
-        name: 1,
-        start: 0,
-        length: TREE_LENGTH,
+        name: first.name,
+        start: first.start,
+        length: first.length,
         right: READ_WRITE,
+        ..Words::default()
     }
 }
 
-/// A create behind the two trees, which touches neither and so ends nothing.
-pub fn create_beside() -> Event {
-    Event {
-        start: 2 * TREE_LENGTH,
-        ..event_on_first_tree(CREATE)
+/// The event moved behind the shape: a create there touches nothing and so ends nothing, a read there
+/// is outside of its span.
+pub fn beside(event: Words) -> Words {
+    Words {
+        start: BESIDE,
+        ..event
     }
 }
 
-/// How many rows `steady_text` uses besides those that live already.
-pub const STEADY_ROWS: usize = 3;
+/// How many rows a round uses besides those that live already.
+pub const ROUND_ROWS: usize = 3;
 
-/// Lines that are all allowed, in equal rounds: an object beside the two trees is made, borrowed,
-/// used and dropped, and some row of the trees is read through. A round's create has the memory of
-/// the last round's object, which has been dropped, and so ends nothing.
-pub fn steady_text(lent: &Lent, size: usize) -> Vec<u8> {
-    let mut random = Random::new();
-    let mut text = String::with_capacity(size);
-    let mut issued = lent.tally.issued;
-    loop {
-        let reader = random.pick(&lent.table[..lent.table.len() - STEADY_ROWS]);
-        let round = round(issued + 1, &reader);
-        if text.len() + round.len() > size {
-            return text.into_bytes();
-        }
-        text += &round;
-        issued += STEADY_ROWS as u32;
-    }
-}
+/// How many events a round has.
+pub const ROUND_EVENTS: usize = 8;
 
-fn round(object: u32, reader: &Cap) -> String {
+/// Events that are all allowed: an object beside the shape is made, borrowed, used and dropped, and
+/// some live row is read through. A round's create has the memory of the last round's object, which
+/// has been dropped, and so ends nothing.
+fn round(object: u32, reader: &Cap) -> [Words; ROUND_EVENTS] {
+    let event = |kind, name, length| Words {
+        kind,
+        name,
+        start: BESIDE,
+        length,
+        right: READ_WRITE,
+        ..Words::default()
+    };
     let (first, second) = (object + 1, object + 2);
-    let at = 2 * TREE_LENGTH;
-    let reader_name = reader.name;
-    let reader_start = reader.start;
-    format!(
-        "(create {at} 64 rw)\n\
-         (borrow {object} {at} 32 rw)\n\
-         (borrow {first} {at} 16 rw)\n\
-         (write {second} {at} 8)\n\
-         (read {first} {at} 8)\n\
-         (read {reader_name} {reader_start} 1)\n\
-         (write {object} {at} 64)\n\
-         (drop {object})\n"
-    )
+    [
+        event(CREATE, 0, 64),
+        event(BORROW, object, 32),
+        event(BORROW, first, 16),
+        event(WRITE, second, 8),
+        event(READ, first, 8),
+        Words {
+            start: reader.start,
+            ..event(READ, reader.name, 1)
+        },
+        event(WRITE, object, 64),
+        event(DROP, object, 0),
+    ]
+}
+
+/// Rounds one after the other, on a table with room for one.
+pub fn rounds(lent: &Lent) -> impl Iterator<Item = [Words; ROUND_EVENTS]> {
+    let mut random = Random::new();
+    let live: Vec<Cap> = lent
+        .table
+        .iter()
+        .copied()
+        .filter(|row| row.name != 0)
+        .collect();
+    let objects = (lent.tally.issued + 1..).step_by(ROUND_ROWS);
+    objects.map(move |object| round(object, &random.pick(&live)))
+}
+
+/// The lines of whole rounds, up to so many bytes.
+pub fn steady_text(lent: &Lent, size: usize) -> Vec<u8> {
+    let mut text = Vec::with_capacity(size);
+    for round in rounds(lent) {
+        let lines = round.map(line).concat();
+        if text.len() + lines.len() > size {
+            break;
+        }
+        text.extend(lines);
+    }
+    text
+}
+
+/// The line of an event.
+pub fn line(event: Words) -> Vec<u8> {
+    let mut line = vec![0; 64];
+    let length = interface::baseline().write_words(&event, &[], &mut line) as usize;
+    line.truncate(length);
+    line
 }

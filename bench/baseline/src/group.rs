@@ -1,8 +1,8 @@
 //! Names that are dropped together, on a lent table and as a line.
 
 use crate::event::Refusal;
-use crate::order::{Cap, Index};
-use crate::step::{Ordered, Tally};
+use crate::order::Cap;
+use crate::step::{Ordered, Tally, Work, in_order};
 use crate::text::{Reader, Writer};
 
 /// The most names of a group.
@@ -17,13 +17,24 @@ fn is_group(names: &[u32]) -> bool {
 
 /// Drops the names of a group together, or none of them.
 pub fn drop_all(table: &mut [Cap], tally: &mut Tally, names: &[u32]) -> Result<(), Refusal> {
-    let mut index = Index::of(table, tally.issued).ok_or(Refusal::Disordered)?;
-    let index = &mut index;
-    let mut ordered = Ordered {
-        table,
-        index,
-        tally,
-    };
+    in_order(table, tally, Together(names)).unwrap_or(Err(Refusal::Disordered))
+}
+
+struct Together<'a>(&'a [u32]);
+
+impl Work for Together<'_> {
+    type Answer = Result<(), Refusal>;
+
+    fn on<const ROWS: usize>(self, mut ordered: Ordered<ROWS>) -> Self::Answer {
+        drop_names(&mut ordered, self.0)
+    }
+}
+
+/// Drops names together where they are a group.
+pub(crate) fn drop_names<const ROWS: usize>(
+    ordered: &mut Ordered<ROWS>,
+    names: &[u32],
+) -> Result<(), Refusal> {
     match is_group(names) {
         true => ordered.drop_group(names),
         false => Err(ordered.refuse(Refusal::Misgrouped)),

@@ -1,22 +1,24 @@
 //! The library's promises kept by plain Rust, without `unsafe` and without allocation.
 //!
 //! It is the yardstick of the benchmarks, so it is written to be fast: one pass checks the order of
-//! a table and finds every parent's row, one more pass carries an event out, and a run checks the
-//! order once.
+//! a table and finds every parent's row, one more pass carries an event out on the lent rows, and a
+//! run or a call for many events checks the order once.
 
 mod event;
 mod group;
 mod lines;
 mod listing;
+mod many;
 mod order;
 mod run;
 mod step;
 mod text;
 
-pub use event::{Event, Kind, Refusal};
+pub use event::{DROP_ALL, Event, Kind, Refusal};
 pub use group::{MAX_GROUP, drop_all, read_drop, write_drop};
 pub use lines::{Spelling, read_event, write_event};
 pub use listing::{read_listing, write_listing};
+pub use many::apply_all;
 pub use order::{Cap, MAX_DEPTH, MAX_NAME, MAX_ROWS};
 pub use run::{check, run};
 pub use step::{Tally, apply};

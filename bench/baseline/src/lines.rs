@@ -42,6 +42,7 @@ pub fn write_event(event: Event, spelling: Spelling, out: &mut [u8]) -> Result<u
     Ok(length as u32)
 }
 
+#[inline]
 fn opening(kind: Kind) -> &'static [u8] {
     match kind {
         Kind::Create => b"(create",
@@ -62,35 +63,63 @@ pub fn read_event(line: &[u8], spelling: Spelling) -> Result<Event, Refusal> {
     }
 }
 
-/// Reads the next line of a text.
+/// Reads the next line of a text. Each kind is read by itself, so that its values are read one after
+/// the other without asking which of them it has.
+#[inline]
 pub(crate) fn next_event(reader: &mut Reader, spelling: Spelling) -> Option<Event> {
     // The letter after the bracket tells the kinds apart.
-    let kind = match reader.peek(1)? {
-        b'c' => Kind::Create,
-        b'b' => Kind::Borrow,
-        b'r' => Kind::Read,
-        b'w' => Kind::Write,
-        b'd' => Kind::Drop,
+    let event = match reader.peek(1)? {
+        b'c' => Event {
+            kind: next_kind(reader, Kind::Create)?,
+            written: next_written(reader, spelling)?,
+            start: reader.next_number()?,
+            length: reader.next_number()?,
+            right: reader.next_right()?,
+            ..Event::default()
+        },
+        b'b' => Event {
+            kind: next_kind(reader, Kind::Borrow)?,
+            written: next_written(reader, spelling)?,
+            name: reader.next_number()?,
+            start: reader.next_number()?,
+            length: reader.next_number()?,
+            right: reader.next_right()?,
+        },
+        b'r' => next_access(reader, Kind::Read)?,
+        b'w' => next_access(reader, Kind::Write)?,
+        b'd' => Event {
+            kind: next_kind(reader, Kind::Drop)?,
+            name: reader.next_number()?,
+            ..Event::default()
+        },
         _ => return None,
     };
-    reader.skip(opening(kind))?;
-    let mut event = Event {
-        kind: kind as u8,
-        ..Event::default()
-    };
-    if kind.makes() && spelling == Spelling::Named {
-        event.written = Some(reader.next_number()?);
-    }
-    if kind.has_name() {
-        event.name = reader.next_number()?;
-    }
-    if kind.has_span() {
-        event.start = reader.next_number()?;
-        event.length = reader.next_number()?;
-    }
-    if kind.makes() {
-        event.right = reader.next_right()?;
-    }
     reader.skip(b")\n")?;
     Some(event)
+}
+
+#[inline]
+fn next_access(reader: &mut Reader, kind: Kind) -> Option<Event> {
+    Some(Event {
+        kind: next_kind(reader, kind)?,
+        name: reader.next_number()?,
+        start: reader.next_number()?,
+        length: reader.next_number()?,
+        ..Event::default()
+    })
+}
+
+#[inline]
+fn next_kind(reader: &mut Reader, kind: Kind) -> Option<u8> {
+    reader.skip(opening(kind))?;
+    Some(kind as u8)
+}
+
+/// The new name, where the spelling has it.
+#[inline]
+fn next_written(reader: &mut Reader, spelling: Spelling) -> Option<Option<u32>> {
+    match spelling {
+        Spelling::Plain => Some(None),
+        Spelling::Named => reader.next_number().map(Some),
+    }
 }

@@ -4,6 +4,10 @@ pub const MAX_ROWS: usize = 1_024;
 pub const MAX_NAME: u32 = 1_000_000;
 pub const MAX_DEPTH: u32 = 64;
 
+/// The slots for finding parents in a table of `MAX_ROWS` rows: two for a row, so that few names
+/// share one.
+pub(crate) const SLOTS: usize = 2 * MAX_ROWS;
+
 /// One past the highest address.
 const ADDRESSES: u64 = 1 << 32;
 
@@ -34,6 +38,13 @@ pub(crate) struct Span {
 }
 
 impl Span {
+    /// Every address; a root's span is inside it.
+    pub(crate) const WHOLE: Span = Span {
+        start: 0,
+        end: ADDRESSES,
+    };
+
+    #[inline]
     pub(crate) fn new(start: u32, length: u32) -> Span {
         let start = u64::from(start);
         Span {
@@ -42,97 +53,159 @@ impl Span {
         }
     }
 
+    #[inline]
     pub(crate) fn is_legal(self) -> bool {
         self.end <= ADDRESSES
     }
 
+    // Both sides are compared whatever the first says: a branch that is guessed wrong costs more.
+    #[inline]
     pub(crate) fn is_inside(self, outer: Span) -> bool {
-        outer.start <= self.start && self.end <= outer.end
+        (outer.start <= self.start) & (self.end <= outer.end)
     }
 
+    #[inline]
     pub(crate) fn touches(self, other: Span) -> bool {
         self.start.max(other.start) < self.end.min(other.end)
     }
 }
 
 impl Cap {
+    #[inline]
     pub(crate) fn span(&self) -> Span {
         Span::new(self.start, self.length)
     }
-
-    fn fits_parent(&self, parent: &Cap) -> bool {
-        self.span().is_inside(parent.span())
-            && self.right <= parent.right
-            && self.depth == parent.depth + 1
-            && self.depth <= MAX_DEPTH
-    }
-
-    fn fits_alone(&self) -> bool {
-        self.span().is_legal() && matches!(self.right, 1 | 2)
-    }
 }
 
-/// Stands for the parent of a root.
-pub(crate) const NO_ROW: u16 = u16::MAX;
-
-/// A table that is known to be in order: how many rows live, and the row of each one's parent.
-pub(crate) struct Index {
-    pub(crate) live: usize,
-    pub(crate) parents: [u16; MAX_ROWS],
+/// What a row has to fit into: its parent, or for a root the whole memory.
+struct Outer {
+    span: Span,
+    right: u32,
+    depth: u32,
 }
 
-impl Index {
-    pub(crate) const EMPTY: Index = Index {
-        live: 0,
-        parents: [NO_ROW; MAX_ROWS],
+impl Outer {
+    const MEMORY: Outer = Outer {
+        span: Span::WHOLE,
+        right: 2,
+        depth: 0,
     };
 
-    /// Checks the order of a table in one pass. Parents are looked for where the last one was
-    /// found, then by halving.
-    pub(crate) fn of(table: &[Cap], issued: u32) -> Option<Index> {
-        if table.len() > MAX_ROWS || issued > MAX_NAME {
-            return None;
+    #[inline]
+    fn of(parent: &Cap) -> Outer {
+        Outer {
+            span: parent.span(),
+            right: parent.right,
+            depth: parent.depth,
         }
+    }
+
+    /// One answer from all comparisons, without a branch for each.
+    #[inline]
+    fn holds(&self, row: &Cap) -> bool {
+        row.span().is_inside(self.span)
+            & (row.right.wrapping_sub(1) < 2)
+            & (row.right <= self.right)
+            & (row.depth == self.depth + 1)
+            & (row.depth <= MAX_DEPTH)
+    }
+}
+
+/// A table that is known to be in order: how many rows live, and the row of each one's parent. A
+/// root has its own row there, so that looking a parent up needs no test for a root.
+pub(crate) struct Index<const ROWS: usize> {
+    pub(crate) live: usize,
+    pub(crate) parents: [u16; ROWS],
+}
+
+impl<const ROWS: usize> Index<ROWS> {
+    pub(crate) const EMPTY: Index<ROWS> = Index {
+        live: 0,
+        parents: [0; ROWS],
+    };
+
+    /// Checks the order of a table of at most `ROWS` rows in one pass.
+    #[inline]
+    pub(crate) fn of<const SLOTS: usize>(table: &[Cap], issued: u32) -> Option<Index<ROWS>> {
+        debug_assert!(table.len() <= ROWS);
         let mut index = Index::EMPTY;
+        let mut places = Places::<SLOTS>::new();
         let mut last_name = 0;
-        let mut last_parent = 0;
-        for (at, row) in table.iter().enumerate() {
-            if row.name == 0 {
-                break;
-            }
-            if row.name <= last_name || !row.fits_alone() {
-                return None;
-            }
-            last_name = row.name;
-            if row.parent != 0 {
-                last_parent = find_from(&table[..at], row.parent, last_parent)?;
-                if !row.fits_parent(&table[last_parent]) {
-                    return None;
+        let mut at = 0;
+        while at < table.len().min(ROWS) && table[at].name != 0 {
+            let row = &table[at];
+            let (place, outer) = match row.parent {
+                0 => (at, Outer::MEMORY),
+                parent => {
+                    let place = places.find(&table[..at], parent)?;
+                    (place, Outer::of(&table[place]))
                 }
-                index.parents[at] = last_parent as u16;
-            } else if row.depth != 1 {
+            };
+            if !((row.name > last_name) & outer.holds(row)) {
                 return None;
             }
-            index.live = at + 1;
+            index.parents[at] = place as u16;
+            places.note(row.name, at);
+            last_name = row.name;
+            at += 1;
         }
-        let rest_is_empty = table[index.live..].iter().all(|row| *row == EMPTY);
-        (last_name <= issued && rest_is_empty).then_some(index)
+        index.live = at;
+        let fits = issued <= MAX_NAME && last_name <= issued && are_empty(&table[at..]);
+        fits.then_some(index)
     }
 
+    #[inline]
     pub(crate) fn parent(&self, at: usize) -> Option<usize> {
-        let parent = self.parents[at];
-        (parent != NO_ROW).then_some(usize::from(parent))
+        let parent = usize::from(self.parents[at]);
+        (parent != at).then_some(parent)
     }
 }
 
-/// The row with this name among rows that rise, tried first at a guess.
-fn find_from(rows: &[Cap], name: u32, guess: usize) -> Option<usize> {
-    match rows.get(guess) {
-        Some(row) if row.name == name => Some(guess),
-        _ => find(rows, name),
+/// Where names were last seen, by their low bits. A name is looked for there, then where the last
+/// one was found, then by halving.
+struct Places<const SLOTS: usize> {
+    seen: [u16; SLOTS],
+    last: usize,
+}
+
+impl<const SLOTS: usize> Places<SLOTS> {
+    #[inline]
+    fn new() -> Places<SLOTS> {
+        Places {
+            seen: [0; SLOTS],
+            last: 0,
+        }
+    }
+
+    #[inline]
+    fn note(&mut self, name: u32, at: usize) {
+        self.seen[name as usize % SLOTS] = at as u16;
+    }
+
+    /// The row with this name among rows that rise.
+    #[inline]
+    fn find(&mut self, rows: &[Cap], name: u32) -> Option<usize> {
+        let is_at = |place: usize| rows.get(place).is_some_and(|row| row.name == name);
+        let mut place = usize::from(self.seen[name as usize % SLOTS]);
+        if !is_at(place) {
+            place = match is_at(self.last) {
+                true => self.last,
+                false => find(rows, name)?,
+            };
+            self.note(name, place);
+        }
+        self.last = place;
+        Some(place)
     }
 }
 
+/// Without an early end, which would keep the compiler from taking several rows at once.
+fn are_empty(rows: &[Cap]) -> bool {
+    let bits = |row: &Cap| row.name | row.parent | row.start | row.length | row.right | row.depth;
+    rows.iter().fold(0, |any, row| any | bits(row)) == 0
+}
+
+#[inline]
 pub(crate) fn find(rows: &[Cap], name: u32) -> Option<usize> {
     rows.binary_search_by_key(&name, |row| row.name).ok()
 }

@@ -5,7 +5,7 @@ use crate::group::{MAX_GROUP, next_group};
 use crate::lines::{Spelling, next_event};
 use crate::listing::write_after;
 use crate::order::{Cap, EMPTY, Index, MAX_ROWS};
-use crate::step::{Ordered, Tally};
+use crate::step::{Ordered, Tally, Work, in_order};
 use crate::text::{Reader, Writer};
 
 /// The longest input that `check` runs, in bytes.
@@ -19,19 +19,20 @@ type Answer = Result<u32, (Refusal, u32)>;
 
 /// Takes lines until one is refused.
 pub fn run(table: &mut [Cap], tally: &mut Tally, text: &[u8]) -> Answer {
-    let mut index = Index::of(table, tally.issued).ok_or((Refusal::Disordered, 0))?;
-    let index = &mut index;
-    run_lines(
-        Ordered {
-            table,
-            index,
-            tally,
-        },
-        text,
-    )
+    in_order(table, tally, Lines(text)).unwrap_or(Err((Refusal::Disordered, 0)))
 }
 
-fn run_lines(mut ordered: Ordered, text: &[u8]) -> Answer {
+struct Lines<'a>(&'a [u8]);
+
+impl Work for Lines<'_> {
+    type Answer = Answer;
+
+    fn on<const ROWS: usize>(self, ordered: Ordered<ROWS>) -> Answer {
+        run_lines(ordered, self.0)
+    }
+}
+
+fn run_lines<const ROWS: usize>(mut ordered: Ordered<ROWS>, text: &[u8]) -> Answer {
     let mut reader = Reader::new(text);
     let (spelling, mut allowed) = match reader.skip(HEADER) {
         Some(()) => (Spelling::Named, 1),
@@ -53,7 +54,10 @@ fn run_lines(mut ordered: Ordered, text: &[u8]) -> Answer {
 }
 
 /// Takes a line that is no event's: one of names that are dropped together, or none at all.
-fn drop_next(ordered: &mut Ordered, reader: &mut Reader) -> Result<(), Refusal> {
+fn drop_next<const ROWS: usize>(
+    ordered: &mut Ordered<ROWS>,
+    reader: &mut Reader,
+) -> Result<(), Refusal> {
     let mut names = [0; MAX_GROUP];
     match next_group(reader, &mut names) {
         Some(count) => ordered.drop_group(&names[..count]),
@@ -70,7 +74,7 @@ pub fn check(input: &[u8], out: &mut [u8]) -> Result<u32, Refusal> {
         return Ok(text.len() as u32);
     }
     let mut table = [EMPTY; MAX_ROWS];
-    let mut index = Index::EMPTY;
+    let mut index = Index::<MAX_ROWS>::EMPTY;
     let mut tally = Tally::default();
     let ordered = Ordered {
         table: &mut table,

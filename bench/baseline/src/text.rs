@@ -1,63 +1,83 @@
 //! Text in pieces: a cursor that reads and a cursor that writes.
 
-/// The most digits of a number.
-const MAX_DIGITS: usize = 10;
-
 #[derive(Clone, Copy)]
 pub(crate) struct Reader<'a> {
     text: &'a [u8],
+    at: usize,
 }
 
 impl<'a> Reader<'a> {
     pub(crate) fn new(text: &'a [u8]) -> Reader<'a> {
-        Reader { text }
+        Reader { text, at: 0 }
     }
 
     pub(crate) fn is_at_end(&self) -> bool {
-        self.text.is_empty()
+        self.at >= self.text.len()
     }
 
+    #[inline]
     pub(crate) fn peek(&self, at: usize) -> Option<u8> {
-        self.text.get(at).copied()
+        self.text.get(self.at + at).copied()
     }
 
+    #[inline]
     pub(crate) fn skip(&mut self, piece: &[u8]) -> Option<()> {
-        self.text = self.text.strip_prefix(piece)?;
+        let end = self.at + piece.len();
+        if self.text.get(self.at..end)? != piece {
+            return None;
+        }
+        self.at = end;
         Some(())
     }
 
-    /// A number without leading zeros.
-    pub(crate) fn number(&mut self) -> Option<u32> {
-        let mut value: u64 = 0;
-        let mut digits = 0;
-        while let Some(byte) = self.text.get(digits) {
-            let digit = byte.wrapping_sub(b'0');
-            if digit > 9 {
-                break;
-            }
-            if digits == MAX_DIGITS {
-                return None;
-            }
-            value = value * 10 + u64::from(digit);
-            digits += 1;
-        }
-        if digits == 0 || (digits > 1 && self.text[0] == b'0') {
+    #[inline]
+    pub(crate) fn skip_byte(&mut self, byte: u8) -> Option<()> {
+        if *self.text.get(self.at)? != byte {
             return None;
         }
-        self.text = &self.text[digits..];
+        self.at += 1;
+        Some(())
+    }
+
+    /// A number without leading zeros. It ends behind a first 0 or ten digits, where whoever reads
+    /// on takes no digit.
+    #[inline]
+    pub(crate) fn number(&mut self) -> Option<u32> {
+        let first = self.text.get(self.at)?.wrapping_sub(b'0');
+        self.at += 1;
+        if first > 9 {
+            return None;
+        }
+        if first == 0 {
+            return Some(0);
+        }
+        let mut value = u64::from(first);
+        for _ in 0..9 {
+            let Some(byte) = self.text.get(self.at) else {
+                break;
+            };
+            let digit = byte.wrapping_sub(b'0');
+            if digit > 9 {
+                return Some(value as u32);
+            }
+            value = value * 10 + u64::from(digit);
+            self.at += 1;
+        }
         u32::try_from(value).ok()
     }
 
     /// A space and a number.
+    #[inline]
     pub(crate) fn next_number(&mut self) -> Option<u32> {
-        self.skip(b" ")?;
+        self.skip_byte(b' ')?;
         self.number()
     }
 
     /// A space and a right.
+    #[inline]
     pub(crate) fn next_right(&mut self) -> Option<u8> {
-        let (word, rest) = self.text.split_first_chunk::<3>()?;
-        self.text = rest;
+        let word = self.text.get(self.at..self.at + 3)?;
+        self.at += 3;
         match word {
             b" ro" => Some(1),
             b" rw" => Some(2),
@@ -65,6 +85,17 @@ impl<'a> Reader<'a> {
         }
     }
 }
+
+/// The digits of the numbers below 100: a number is written two digits at a time.
+static PAIRS: [[u8; 2]; 100] = {
+    let mut pairs = [[0; 2]; 100];
+    let mut number = 0;
+    while number < 100 {
+        pairs[number] = [b'0' + (number / 10) as u8, b'0' + (number % 10) as u8];
+        number += 1;
+    }
+    pairs
+};
 
 /// Writes into a buffer that is known to be long enough.
 pub(crate) struct Writer<'a> {
@@ -81,35 +112,66 @@ impl<'a> Writer<'a> {
         self.length
     }
 
+    #[inline]
     pub(crate) fn put(&mut self, piece: &[u8]) {
         let end = self.length + piece.len();
         self.out[self.length..end].copy_from_slice(piece);
         self.length = end;
     }
 
+    #[inline]
     pub(crate) fn number(&mut self, number: u32) {
         let end = self.length + digits(number);
-        let mut rest = number;
-        for byte in self.out[self.length..end].iter_mut().rev() {
-            *byte = b'0' + (rest % 10) as u8;
-            rest /= 10;
-        }
+        let out = &mut self.out[self.length..end];
         self.length = end;
+        let mut rest = number as usize;
+        let mut at = out.len();
+        while rest >= 100 {
+            at -= 2;
+            out[at..at + 2].copy_from_slice(&PAIRS[rest % 100]);
+            rest /= 100;
+        }
+        if at == 2 {
+            out[..2].copy_from_slice(&PAIRS[rest]);
+        } else {
+            out[0] = b'0' + rest as u8;
+        }
     }
 
     /// A space and a number.
+    #[inline]
     pub(crate) fn next_number(&mut self, number: u32) {
-        self.put(b" ");
+        self.out[self.length] = b' ';
+        self.length += 1;
         self.number(number);
     }
 
     /// A space and a right.
+    #[inline]
     pub(crate) fn next_right(&mut self, right: u32) {
         self.put(if right == 2 { b" rw" } else { b" ro" });
     }
 }
 
+/// The least number of each count of digits, from one on.
+const LEAST: [u32; 10] = [
+    0,
+    10,
+    100,
+    1_000,
+    10_000,
+    100_000,
+    1_000_000,
+    10_000_000,
+    100_000_000,
+    1_000_000_000,
+];
+
 /// How many digits a number is written with.
+#[inline]
 pub(crate) fn digits(number: u32) -> usize {
-    number.checked_ilog10().map_or(1, |log| log as usize + 1)
+    // A bit is 1,233 / 4,096 of a digit, so the bits give the digits or one less.
+    let bits = u32::BITS - number.leading_zeros();
+    let guess = ((bits * 1_233) >> 12) as usize;
+    guess + usize::from(number >= LEAST[guess])
 }

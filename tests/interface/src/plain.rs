@@ -20,19 +20,6 @@ fn group<'a>(words: &Words, names: &'a [u32]) -> Option<&'a [u32]> {
     (words.kind == DROP_ALL).then(|| names.get(start..end).unwrap_or(&[]))
 }
 
-/// The event that the words mean. Kinds and rights above what the baseline's have room for are as
-/// unknown as 0 is.
-fn event(words: &Words) -> Event {
-    Event {
-        kind: words.kind.try_into().unwrap_or(0),
-        written: (words.named != 0).then_some(words.written),
-        name: words.name,
-        start: words.start,
-        length: words.length,
-        right: words.right.try_into().unwrap_or(0),
-    }
-}
-
 impl Interface for Baseline {
     fn name(&self) -> &'static str {
         "baseline"
@@ -47,7 +34,7 @@ impl Interface for Baseline {
     ) -> u64 {
         match group(words, names) {
             Some(names) => self.drop_all(table, tally, names),
-            None => self.apply(table, tally, event(words)),
+            None => packed(baseline::apply(table, tally, *words)),
         }
     }
 
@@ -59,12 +46,7 @@ impl Interface for Baseline {
         names: &[u32],
         answers: &mut [AnswerWords],
     ) -> usize {
-        let taken = events.len().min(answers.len());
-        for (words, answer) in events.iter().zip(answers) {
-            let packed = self.apply_words(table, tally, words, names);
-            *answer = [(packed >> 32) as u32, packed as u32];
-        }
-        taken
+        baseline::apply_all(table, tally, events, names, answers)
     }
 
     fn run(&self, table: &mut [Cap], tally: &mut Tally, text: &[u8]) -> u64 {
@@ -77,7 +59,7 @@ impl Interface for Baseline {
     fn write_words(&self, words: &Words, names: &[u32], out: &mut [u8]) -> u64 {
         match group(words, names) {
             Some(names) => self.write_drop(names, out),
-            None => self.write_event(event(words), out),
+            None => self.write_event((*words).into(), out),
         }
     }
 

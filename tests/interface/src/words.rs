@@ -45,5 +45,19 @@ impl From<Event> for Words {
     }
 }
 
+/// Kinds and rights above what the baseline's have room for are as unknown as 0 is.
+impl From<Words> for Event {
+    fn from(words: Words) -> Event {
+        Event {
+            kind: words.kind.try_into().unwrap_or(0),
+            written: (words.named != 0).then_some(words.written),
+            name: words.name,
+            start: words.start,
+            length: words.length,
+            right: words.right.try_into().unwrap_or(0),
+        }
+    }
+}
+
 /// The refusal and the value of an event, as `kz_answer` has them.
 pub type AnswerWords = [u32; 2];

@@ -1,0 +1,184 @@
+//! Tables to time the calls on: who is borrowed from whom, and which names they have.
+
+use interface::{Cap, Tally};
+
+use crate::random::Random;
+
+pub const READ_WRITE: u32 = 2;
+
+const MAX_DEPTH: u32 = 64;
+const MAX_NAME: u32 = 1_000_000;
+
+/// The length of the span of each of the two trees. No other shape reaches behind them.
+const TREE_LENGTH: u32 = 1 << 20;
+
+/// The first address behind every shape.
+pub const BESIDE: u32 = 2 * TREE_LENGTH;
+
+/// A lent table and tally.
+#[derive(Clone)]
+pub struct Lent {
+    pub table: Vec<Cap>,
+    pub tally: Tally,
+}
+
+/// Makes a table of so many live rows.
+pub type Shape = fn(usize) -> Vec<Cap>;
+
+/// A shape with so many live rows of so many lent.
+#[derive(Clone, Copy)]
+pub struct Case {
+    pub shape: Shape,
+    pub live: usize,
+    pub lent: usize,
+}
+
+impl Case {
+    pub fn full(shape: Shape, rows: usize) -> Case {
+        Case {
+            shape,
+            live: rows,
+            lent: rows,
+        }
+    }
+
+    /// The table with at least so many rows free.
+    pub fn with_room(&self, free: usize) -> Lent {
+        let mut table = (self.shape)(self.live.min(self.lent - free));
+        let tally = Tally {
+            issued: table.last().map_or(0, |row| row.name),
+            ..Tally::default()
+        };
+        table.resize(self.lent, Cap::default());
+        Lent { table, tally }
+    }
+}
+
+/// Two trees of borrows over two spans side by side, their rows in turn. A parent is any earlier row
+/// of the same tree. Every second name has ended.
+pub fn two_trees(live: usize) -> Vec<Cap> {
+    let mut random = Random::new();
+    let mut table = Vec::with_capacity(live);
+    for at in 0..live as u32 {
+        let tree = at % 2;
+        table.push(match at / 2 {
+            0 => root(every_second(at), tree * TREE_LENGTH, TREE_LENGTH),
+            earlier => {
+                let parent = tree + 2 * random.below(earlier);
+                borrowed(&mut random, every_second(at), &table[parent as usize])
+            }
+        });
+    }
+    table
+}
+
+/// About every eighth row is a root, and the parent of another is any row before it. Some of the
+/// names between have ended.
+pub fn random_trees(live: usize) -> Vec<Cap> {
+    const ROOT_LENGTH: u32 = TREE_LENGTH / 256;
+    let mut random = Random::new();
+    let mut table: Vec<Cap> = Vec::with_capacity(live);
+    let mut name = 0;
+    let mut next_root = 0;
+    for at in 0..live {
+        name += 1 + random.below(4);
+        table.push(if at == 0 || random.below(8) == 0 {
+            next_root += ROOT_LENGTH;
+            root(name, next_root - ROOT_LENGTH, ROOT_LENGTH)
+        } else {
+            let parent = random.pick(&table);
+            borrowed(&mut random, name, &parent)
+        });
+    }
+    table
+}
+
+/// Roots side by side.
+pub fn roots(live: usize) -> Vec<Cap> {
+    const ROOT_LENGTH: u32 = TREE_LENGTH / 1_024;
+    (0..live as u32)
+        .map(|at| root(every_second(at), at * ROOT_LENGTH, ROOT_LENGTH))
+        .collect()
+}
+
+/// A root, and all others borrowed from it.
+pub fn star(live: usize) -> Vec<Cap> {
+    star_of(live, every_second)
+}
+
+/// A star whose names lie far from each other, and the first far from the last.
+pub fn spread_star(live: usize) -> Vec<Cap> {
+    // A run makes names behind the last.
+    const FREE_NAMES: u32 = 10_000;
+    let step = (MAX_NAME - FREE_NAMES) / live as u32;
+    star_of(live, |at| (at + 1) * step)
+}
+
+fn star_of(live: usize, name: impl Fn(u32) -> u32) -> Vec<Cap> {
+    let mut random = Random::new();
+    let center = root(name(0), 0, TREE_LENGTH);
+    let mut table = vec![center];
+    table.extend((1..live as u32).map(|at| borrowed(&mut random, name(at), &center)));
+    table
+}
+
+/// Chains side by side, as deep as a row can be, each behind the other in the table.
+pub fn chains(live: usize) -> Vec<Cap> {
+    const CHAIN_LENGTH: u32 = TREE_LENGTH / 16;
+    let mut random = Random::new();
+    let mut table: Vec<Cap> = Vec::with_capacity(live);
+    for at in 0..live as u32 {
+        let name = every_second(at);
+        table.push(match table.last() {
+            Some(last) if last.depth < MAX_DEPTH => borrowed(&mut random, name, last),
+            _ => root(name, at / MAX_DEPTH * CHAIN_LENGTH, CHAIN_LENGTH),
+        });
+    }
+    table
+}
+
+/// Two trees whose names are equal modulo 2,048, or where there are too few such names, of three
+/// kinds: what notes the place of a name by its low bits has one slot for all, or three.
+pub fn shared_slots(live: usize) -> Vec<Cap> {
+    const SLOTS: u32 = 2_048;
+    let kinds = if live <= 400 { 1 } else { 3 };
+    let name = |at: u32| at / kinds * SLOTS + at % kinds + 1;
+    let mut table = two_trees(live);
+    for (at, row) in table.iter_mut().enumerate() {
+        row.name = name(at as u32);
+        if row.parent != 0 {
+            // The parent had the name of its place, as every second name.
+            row.parent = name(row.parent / 2);
+        }
+    }
+    table
+}
+
+/// The name of a row where every second name has ended.
+fn every_second(at: u32) -> u32 {
+    2 * at + 1
+}
+
+fn root(name: u32, start: u32, length: u32) -> Cap {
+    Cap {
+        name,
+        parent: 0,
+        start,
+        length,
+        right: READ_WRITE,
+        depth: 1,
+    }
+}
+
+fn borrowed(random: &mut Random, name: u32, parent: &Cap) -> Cap {
+    let quarter = parent.length / 4 + 1;
+    let offset = random.below(quarter);
+    Cap {
+        name,
+        parent: parent.name,
+        start: parent.start + offset,
+        length: parent.length - offset - random.below(quarter),
+        depth: parent.depth + 1,
+        ..*parent
+    }
+}
