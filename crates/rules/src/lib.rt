@@ -4,6 +4,7 @@ use model::Answer;
 use model::Event;
 use model::Tally;
 
+pub mod answers;
 pub mod count;
 pub mod lent;
 mod marks;

@@ -4,6 +4,7 @@ use crate::run::RunAnswer;
 use listing::writing;
 use model::Refusal;
 use model::Tally;
+use rules::answers::number_of;
 use text::pieces;
 use text::write::Written;
 ghost use mathlib.Core.Path.{_≡_};
@@ -11,7 +12,6 @@ ghost use mathlib.Core.Bool.{true};
 ghost use mathlib.Core.List.{_++_};
 ghost use Prim.Native.Nat.{_≤_};
 ghost use lib.ListN.{length, take};
-ghost use Rattle.model.specs.Answers.{number};
 ghost use Rattle.model.specs.Table.{inOrder};
 ghost use Rattle.table.specs.Words.{rowsIn};
 ghost use Rattle.text.specs.Event.{bytes, spaced};
@@ -19,27 +19,6 @@ ghost use Rattle.text.specs.Put.{Room, Put};
 ghost use Rattle.text.specs.Write.{Writes};
 ghost use Rattle.listing.specs.Listing.{listing};
 ghost use Rattle.trace.specs.Check.{answerLine, checkText};
-
-// The number of a refusal.
-pub fn number_of(refusal: Refusal) -> u32
-    ensures { λ r. ⌜ r ≡ number refusal ⌝ }
-{
-    match refusal {
-        Refusal::Disordered => 1,
-        Refusal::Misspelt => 2,
-        Refusal::IllegalSpan => 3,
-        Refusal::Unissued => 4,
-        Refusal::Ended => 5,
-        Refusal::OutsideSpan => 6,
-        Refusal::ReadOnly => 7,
-        Refusal::TooDeep => 8,
-        Refusal::NamesSpent => 9,
-        Refusal::TableFull => 10,
-        Refusal::BufferTooShort => 11,
-        Refusal::Misnamed => 12,
-        Refusal::Misgrouped => 13,
-    }
-}
 
 // How many bytes the line of an answer has. The refusal is 0 where every line was allowed.
 fn answer_length(refusal: u32, number: u32) -> usize
