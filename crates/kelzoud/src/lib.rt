@@ -10,6 +10,7 @@ use kelzoud_events::events::asked_in;
 use kelzoud_events::events::names_in;
 use listing::reading::read_listing;
 use listing::writing::write_listing;
+use table::Row;
 use trace::check;
 use trace::run::run;
 ghost use mathlib.Core.Path.{_≡_};
@@ -30,7 +31,7 @@ mod requests;
 
 // A run of a text on the table and the tally that are lent.
 #[no_mangle]
-pub extern "C" fn kz_abi_run(table: &mut [[u32; 6]], tally: &mut [u32; 7], text: &[u8]) -> u64
+pub extern "C" fn kz_abi_run(table: &mut [Row], tally: &mut [u32; 7], text: &[u8]) -> u64
     ensures { λ r. ⌜ (rowsIn (now (table .exit)) ≡ Run.run (lent (now (table .entry)) (now (tally .entry))) (now (text .entry)) .state .table)
         × (tallyIn (now (tally .exit)) ≡ Run.run (lent (now (table .entry)) (now (tally .entry))) (now (text .entry)) .state .tally)
         × (r ≡ packedRan (Run.run (lent (now (table .entry)) (now (tally .entry))) (now (text .entry)))) ⌝ }
@@ -70,7 +71,7 @@ pub extern "C" fn kz_abi_read_event(
 
 // Writes the listing of the table that is lent.
 #[no_mangle]
-pub extern "C" fn kz_abi_write_listing(table: &[[u32; 6]], issued: u32, out: &mut [u8]) -> u64
+pub extern "C" fn kz_abi_write_listing(table: &[Row], issued: u32, out: &mut [u8]) -> u64
     ensures { λ r. ⌜ (r ≡ packedResult (listingWritten (rowsIn (now (table .entry))) issued (now (out .entry))))
         × (now (out .exit) ≡ listingStored (rowsIn (now (table .entry))) issued (now (out .entry))) ⌝ }
 {
@@ -80,11 +81,7 @@ pub extern "C" fn kz_abi_write_listing(table: &[[u32; 6]], issued: u32, out: &mu
 
 // Reads a listing into the table and the tally that are lent.
 #[no_mangle]
-pub extern "C" fn kz_abi_read_listing(
-    table: &mut [[u32; 6]],
-    tally: &mut [u32; 7],
-    text: &[u8],
-) -> u64
+pub extern "C" fn kz_abi_read_listing(table: &mut [Row], tally: &mut [u32; 7], text: &[u8]) -> u64
     ensures { λ r. ⌜ (rowsIn (now (table .exit)) ≡ stateInto (now (text .entry)) (lent (now (table .entry)) (now (tally .entry))) .table)
         × (tallyIn (now (tally .exit)) ≡ stateInto (now (text .entry)) (lent (now (table .entry)) (now (tally .entry))) .tally)
         × (r ≡ packedRead (answerInto (now (text .entry)) (lent (now (table .entry)) (now (tally .entry))))) ⌝ }

@@ -12,11 +12,10 @@ use Rattle.model.specs.declared.NewName.{NewName}
 use Rattle.model.specs.declared.NewName.the-variants.{Unwritten, Written}
 use Rattle.model.specs.declared.Event.{Event}
 use Rattle.model.specs.declared.Event.the-variants.{Create, Borrow, Read, Write, Drop}
-use Rattle.model.specs.Requests.{Request, Single, Group}
+use Rattle.model.specs.declared.Asked.{Asked}
+use Rattle.model.specs.declared.Asked.the-variants as asked
+use Rattle.model.specs.Requests.{Request, Single, Group, requestOf}
 use Rattle.model.specs.Step.{Verdict}
-use Rattle.rules.specs.declared.Asked.{Asked}
-use Rattle.rules.specs.declared.Asked.the-variants as A
-use Rattle.rules.specs.Records.{requestOf}
 
 -- ---- answers
 
@@ -65,7 +64,7 @@ eventIn w = eventWith (newIn (getD w 5 0) (getD w 6 0)) (getD w 0 0) (getD w 1 0
 
 -- kind 6 asks that names are dropped together
 unfoldable pub askedIn : List ℕ → Asked
-askedIn w = cond (eqb (getD w 0 0) 6) A.Group (A.Single (eventIn w))
+askedIn w = cond (eqb (getD w 0 0) 6) asked.Group (asked.Single (eventIn w))
 
 -- names[start .. start + length]; none where that reaches past their end
 unfoldable pub part : ℕ → ℕ → List ℕ → List ℕ

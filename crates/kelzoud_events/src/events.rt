@@ -1,10 +1,10 @@
 // Events as the seven words that C lends, and back. Only these functions know the layout.
 use model::Addr;
+use model::Asked;
 use model::Event;
 use model::Name;
 use model::NewName;
 use model::Span;
-use rules::Asked;
 ghost use mathlib.Core.Path.{_≡_};
 ghost use Rattle.model.specs.Requests.{Single};
 ghost use Rattle.kelzoud_events.specs.Interface.{eventWith, rightIn, newIn, eventIn, askedIn, part, namesIn, namedOf, writtenOf, groupWords, wordsOf};

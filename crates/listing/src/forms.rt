@@ -3,6 +3,7 @@
 use model::Addr;
 use model::Cap;
 use model::Name;
+use table::Row;
 use table::words;
 use text::numbers;
 use text::read;
@@ -20,7 +21,7 @@ pub struct Place {
 }
 
 // Stores a row behind the others, and returns how many there are now.
-fn add_row(table: &mut [[u32; 6]; 1024], count: usize, row: Cap) -> usize
+fn add_row(table: &mut [Row; 1024], count: usize, row: Cap) -> usize
     requires { ⌜ Stored (now table) count × (count < 1024) ⌝ }
     ensures { λ r. ⌜ (r ≡ suc count) × Stored (now (table .exit)) r × (newest (now (table .exit)) r ≡ row ∷ newest (now (table .entry)) count) ⌝ }
 {
@@ -29,7 +30,7 @@ fn add_row(table: &mut [[u32; 6]; 1024], count: usize, row: Cap) -> usize
 }
 
 // The text behind its first bytes.
-pub fn past(text: &[u8], count: usize) -> &[u8]
+pub(crate) fn past(text: &[u8], count: usize) -> &[u8]
     ensures { λ r. ⌜ now r ≡ drop count (now (text .entry)) ⌝ }
 {
     if count < text.len() {
@@ -95,7 +96,7 @@ fn child_follows(text: &[u8], count: usize, depth: u32) -> bool
 // Reads a form: its row, its run of children, and its closing bracket.
 fn read_form(
     text: &[u8],
-    table: &mut [[u32; 6]; 1024],
+    table: &mut [Row; 1024],
     count: usize,
     parent: u32,
     depth: u32,
@@ -122,7 +123,7 @@ fn read_form(
 // Reads a run of forms, each behind a space: a turn for each sibling, a call for each depth.
 fn read_run(
     text: &[u8],
-    table: &mut [[u32; 6]; 1024],
+    table: &mut [Row; 1024],
     count: usize,
     parent: u32,
     depth: u32,
@@ -153,7 +154,7 @@ fn one_less(n: usize) -> usize
 }
 
 // Reads the lines of the roots into a table of zeros, and returns how many rows were stored.
-pub fn read_lines(text: &[u8], table: &mut [[u32; 6]; 1024]) -> usize
+pub(crate) fn read_lines(text: &[u8], table: &mut [Row; 1024]) -> usize
     requires { ⌜ Stored (now table) 0 ⌝ }
     ensures { λ r. ⌜ Stored (now (table .exit)) r × (newest (now (table .exit)) r ≡ readLines 1024 (record { rest = now (text .entry); rows = [] })) ⌝ }
 {

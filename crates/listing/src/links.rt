@@ -1,6 +1,7 @@
 // Where to go from a row when a listing is written: to its first child, and to its next sibling. A row's parent is looked for
 // where a name of its slot was seen, and else found by binary search, so that the links of n rows take at most n log n, and writing goes
 // to each row once.
+use table::Row;
 use table::find;
 use table::ordered;
 use table::words;
@@ -12,7 +13,7 @@ ghost use Rattle.listing.specs.First.{firstRows};
 ghost use Rattle.listing.specs.Links.{Live, Linked};
 
 // Notes where names stand, for a first guess at a parent's row. Where two have one slot, the later stays.
-fn note_rows(table: &[[u32; 6]], n: usize, seen: &mut [u16; 2048])
+fn note_rows(table: &[Row], n: usize, seen: &mut [u16; 2048])
     requires { ⌜ (n ≤ 1024) × (length (now seen) ≡ 2048) × (n ≤ length (now table)) ⌝ }
     ensures { λ _. ⌜ length (now (seen .exit)) ≡ 2048 ⌝ }
 {
@@ -25,7 +26,7 @@ fn note_rows(table: &[[u32; 6]], n: usize, seen: &mut [u16; 2048])
 }
 
 // The row of a row's parent; n for a root.
-fn parent_row(table: &[[u32; 6]], n: usize, i: usize, seen: &[u16; 2048]) -> usize
+fn parent_row(table: &[Row], n: usize, i: usize, seen: &[u16; 2048]) -> usize
     requires { ⌜ (i < n) × (n ≤ 1024) × Live (firstRows (now table) n) × (length (now seen) ≡ 2048) × (n ≤ length (now table)) ⌝ }
     ensures { λ r. ⌜ (r ≤ n) × (nameAt (firstRows (now (table .entry)) n) r ≡ parentAt (firstRows (now (table .entry)) n) i) ⌝ }
 {
@@ -39,7 +40,7 @@ fn parent_row(table: &[[u32; 6]], n: usize, i: usize, seen: &[u16; 2048]) -> usi
 
 // Fills in each row's first child and next sibling, and behind the last row the first root: one pass from the last row to
 // the first, in which each row comes to stand before its later siblings.
-pub fn link(table: &[[u32; 6]], n: usize, first: &mut [usize; 1025], next: &mut [usize; 1025])
+pub(crate) fn link(table: &[Row], n: usize, first: &mut [usize; 1025], next: &mut [usize; 1025])
     requires { ⌜ (n ≤ 1024) × Live (firstRows (now table) n) × (now first ≡ replicate 1025 n) × (now next ≡ replicate 1025 n) × (n ≤ length (now table)) ⌝ }
     ensures { λ _. ⌜ Linked (firstRows (now (table .entry)) n) (now (first .exit)) (now (next .exit)) ⌝ }
 {

@@ -5,6 +5,8 @@ use crate::sort;
 use crate::writing;
 use model::Refusal;
 use model::Tally;
+use table::Row;
+use table::WIDTH;
 use table::find;
 use table::lent::set_tally;
 use table::lent::tally_at;
@@ -36,7 +38,7 @@ pub enum ListingRead {
 }
 
 // Reads the rows of a text into a table of zeros, by rising name, and returns how many there are.
-fn guess_table(text: &[u8], table: &mut [[u32; 6]; 1024]) -> usize
+fn guess_table(text: &[u8], table: &mut [Row; 1024]) -> usize
     requires { ⌜ Stored (now table) 0 ⌝ }
     ensures { λ r. ⌜ (rowsIn (now (table .exit)) ≡ guessTable (now (text .entry))) × Stored (now (table .exit)) r ⌝ }
 {
@@ -66,7 +68,7 @@ fn same_bytes(a: &[u8], b: &[u8]) -> bool
 
 // Whether the first n rows, all of them live, have a text as their listing. It is written into a buffer that the text fits into, or
 // else every listing.
-fn writes_back(text: &[u8], table: &[[u32; 6]], n: usize, issued: u32, out: &mut [u8]) -> bool
+fn writes_back(text: &[u8], table: &[Row], n: usize, issued: u32, out: &mut [u8]) -> bool
     requires { ⌜ (n ≤ 1024) × Live (firstRows (now table) n) × ((length (now text) ≤ length (now out)) ⊎ (39936 ≤ length (now out))) × (n ≤ length (now table)) ⌝ }
     ensures { λ r. ⌜ r ≡ same (now (text .entry)) (listed (firstRows (now (table .entry)) n) issued) ⌝ }
 {
@@ -78,13 +80,12 @@ fn writes_back(text: &[u8], table: &[[u32; 6]], n: usize, issued: u32, out: &mut
 }
 
 // Whether a text is the listing of a table in order.
-fn is_listing(text: &[u8], table: &[[u32; 6]], issued: u32) -> bool
+fn is_listing(text: &[u8], table: &[Row], issued: u32) -> bool
     requires { ⌜ length (now table) ≤ 1024 ⌝ }
     ensures { λ r. ⌜ r ≡ isListing (now (text .entry)) (rowsIn (now (table .entry))) issued ⌝ }
 {
-    let n = table.len();
-    let live = find::live_count(table, n);
-    if !ordered::in_order(table, n, live, issued) {
+    let live = find::live_count(table);
+    if !ordered::in_order(table, issued) {
         return false;
     }
     if text.len() <= 2048 {
@@ -96,7 +97,7 @@ fn is_listing(text: &[u8], table: &[[u32; 6]], issued: u32) -> bool
 }
 
 // Copies the first rows of a table into a lent one, as many as it has.
-fn copy_rows(from: &[[u32; 6]; 1024], to: &mut [[u32; 6]])
+fn copy_rows(from: &[Row; 1024], to: &mut [Row])
     requires { ⌜ (length (now from) ≡ 1024) × (length (now to) ≤ 1024) ⌝ }
     ensures { λ _. ⌜ rowsIn (now (to .exit)) ≡ firstRows (now (from .entry)) (length (now (to .entry))) ⌝ }
 {
@@ -125,19 +126,19 @@ fn with_issued(tally: Tally, issued: u32) -> Tally
 
 // Reads a listing into the table and the tally that are lent: the issued number, or refusal 1, 2 or 10. What is read is put together
 // and judged in a table of its own, so that a refusal changes nothing; a listing that is read fixes the whole lent table.
-pub fn read_listing(text: &[u8], table: &mut [[u32; 6]], tally: &mut [u32; 7]) -> ListingRead
+pub fn read_listing(text: &[u8], table: &mut [Row], tally: &mut [u32; 7]) -> ListingRead
     ensures { λ r. ⌜ ReadsInto (now (text .entry)) (lent (now (table .entry)) (now (tally .entry))) (lent (now (table .exit)) (now (tally .exit))) r ⌝ }
 {
     if 1024 < table.len() {
         return ListingRead::Refused(Refusal::Disordered);
     }
-    let mut scratch = [[0u32; 6]; 1024];
+    let mut scratch = [[0u32; WIDTH]; 1024];
     let count = guess_table(text, &mut scratch);
     let issued = numbers::number(lines::after_space(text));
     if !is_listing(text, &scratch[..count], issued) {
         return ListingRead::Refused(Refusal::Misspelt);
     }
-    if table.len() < find::live_count(&scratch, 1024) {
+    if table.len() < find::live_count(&scratch) {
         return ListingRead::Refused(Refusal::TableFull);
     }
     copy_rows(&scratch, table);

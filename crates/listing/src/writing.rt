@@ -2,6 +2,7 @@
 use crate::links;
 use model::Cap;
 use model::Refusal;
+use table::Row;
 use table::find;
 use table::ordered;
 use table::words;
@@ -29,7 +30,7 @@ fn form_length(c: Cap) -> usize
 }
 
 // How many bytes the first n capabilities add.
-fn forms_length(table: &[[u32; 6]], n: usize) -> usize
+fn forms_length(table: &[Row], n: usize) -> usize
     requires { ⌜ (n ≤ 1024) × (n ≤ length (now table)) ⌝ }
     ensures { λ r. ⌜ (r ≡ formsLength (firstRows (now (table .entry)) n)) × (r ≤ 38 * n) ⌝ }
 {
@@ -59,7 +60,7 @@ fn put_pieces(out: &mut [u8], at: usize, c: Cap) -> usize
 
 // Writes the form of row i, with its children, and returns the position behind it. It calls itself for each depth, at most 64 deep.
 fn put_form(
-    table: &[[u32; 6]],
+    table: &[Row],
     n: usize,
     first: &[usize; 1025],
     next: &[usize; 1025],
@@ -84,7 +85,7 @@ fn put_form(
 
 // Writes a line for each root, and returns the position behind them.
 fn put_roots(
-    table: &[[u32; 6]],
+    table: &[Row],
     n: usize,
     first: &[usize; 1025],
     next: &[usize; 1025],
@@ -117,7 +118,7 @@ fn put_issued(issued: u32, out: &mut [u8]) -> usize
 }
 
 // Writes the listing of the first n rows, all of them live, at the buffer's first bytes, and returns its length.
-fn put_listing(table: &[[u32; 6]], n: usize, issued: u32, out: &mut [u8]) -> usize
+fn put_listing(table: &[Row], n: usize, issued: u32, out: &mut [u8]) -> usize
     requires { ⌜ (n ≤ 1024) × Live (firstRows (now table) n) × Room (now out) 0 (listed (firstRows (now table) n) issued) × (n ≤ length (now table)) ⌝ }
     ensures { λ r. ⌜ Put (now (out .entry)) 0 (listed (firstRows (now (table .entry)) n) issued) (now (out .exit)) r ⌝ }
 {
@@ -129,7 +130,7 @@ fn put_listing(table: &[[u32; 6]], n: usize, issued: u32, out: &mut [u8]) -> usi
 }
 
 // How many bytes the listing of the first n rows has: at most 39 for each of 1,024.
-fn listing_length(table: &[[u32; 6]], n: usize, issued: u32) -> usize
+fn listing_length(table: &[Row], n: usize, issued: u32) -> usize
     requires { ⌜ (n ≤ 1024) × Live (firstRows (now table) n) × (n ≤ length (now table)) ⌝ }
     ensures { λ r. ⌜ (r ≡ length (listed (firstRows (now (table .entry)) n) issued)) × (r ≤ 39936) ⌝ }
 {
@@ -138,7 +139,7 @@ fn listing_length(table: &[[u32; 6]], n: usize, issued: u32) -> usize
 }
 
 // Writes the listing of the first n rows, all of them live, where it fits. Internal: it asks for rows in order.
-pub fn write_rows(table: &[[u32; 6]], n: usize, issued: u32, out: &mut [u8]) -> Written
+pub(crate) fn write_rows(table: &[Row], n: usize, issued: u32, out: &mut [u8]) -> Written
     requires { ⌜ (n ≤ 1024) × Live (firstRows (now table) n) × (n ≤ length (now table)) ⌝ }
     ensures { λ r. ⌜ Writes true (listed (firstRows (now (table .entry)) n) issued) (now (out .entry)) (now (out .exit)) r × (length (listed (firstRows (now (table .entry)) n) issued) ≤ 39936) ⌝ }
 {
@@ -149,15 +150,15 @@ pub fn write_rows(table: &[[u32; 6]], n: usize, issued: u32, out: &mut [u8]) -> 
 }
 
 // Writes the listing of the lent table at the buffer's first bytes: the length, or refusal 1 or 11. Above 1,024 rows it is not in order.
-pub fn write_listing(table: &[[u32; 6]], issued: u32, out: &mut [u8]) -> Written
+pub fn write_listing(table: &[Row], issued: u32, out: &mut [u8]) -> Written
     ensures { λ r. ⌜ WritesListing (rowsIn (now (table .entry))) issued (now (out .entry)) (now (out .exit)) r ⌝ }
 {
     let n = table.len();
     if 1024 < n {
         return Written::Refused(Refusal::Disordered);
     }
-    let live = find::live_count(table, n);
-    if !ordered::in_order(table, n, live, issued) {
+    let live = find::live_count(table);
+    if !ordered::in_order(table, issued) {
         return Written::Refused(Refusal::Disordered);
     }
     write_rows(table, live, issued, out)

@@ -5,12 +5,19 @@ use mathlib.Core.Bool.{Bool, true, _&&_}
 use mathlib.Core.List.{List, [], _∷_, map, reverse}
 use lib.Dec.{leb, ltb}
 use lib.ListN.{length}
+use Rattle.model.specs.declared.Asked.{Asked}
+use Rattle.model.specs.declared.Asked.the-variants as asked
 use Rattle.model.specs.declared.Event.{Event}
 use Rattle.model.specs.declared.Event.the-variants.{Drop}
 
 pub data Request : Type 0 where
   Single : Event → Request
   Group : List ℕ → Request
+
+-- what is asked, with the names that are lent beside it; an event has no use for them
+abbrev pub requestOf : Asked → List ℕ → Request
+requestOf (asked.Single e) names = Single e
+requestOf asked.Group names = Group names
 
 -- ---- names dropped together
 

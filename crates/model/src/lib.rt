@@ -56,6 +56,13 @@ pub enum Event {
     Drop(Name),
 }
 
+// What is asked: an event, or, card 5, that the names which are lent beside it are dropped together. An enum holds no list, so the names
+// stand beside; `requestOf` of specs/Requests puts both together.
+pub enum Asked {
+    Single(Event),
+    Group,
+}
+
 // "What each event does": the two kinds of access to memory.
 pub enum Access {
     Reading,

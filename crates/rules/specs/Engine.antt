@@ -15,15 +15,15 @@ use Rattle.model.specs.Derivation.{ancestry, inSubtree}
 use Rattle.model.specs.Strike.{Effect, Keep, Lower, End, effectOf}
 use Rattle.model.specs.Table.{emptyRow, span, derivations, named, lentTable}
 use Rattle.model.specs.Effects.{lowered}
+use Rattle.table.specs.Words.{rowsIn}
 use Rattle.table.specs.Rows.{nameAt, parentAt, before, Front, Places, LiveRows}
 
--- a table whose first k of n rows are live, and the others zeros
-pub record Ready (ws : List (List ℕ)) (T : List Cap) (n k : ℕ) : Type 0 where
-  pub fits : k ≤ n
-  pub few : n ≤ 1024
-  pub long : length ws ≡ n
-  pub stands : LiveRows T k
-  pub zeros : (j : ℕ) → k ≤ j → j < n → getD T j emptyRow ≡ emptyRow
+-- a table whose first k rows are live, and the others zeros
+pub record Ready (ws : List (List ℕ)) (k : ℕ) : Type 0 where
+  pub fits : k ≤ length ws
+  pub few : length ws ≤ 1024
+  pub stands : LiveRows (rowsIn ws) k
+  pub zeros : (j : ℕ) → k ≤ j → j < length ws → getD (rowsIn ws) j emptyRow ≡ emptyRow
 
 -- the rows on the ancestry of the name u are those with 1
 pub record OnAncestry (T : List Cap) (k u : ℕ) (marks : List ℕ) : Type 0 where

@@ -1,4 +1,4 @@
--- "The table is lent by the caller as a run of records": what is asked of the engine over records, and how they go through rows.
+-- "The table is lent by the caller as a run of records": how records go through rows.
 -- Assumes nothing.
 use Prim.Native.Nat.{ℕ, _≤_, _<_}
 use mathlib.Core.Path.{_≡_}
@@ -7,17 +7,10 @@ use mathlib.Core.List.{List}
 use lib.Dec.{leb}
 use lib.ListN.{length, take}
 use Rattle.model.specs.declared.Tally.{Tally}
-use Rattle.model.specs.Requests.{Request, Single, Group}
+use Rattle.model.specs.Requests.{Request}
 use Rattle.model.specs.Answers.{verdictOf}
-use Rattle.rules.specs.declared.Asked.{Asked}
-use Rattle.rules.specs.declared.Asked.the-variants as A
 use Rattle.rules.specs.declared.Outcome.{Outcome}
 use Rattle.rules.specs.Steps.{Stepped}
-
--- the request: an event, or the drop of the names that are lent beside it. An event has no use for them
-abbrev pub requestOf : Asked → List ℕ → Request
-requestOf (A.Single e) names = Single e
-requestOf A.Group names = Group names
 
 -- how many of n records are taken apart: none of more than 1,024, which are not in order
 abbrev pub held : ℕ → ℕ

@@ -1,7 +1,5 @@
-// The rules engine: one event on a table and a tally, proved equal to the definitions of the crate `model`.
-// It works in place, on the lent table.
+// The rules engine: one request on a lent table and tally, proved equal to the definitions of the crate `model`. It works in place.
 use model::Answer;
-use model::Event;
 use model::Tally;
 
 pub mod answers;
@@ -12,13 +10,7 @@ pub mod records;
 mod settle;
 pub mod steps;
 
-// What is asked of the engine: an event, or that the names beside it are dropped together.
-pub enum Asked {
-    Single(Event),
-    Group,
-}
-
-// What an event leaves of the tally, and its answer.
+// What a request leaves of the tally, and its answer.
 pub struct Outcome {
     pub tally: Tally,
     pub answer: Answer,

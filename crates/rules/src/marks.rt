@@ -1,7 +1,9 @@
 // What an access or a drop takes: a mark for each row, 0 keep, 1 lower, 2 end.
 use model::Access;
 use model::Span;
+use table::Row;
 use table::find::find;
+use table::ordered::wide;
 use table::spans::do_touch;
 use table::spans::span_of;
 use table::words::row_at;
@@ -34,7 +36,7 @@ fn larger(a: u8, b: u8) -> u8
 }
 
 // The rows on the ancestry of the name u have 1.
-fn ancestry_of(table: &[[u32; 6]], k: usize, places: &[usize; 1024], u: u32) -> [u8; 1024]
+fn ancestry_of(table: &[Row], k: usize, places: &[u16; 1024], u: u32) -> [u8; 1024]
     requires { ⌜ (k ≤ 1024) × Rise (rowsIn (now table)) k × Places (rowsIn (now table)) k (now places) ⌝ }
     ensures { λ r. ⌜ OnAncestry (rowsIn (now (table .entry))) k u r ⌝ }
 {
@@ -44,7 +46,7 @@ fn ancestry_of(table: &[[u32; 6]], k: usize, places: &[usize; 1024], u: u32) -> 
     while at < top {
         ancestry[at] = 1;
         top = at;
-        at = places[at];
+        at = wide(places[at]);
     }
     ancestry
 }
@@ -69,9 +71,9 @@ fn mark_below(marks: &[u8; 1024], q: usize, i: usize) -> u8
 
 // Each row's mark is the greater of its own and its parent's: an access to s.
 fn spread_access(
-    table: &[[u32; 6]],
+    table: &[Row],
     k: usize,
-    places: &[usize; 1024],
+    places: &[u16; 1024],
     ancestry: &[u8; 1024],
     a: Access,
     s: Span,
@@ -84,7 +86,7 @@ fn spread_access(
     while i < k {
         let c = row_at(table, i);
         let owned = own_mark(a, s, span_of(c), ancestry[i] == 1);
-        let up = mark_below(&marks, places[i], i);
+        let up = mark_below(&marks, wide(places[i]), i);
         marks[i] = larger(owned, up);
         i += 1;
     }
@@ -92,10 +94,10 @@ fn spread_access(
 }
 
 // The marks of an access through the name u.
-pub fn marks_of_access(
-    table: &[[u32; 6]],
+pub(crate) fn marks_of_access(
+    table: &[Row],
     k: usize,
-    places: &[usize; 1024],
+    places: &[u16; 1024],
     u: u32,
     a: Access,
     s: Span,
@@ -111,7 +113,7 @@ pub fn marks_of_access(
 }
 
 // The rows of names have 2. A name that is not there is noted behind the rows.
-fn own_of_names(table: &[[u32; 6]], k: usize, names: &[u32]) -> [u8; 1025]
+fn own_of_names(table: &[Row], k: usize, names: &[u32]) -> [u8; 1025]
     requires { ⌜ LiveRows (rowsIn (now table)) k ⌝ }
     ensures { λ r. ⌜ Owned (rowsIn (now (table .entry))) k (now (names .entry)) r ⌝ }
 {
@@ -127,9 +129,9 @@ fn own_of_names(table: &[[u32; 6]], k: usize, names: &[u32]) -> [u8; 1025]
 
 // The marks of a drop of all rows that have 2: their subtrees go, in one pass.
 fn spread_names(
-    table: &[[u32; 6]],
+    table: &[Row],
     k: usize,
-    places: &[usize; 1024],
+    places: &[u16; 1024],
     owned: &[u8; 1025],
 ) -> [u8; 1024]
     requires { ⌜ (k ≤ 1024) × Rise (rowsIn (now table)) k × Places (rowsIn (now table)) k (now places) ⌝ }
@@ -138,7 +140,7 @@ fn spread_names(
     let mut marks = [0u8; 1024];
     let mut i: usize = 0;
     while i < k {
-        let up = mark_below(&marks, places[i], i);
+        let up = mark_below(&marks, wide(places[i]), i);
         marks[i] = larger(owned[i], up);
         i += 1;
     }
@@ -146,10 +148,10 @@ fn spread_names(
 }
 
 // The marks of names dropped together.
-pub fn marks_of_names(
-    table: &[[u32; 6]],
+pub(crate) fn marks_of_names(
+    table: &[Row],
     k: usize,
-    places: &[usize; 1024],
+    places: &[u16; 1024],
     names: &[u32],
 ) -> [u8; 1024]
     requires { ⌜ LiveRows (rowsIn (now table)) k × Places (rowsIn (now table)) k (now places) ⌝ }

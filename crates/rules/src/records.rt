@@ -1,13 +1,14 @@
 // The lent table as a run of records, and the tally as a struct: one thin function for every request. It takes the records apart into
 // rows, has the engine work on these, and puts the records back. A table of more than 1,024 rows is not touched.
-use crate::Asked;
 use crate::Outcome;
-use crate::steps;
 use crate::steps::step;
 use model::Answer;
+use model::Asked;
 use model::Cap;
 use model::Refusal;
 use model::Tally;
+use table::Row;
+use table::WIDTH;
 use table::words::row_at;
 use table::words::set_row;
 ghost use mathlib.Core.Path.{_≡_};
@@ -17,10 +18,11 @@ ghost use lib.ListN.{length, getD, set, take, drop};
 ghost use Rattle.model.specs.Step;
 ghost use Rattle.model.specs.Table.{emptyRow};
 ghost use Rattle.model.specs.Answers.{verdictOf};
-ghost use Rattle.table.specs.Words.{six, rowsIn};
-ghost use Rattle.rules.specs.Steps.{lends, Stepped};
+ghost use Rattle.table.specs.Words.{wordsOf, rowsIn};
+ghost use Rattle.model.specs.Requests.{requestOf};
+ghost use Rattle.rules.specs.Steps.{lends};
 ghost use Rattle.rules.specs.Records;
-ghost use Rattle.rules.specs.Records.{requestOf, Requested};
+ghost use Rattle.rules.specs.Records.{Requested};
 
 // How many of n rows are taken apart.
 fn held(n: usize) -> usize
@@ -30,15 +32,15 @@ fn held(n: usize) -> usize
 }
 
 // A record into the row i.
-fn put(rows: &mut [[u32; 6]; 1024], i: usize, c: Cap)
+fn put(rows: &mut [Row; 1024], i: usize, c: Cap)
     requires { ⌜ (i < 1024) × (length (now rows) ≡ 1024) ⌝ }
-    ensures { λ _. ⌜ now (rows .exit) ≡ set (now (rows .entry)) i (six c) ⌝ }
+    ensures { λ _. ⌜ now (rows .exit) ≡ set (now (rows .entry)) i (wordsOf c) ⌝ }
 {
     set_row(rows, i, c);
 }
 
 // The record of the row i.
-fn get(rows: &[[u32; 6]; 1024], i: usize) -> Cap
+fn get(rows: &[Row; 1024], i: usize) -> Cap
     requires { ⌜ (i < 1024) × (length (now rows) ≡ 1024) ⌝ }
     ensures { λ r. ⌜ r ≡ getD (rowsIn (now (rows .entry))) i emptyRow ⌝ }
 {
@@ -46,9 +48,9 @@ fn get(rows: &[[u32; 6]; 1024], i: usize) -> Cap
 }
 
 // The first n records into rows. Internal: the caller keeps n within both.
-fn load(table: &[Cap], n: usize, rows: &mut [[u32; 6]; 1024])
+fn load(table: &[Cap], n: usize, rows: &mut [Row; 1024])
     requires { ⌜ (n ≤ length (now table)) × (n ≤ 1024) ⌝ }
-    ensures { λ _. ⌜ now (rows .exit) ≡ map six (take n (now (table .entry))) ++ drop n (now (rows .entry)) ⌝ }
+    ensures { λ _. ⌜ now (rows .exit) ≡ map wordsOf (take n (now (table .entry))) ++ drop n (now (rows .entry)) ⌝ }
 {
     let mut i: usize = 0;
     while i < n {
@@ -58,7 +60,7 @@ fn load(table: &[Cap], n: usize, rows: &mut [[u32; 6]; 1024])
 }
 
 // And back. Internal, in the same way.
-fn store(table: &mut [Cap], n: usize, rows: &[[u32; 6]; 1024])
+fn store(table: &mut [Cap], n: usize, rows: &[Row; 1024])
     requires { ⌜ (n ≤ length (now table)) × (n ≤ 1024) × (length (now rows) ≡ 1024) ⌝ }
     ensures { λ _. ⌜ now (table .exit) ≡ take n (rowsIn (now (rows .entry))) ++ drop n (now (table .entry)) ⌝ }
 {
@@ -69,24 +71,13 @@ fn store(table: &mut [Cap], n: usize, rows: &[[u32; 6]; 1024])
     }
 }
 
-// What is asked, on rows of their own.
-fn request(rows: &mut [[u32; 6]], n: usize, t: Tally, asked: Asked, names: &[u32]) -> Outcome
-    requires { ⌜ length (now rows) ≡ n ⌝ }
-    ensures { λ r. ⌜ Stepped (now (rows .entry)) t (requestOf asked (now (names .entry))) (now (rows .exit)) r ⌝ }
-{
-    match asked {
-        Asked::Single(e) => step(rows, n, t, e),
-        Asked::Group => steps::drop_all(rows, n, t, names),
-    }
-}
-
 // What is asked, on the first n of 1,024 rows; above 1,024 it is refusal 1.
-fn request_first(rows: &mut [[u32; 6]], n: usize, t: Tally, asked: Asked, names: &[u32]) -> Outcome
+fn request_first(rows: &mut [Row], n: usize, t: Tally, asked: Asked, names: &[u32]) -> Outcome
     requires { ⌜ length (now rows) ≡ 1024 ⌝ }
     ensures { λ r. ⌜ Requested (now (rows .entry)) n t (requestOf asked (now (names .entry))) (now (rows .exit)) r ⌝ }
 {
     if n <= 1024 {
-        return request(&mut rows[..n], n, t, asked, names);
+        return step(&mut rows[..n], t, asked, names);
     }
     Outcome {
         tally: t,
@@ -96,7 +87,7 @@ fn request_first(rows: &mut [[u32; 6]], n: usize, t: Tally, asked: Asked, names:
 
 // The same, on a whole array.
 fn request_held(
-    rows: &mut [[u32; 6]; 1024],
+    rows: &mut [Row; 1024],
     n: usize,
     t: Tally,
     asked: Asked,
@@ -114,7 +105,7 @@ pub fn apply(table: &mut [Cap], tally: &mut Tally, asked: Asked, names: &[u32]) 
         × (now (tally .exit) ≡ Step.after (lends (now (table .entry)) (now (tally .entry))) (requestOf asked (now (names .entry))) .tally)
         × (verdictOf r ≡ Step.answer (lends (now (table .entry)) (now (tally .entry))) (requestOf asked (now (names .entry)))) ⌝ }
 {
-    let mut rows = [[0u32; 6]; 1024];
+    let mut rows = [[0u32; WIDTH]; 1024];
     let n = table.len();
     let m = held(n);
     load(table, m, &mut rows);

@@ -1,5 +1,7 @@
 // Rows after their marks: the gaps close, and the rest is cleared.
 use model::Cap;
+use table::Row;
+use table::ordered::wide;
 use table::words::empty_row;
 use table::words::row_at;
 use table::words::set_row;
@@ -36,7 +38,7 @@ fn marked_row(c: Cap, mark: u8) -> Cap
 }
 
 // The row i gets `ro`, if its mark is 1. Any other needs no writing: a read changes few rows.
-fn lower_row(table: &mut [[u32; 6]], i: usize, mark: u8)
+fn lower_row(table: &mut [Row], i: usize, mark: u8)
     requires { ⌜ i < length (now table) ⌝ }
     ensures { λ _. ⌜ (rowsIn (now (table .exit)) ≡ set (rowsIn (now (table .entry))) i (lowered (eqb mark 1) (getD (rowsIn (now (table .entry))) i emptyRow))) ⌝ }
 {
@@ -48,7 +50,7 @@ fn lower_row(table: &mut [[u32; 6]], i: usize, mark: u8)
 }
 
 // Where no row ends: of the first k rows, those marked 1 get `ro`.
-pub fn lower(table: &mut [[u32; 6]], k: usize, marks: &[u8; 1024])
+pub(crate) fn lower(table: &mut [Row], k: usize, marks: &[u8; 1024])
     requires { ⌜ (k ≤ 1024) × (k ≤ length (now table)) ⌝ }
     ensures { λ _. ⌜ Lowers (now (marks .entry)) (rowsIn (now (table .entry))) (rowsIn (now (table .exit))) k ⌝ }
 {
@@ -60,7 +62,7 @@ pub fn lower(table: &mut [[u32; 6]], k: usize, marks: &[u8; 1024])
 }
 
 // The row i moves to the place `left`, unless its mark is 2; the answer is the next place.
-fn move_row(table: &mut [[u32; 6]], i: usize, left: usize, mark: u8) -> usize
+fn move_row(table: &mut [Row], i: usize, left: usize, mark: u8) -> usize
     requires { ⌜ (left ≤ i) × (i < length (now table)) ⌝ }
     ensures { λ r. ⌜ (rowsIn (now (table .exit)) ≡ cond (ltb mark 2) (set (rowsIn (now (table .entry))) left (lowered (eqb mark 1) (getD (rowsIn (now (table .entry))) i emptyRow))) (rowsIn (now (table .entry))))
         × (r ≡ cond (ltb mark 2) (left + 1) left) ⌝ }
@@ -80,18 +82,18 @@ fn move_row(table: &mut [[u32; 6]], i: usize, left: usize, mark: u8) -> usize
 }
 
 // The first k rows close up, and the places of their parents with them; the answer is how many are left.
-fn close(table: &mut [[u32; 6]], k: usize, marks: &[u8; 1024], places: &mut [usize; 1024]) -> usize
+fn close(table: &mut [Row], k: usize, marks: &[u8; 1024], places: &mut [u16; 1024]) -> usize
     requires { ⌜ (k ≤ 1024) × (k ≤ length (now table)) × Places (rowsIn (now table)) k (now places) × Downward (rowsIn (now table)) k (now marks) ⌝ }
     ensures { λ r. ⌜ Closes (now (marks .entry)) (rowsIn (now (table .entry))) (rowsIn (now (table .exit))) k r
         × Places (rowsIn (now (table .exit))) r (now (places .exit)) ⌝ }
 {
     // Where each row goes. A root has its own place, and a parent stays where a child of it does.
-    let mut moved = [0usize; 1024];
+    let mut moved = [0u16; 1024];
     let mut left: usize = 0;
     let mut i: usize = 0;
     while i < k {
-        moved[i] = left;
-        let q = places[i];
+        moved[i] = left as u16;
+        let q = wide(places[i]);
         places[left] = moved[q];
         left = move_row(table, i, left, marks[i]);
         i += 1;
@@ -100,7 +102,7 @@ fn close(table: &mut [[u32; 6]], k: usize, marks: &[u8; 1024], places: &mut [usi
 }
 
 // Zeros from one row up to another.
-fn clear(table: &mut [[u32; 6]], from: usize, to: usize)
+fn clear(table: &mut [Row], from: usize, to: usize)
     requires { ⌜ (from ≤ to) × (to ≤ length (now table)) ⌝ }
     ensures { λ _. ⌜ Clears (rowsIn (now (table .entry))) (rowsIn (now (table .exit))) from to ⌝ }
 {
@@ -111,16 +113,15 @@ fn clear(table: &mut [[u32; 6]], from: usize, to: usize)
     }
 }
 
-// Of n rows, the first k after their marks; the answer is how many are left.
-pub fn settle(
-    table: &mut [[u32; 6]],
-    n: usize,
+// The first k rows after their marks; the answer is how many are left.
+pub(crate) fn settle(
+    table: &mut [Row],
     k: usize,
     marks: &[u8; 1024],
-    places: &mut [usize; 1024],
+    places: &mut [u16; 1024],
 ) -> usize
-    requires { ⌜ Ready (now table) (rowsIn (now table)) n k × Places (rowsIn (now table)) k (now places) × Downward (rowsIn (now table)) k (now marks) ⌝ }
-    ensures { λ r. ⌜ Settled (rowsIn (now (table .exit))) n r (kept (now (marks .entry)) (rowsIn (now (table .entry))) k) (now (places .exit)) ⌝ }
+    requires { ⌜ Ready (now table) k × Places (rowsIn (now table)) k (now places) × Downward (rowsIn (now table)) k (now marks) ⌝ }
+    ensures { λ r. ⌜ Settled (rowsIn (now (table .exit))) (length (now (table .entry))) r (kept (now (marks .entry)) (rowsIn (now (table .entry))) k) (now (places .exit)) ⌝ }
 {
     let left = close(table, k, marks, places);
     clear(table, left, k);

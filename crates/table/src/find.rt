@@ -1,4 +1,5 @@
 // Rows by their names: how many there are, and where a name stands.
+use crate::Row;
 use crate::words::row_at;
 ghost use mathlib.Core.Path.{_≡_};
 ghost use mathlib.Core.Bool.{cond};
@@ -8,13 +9,12 @@ ghost use lib.Dec.{ltb};
 ghost use Rattle.table.specs.Words.{rowsIn};
 ghost use Rattle.table.specs.Rows.{nameAt, Rise, Front, Found};
 
-// How many of n rows stand before the first with name 0. Internal: the caller keeps n within the table.
-pub fn live_count(table: &[[u32; 6]], n: usize) -> usize
-    requires { ⌜ n ≤ length (now table) ⌝ }
-    ensures { λ r. ⌜ Front (rowsIn (now (table .entry))) n r ⌝ }
+// How many rows stand before the first with name 0.
+pub fn live_count(table: &[Row]) -> usize
+    ensures { λ r. ⌜ Front (rowsIn (now (table .entry))) (length (now (table .entry))) r ⌝ }
 {
     let mut i: usize = 0;
-    while i < n {
+    while i < table.len() {
         let c = row_at(table, i);
         if c.name.0 == 0 {
             return i;
@@ -25,7 +25,7 @@ pub fn live_count(table: &[[u32; 6]], n: usize) -> usize
 }
 
 // The place `half` further on, unless the name there is above x. It is computed with no branch, because no processor foresees this one.
-fn not_above(table: &[[u32; 6]], base: usize, half: usize, x: u32) -> usize
+fn not_above(table: &[Row], base: usize, half: usize, x: u32) -> usize
     requires { ⌜ base + half < length (now table) ⌝ }
     ensures { λ r. ⌜ r ≡ cond (ltb x (nameAt (rowsIn (now (table .entry))) (base + half))) base (base + half) ⌝ }
 {
@@ -35,7 +35,7 @@ fn not_above(table: &[[u32; 6]], base: usize, half: usize, x: u32) -> usize
 }
 
 // Where the name x stands among the first k rows; k if nowhere. Internal: the caller shows that their names rise.
-pub fn find(table: &[[u32; 6]], k: usize, x: u32) -> usize
+pub fn find(table: &[Row], k: usize, x: u32) -> usize
     requires { ⌜ (k ≤ 1024) × Rise (rowsIn (now table)) k ⌝ }
     ensures { λ r. ⌜ Found (rowsIn (now (table .entry))) k x r ⌝ }
 {
@@ -54,7 +54,7 @@ pub fn find(table: &[[u32; 6]], k: usize, x: u32) -> usize
 }
 
 // The same, with a place that is tried first. No row is named 0. Internal, in the same way.
-pub fn find_near(table: &[[u32; 6]], k: usize, x: u32, hint: usize) -> usize
+pub fn find_near(table: &[Row], k: usize, x: u32, hint: usize) -> usize
     requires { ⌜ (k ≤ 1024) × Rise (rowsIn (now table)) k ⌝ }
     ensures { λ r. ⌜ Found (rowsIn (now (table .entry))) k x r ⌝ }
 {

@@ -1,4 +1,5 @@
 // Whether names may be dropped together, on a table in order.
+use crate::Row;
 use crate::judge::Place;
 use crate::judge::place_of;
 use model::Answer;
@@ -6,6 +7,7 @@ use model::Name;
 use model::Refusal;
 ghost use mathlib.Core.Path.{_≡_};
 ghost use Prim.Native.Nat.{_≤_};
+ghost use lib.ListN.{length};
 ghost use Rattle.model.specs.Lists.{first};
 ghost use Rattle.model.specs.Step.{verdict};
 ghost use Rattle.model.specs.Answers.{verdictOf};
@@ -35,7 +37,7 @@ pub fn is_group(names: &[u32]) -> bool
 }
 
 // Refusals 4 and 5, of the first name that gets one.
-fn judge_names(table: &[[u32; 6]], k: usize, issued: u32, names: &[u32]) -> Answer
+fn judge_names(table: &[Row], k: usize, issued: u32, names: &[u32]) -> Answer
     requires { ⌜ (k ≤ 1024) × Rise (rowsIn (now table)) k ⌝ }
     ensures { λ a. ⌜ verdictOf a ≡ verdict (first (standings (before (rowsIn (now (table .entry))) k) issued (now (names .entry)))) 0 ⌝ }
 {
@@ -50,9 +52,9 @@ fn judge_names(table: &[[u32; 6]], k: usize, issued: u32, names: &[u32]) -> Answ
     Answer::Allowed(Name(0))
 }
 
-// Internal. The answer to a group of names.
-pub fn judge_group(table: &[[u32; 6]], n: usize, k: usize, issued: u32, names: &[u32]) -> Answer
-    requires { ⌜ Orderly (rowsIn (now table)) n k issued ⌝ }
+// The answer to a group of names. Internal: the caller shows that the table is in order.
+pub(crate) fn judge_group(table: &[Row], k: usize, issued: u32, names: &[u32]) -> Answer
+    requires { ⌜ Orderly (rowsIn (now table)) (length (now table)) k issued ⌝ }
     ensures { λ a. ⌜ verdictOf a ≡ verdict (judge (viewOf (rowsIn (now (table .entry))) issued) (Group (now (names .entry)))) 0 ⌝ }
 {
     if !is_group(names) {

@@ -1,4 +1,5 @@
 // Whether an event is allowed, on a table in order: its checks in their order, and the first that holds.
+use crate::Row;
 use crate::find::find;
 use crate::ordered::is_right;
 use crate::spans::is_inside;
@@ -14,6 +15,7 @@ use model::Span;
 ghost use mathlib.Core.Path.{_≡_};
 ghost use mathlib.Core.List.{_∷_};
 ghost use Prim.Native.Nat.{suc, _≤_};
+ghost use lib.ListN.{length};
 ghost use Rattle.model.specs.Lists.{first};
 ghost use Rattle.model.specs.Refusals.{notARight, illegalSpan, misnamed, checks, viewOf};
 ghost use Rattle.model.specs.Effects.{newName};
@@ -33,7 +35,7 @@ pub enum Place {
 }
 
 // Internal. Refusals 4 and 5.
-pub fn place_of(table: &[[u32; 6]], k: usize, issued: u32, u: Name) -> Place
+pub(crate) fn place_of(table: &[Row], k: usize, issued: u32, u: Name) -> Place
     requires { ⌜ (k ≤ 1024) × Rise (rowsIn (now table)) k ⌝ }
     ensures { λ r. ⌜ Stands (rowsIn (now (table .entry))) k issued u r ⌝ }
 {
@@ -52,7 +54,7 @@ pub fn place_of(table: &[[u32; 6]], k: usize, issued: u32, u: Name) -> Place
 }
 
 // Refusals 3 to 7: a name to be used on a span, with a right.
-fn usable_place(table: &[[u32; 6]], k: usize, issued: u32, u: Name, s: Span, right: u32) -> Place
+fn usable_place(table: &[Row], k: usize, issued: u32, u: Name, s: Span, right: u32) -> Place
     requires { ⌜ (k ≤ 1024) × Rise (rowsIn (now table)) k ⌝ }
     ensures { λ r. ⌜ Serves (rowsIn (now (table .entry))) k issued u s right r ⌝ }
 {
@@ -127,8 +129,7 @@ fn judge_create(n: usize, k: usize, issued: u32, w: NewName, s: Span, r: u8) -> 
 }
 
 fn judge_borrow(
-    table: &[[u32; 6]],
-    n: usize,
+    table: &[Row],
     k: usize,
     issued: u32,
     w: NewName,
@@ -137,7 +138,7 @@ fn judge_borrow(
     r: u8,
 ) -> Answer
     requires { ⌜ (k ≤ 1024) × Rise (rowsIn (now table)) k × (issued ≤ 1000000) ⌝ }
-    ensures { λ a. ⌜ verdictOf a ≡ verdict (first (checks (before (rowsIn (now (table .entry))) k) issued n (Single (Event.Borrow w u s r)))) (suc issued) ⌝ }
+    ensures { λ a. ⌜ verdictOf a ≡ verdict (first (checks (before (rowsIn (now (table .entry))) k) issued (length (now (table .entry))) (Single (Event.Borrow w u s r)))) (suc issued) ⌝ }
 {
     if !is_right(r as u32) {
         return Answer::Refused(Refusal::Misspelt);
@@ -149,19 +150,19 @@ fn judge_borrow(
             if 64 <= c.depth {
                 return Answer::Refused(Refusal::TooDeep);
             }
-            room_answer(n, k, issued, w)
+            room_answer(table.len(), k, issued, w)
         }
     }
 }
 
 // The answer to an event. Internal: the caller shows that the table is in order.
-pub fn judge(table: &[[u32; 6]], n: usize, k: usize, issued: u32, e: Event) -> Answer
-    requires { ⌜ Orderly (rowsIn (now table)) n k issued ⌝ }
+pub(crate) fn judge(table: &[Row], k: usize, issued: u32, e: Event) -> Answer
+    requires { ⌜ Orderly (rowsIn (now table)) (length (now table)) k issued ⌝ }
     ensures { λ a. ⌜ verdictOf a ≡ verdict (Refusals.judge (viewOf (rowsIn (now (table .entry))) issued) (Single e)) (newName issued (Single e)) ⌝ }
 {
     match e {
-        Event::Create(w, s, r) => judge_create(n, k, issued, w, s, r),
-        Event::Borrow(w, u, s, r) => judge_borrow(table, n, k, issued, w, u, s, r),
+        Event::Create(w, s, r) => judge_create(table.len(), k, issued, w, s, r),
+        Event::Borrow(w, u, s, r) => judge_borrow(table, k, issued, w, u, s, r),
         Event::Read(u, s) => place_answer(usable_place(table, k, issued, u, s, 1)),
         Event::Write(u, s) => place_answer(usable_place(table, k, issued, u, s, 2)),
         Event::Drop(u) => place_answer(place_of(table, k, issued, u)),

@@ -1,9 +1,17 @@
-// A lent table, six words a row: its rows, where a name stands, whether the rows are in order, and whether an event is allowed on them.
-// Its functions are for the crates above. Those that ask something of their caller are internal, and none is exported to C.
+// A lent table, a row of words for each capability: its rows, where a name stands, whether the rows are in order, and whether a request is
+// allowed on them. Its functions are for the crates above. Those that ask something of their caller are internal, and none is exported
+// to C.
 pub mod find;
 pub mod groups;
-pub mod judge;
+mod judge;
 pub mod lent;
 pub mod ordered;
+pub mod requests;
 pub mod spans;
 pub mod words;
+
+// How many words a row has. A record of `model` has as many.
+pub const WIDTH: usize = 6;
+
+// A row of a lent table.
+pub type Row = [u32; WIDTH];

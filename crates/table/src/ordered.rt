@@ -1,5 +1,7 @@
 // Whether a table is in order.
+use crate::Row;
 use crate::find::find_near;
+use crate::find::live_count;
 use crate::spans::is_inside;
 use crate::spans::is_legal;
 use crate::spans::span_of;
@@ -13,6 +15,7 @@ ghost use Rattle.model.specs.Lists.{all};
 ghost use Rattle.model.specs.Table.{isEmptyRow, isRight, rowFitsParent, rowInOrder, rowsInOrder, inOrder};
 ghost use Rattle.table.specs.Words.{rowsIn};
 ghost use Rattle.table.specs.Rows.{before, Filled, Rise, Front, Found, PlacesIf};
+ghost use Rattle.table.specs.Known.{Looks};
 
 fn is_empty_row(c: Cap) -> bool
     ensures { λ r. ⌜ r ≡ isEmptyRow c ⌝ }
@@ -35,13 +38,13 @@ fn is_empty_row(c: Cap) -> bool
     c.depth == 0
 }
 
-// The rows from k to n are all zeros.
-fn rest_is_empty(table: &[[u32; 6]], k: usize, n: usize) -> bool
-    requires { ⌜ (k ≤ n) × (length (now table) ≡ n) ⌝ }
+// The rows from k on are all zeros.
+fn rest_is_empty(table: &[Row], k: usize) -> bool
+    requires { ⌜ k ≤ length (now table) ⌝ }
     ensures { λ r. ⌜ r ≡ all isEmptyRow (drop k (rowsIn (now (table .entry)))) ⌝ }
 {
     let mut i = k;
-    while i < n {
+    while i < table.len() {
         let c = row_at(table, i);
         if !is_empty_row(c) {
             return false;
@@ -51,7 +54,7 @@ fn rest_is_empty(table: &[[u32; 6]], k: usize, n: usize) -> bool
     true
 }
 
-pub fn is_right(r: u32) -> bool
+pub(crate) fn is_right(r: u32) -> bool
     ensures { λ b. ⌜ b ≡ isRight r ⌝ }
 {
     if r == 1 { true } else { r == 2 }
@@ -74,7 +77,7 @@ fn row_fits_parent(c: Cap, p: Cap) -> bool
 }
 
 // A row against the i rows before it, where q is its parent's place.
-fn row_in_order(table: &[[u32; 6]], i: usize, c: Cap, q: usize) -> bool
+fn row_in_order(table: &[Row], i: usize, c: Cap, q: usize) -> bool
     requires { ⌜ (i ≤ 1024) × Rise (rowsIn (now table)) i × Found (rowsIn (now table)) i (c .parent .0) q ⌝ }
     ensures { λ r. ⌜ r ≡ rowInOrder c (before (rowsIn (now (table .entry))) i) ⌝ }
 {
@@ -110,7 +113,7 @@ pub fn wide(x: u16) -> usize
 }
 
 // Each of the first k rows against the rows before it. The place of each row's parent is noted.
-fn rows_in_order(table: &[[u32; 6]], k: usize, issued: u32, places: &mut [usize; 1024]) -> bool
+fn rows_in_order(table: &[Row], k: usize, issued: u32, places: &mut [u16; 1024]) -> bool
     requires { ⌜ (k ≤ 1024) × Filled (rowsIn (now table)) k × (length (now places) ≡ 1024) ⌝ }
     ensures { λ r. ⌜ (r ≡ rowsInOrder (suc issued) (before (rowsIn (now (table .entry))) k)) × PlacesIf r (rowsIn (now (table .entry))) k (now (places .exit)) ⌝ }
 {
@@ -128,7 +131,7 @@ fn rows_in_order(table: &[[u32; 6]], k: usize, issued: u32, places: &mut [usize;
         if !row_in_order(table, i, c, q) {
             return false;
         }
-        places[i] = q;
+        places[i] = q as u16;
         seen[slot(c.name.0)] = i as u16;
         last = c.name.0;
         i += 1;
@@ -136,32 +139,50 @@ fn rows_in_order(table: &[[u32; 6]], k: usize, issued: u32, places: &mut [usize;
     last <= issued
 }
 
-// The first n rows are in order, where k of them stand before the first with name 0. If they are, the place of each row's parent is noted.
-// Internal: the caller counts the live rows.
-pub fn check_order(
-    table: &[[u32; 6]],
-    n: usize,
-    k: usize,
-    issued: u32,
-    places: &mut [usize; 1024],
-) -> bool
-    requires { ⌜ (n ≤ 1024) × Front (rowsIn (now table)) n k × (length (now places) ≡ 1024) × (length (now table) ≡ n) ⌝ }
+// The rows are in order, where k of them stand before the first with name 0. If they are, the place of each row's parent is noted.
+fn check_order(table: &[Row], k: usize, issued: u32, places: &mut [u16; 1024]) -> bool
+    requires { ⌜ (length (now table) ≤ 1024) × Front (rowsIn (now table)) (length (now table)) k × (length (now places) ≡ 1024) ⌝ }
     ensures { λ r. ⌜ (r ≡ inOrder (rowsIn (now (table .entry))) issued) × PlacesIf r (rowsIn (now (table .entry))) k (now (places .exit)) ⌝ }
 {
     if 1000000 < issued {
         return false;
     }
-    if !rest_is_empty(table, k, n) {
+    if !rest_is_empty(table, k) {
         return false;
     }
     rows_in_order(table, k, issued, places)
 }
 
-// The same, for a caller that has no use for the places. Internal, in the same way.
-pub fn in_order(table: &[[u32; 6]], n: usize, k: usize, issued: u32) -> bool
-    requires { ⌜ (n ≤ 1024) × Front (rowsIn (now table)) n k × (length (now table) ≡ n) ⌝ }
+// What a look at a table finds: it is in order, and so many of its rows live; or it is not in order.
+pub enum Look {
+    InOrder(usize),
+    Disordered,
+}
+
+// Whether a table is in order; above 1,024 rows it is not. If it is, the place of each row's parent is noted, for those who work on it.
+pub fn look_at(table: &[Row], issued: u32, places: &mut [u16; 1024]) -> Look
+    requires { ⌜ length (now places) ≡ 1024 ⌝ }
+    ensures { λ r. ⌜ Looks (now (table .entry)) issued (now (places .exit)) r ⌝ }
+{
+    if 1024 < table.len() {
+        return Look::Disordered;
+    }
+    let live = live_count(table);
+    if check_order(table, live, issued, places) {
+        Look::InOrder(live)
+    } else {
+        Look::Disordered
+    }
+}
+
+// The same, for a caller that has no use for the places.
+pub fn in_order(table: &[Row], issued: u32) -> bool
     ensures { λ r. ⌜ r ≡ inOrder (rowsIn (now (table .entry))) issued ⌝ }
 {
-    let mut places = [0usize; 1024];
-    check_order(table, n, k, issued, &mut places)
+    let mut places = [0u16; 1024];
+    let found = look_at(table, issued, &mut places);
+    match found {
+        Look::InOrder(_) => true,
+        Look::Disordered => false,
+    }
 }

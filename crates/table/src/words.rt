@@ -1,4 +1,5 @@
-// The rows of a lent table: six words each, in the record's order. Only these two functions know the layout.
+// The rows of a lent table: an array of words each, in the record's order. Only these two functions know their places.
+use crate::Row;
 use model::Addr;
 use model::Cap;
 use model::Name;
@@ -6,10 +7,10 @@ ghost use mathlib.Core.Path.{_≡_};
 ghost use Prim.Native.Nat.{_<_};
 ghost use lib.ListN.{length, getD, set};
 ghost use Rattle.model.specs.Table.{emptyRow};
-ghost use Rattle.table.specs.Words.{six, rowsIn};
+ghost use Rattle.table.specs.Words.{wordsOf, rowsIn};
 
 // The row at i. Internal: the caller keeps i within the table.
-pub fn row_at(table: &[[u32; 6]], i: usize) -> Cap
+pub fn row_at(table: &[Row], i: usize) -> Cap
     requires { ⌜ i < length (now table) ⌝ }
     ensures { λ r. ⌜ r ≡ getD (rowsIn (now (table .entry))) i emptyRow ⌝ }
 {
@@ -25,9 +26,9 @@ pub fn row_at(table: &[[u32; 6]], i: usize) -> Cap
 }
 
 // Puts a row there. Internal, in the same way.
-pub fn set_row(table: &mut [[u32; 6]], i: usize, c: Cap)
+pub fn set_row(table: &mut [Row], i: usize, c: Cap)
     requires { ⌜ i < length (now table) ⌝ }
-    ensures { λ _. ⌜ (rowsIn (now (table .exit)) ≡ set (rowsIn (now (table .entry))) i c) × (now (table .exit) ≡ set (now (table .entry)) i (six c)) ⌝ }
+    ensures { λ _. ⌜ (rowsIn (now (table .exit)) ≡ set (rowsIn (now (table .entry))) i c) × (now (table .exit) ≡ set (now (table .entry)) i (wordsOf c)) ⌝ }
 {
     table[i] = [c.name.0, c.parent.0, c.start.0, c.length, c.right, c.depth];
 }

@@ -15,7 +15,6 @@ use Rattle.model.specs.Step
 use Rattle.model.specs.Answers.{number, verdictOf}
 use Rattle.rules.specs.declared.Outcome.{Outcome}
 use Rattle.table.specs.Words.{rowsIn}
-use Rattle.table.specs.Rows.{Places, Orderly}
 use Rattle.rules.specs.Steps.{lends}
 use Rattle.text.specs.Result.{Result, value, refused}
 use Rattle.text.specs.Line.{linesOf}
@@ -104,11 +103,6 @@ pub record Runs (ws : List (List ℕ)) (t : Tally) (text : List ℕ) (ws′ : Li
 -- the lines of a text on the words ws, in one spelling, where so many lines were taken before them
 pub record RunsLines (k : Spelling) (before : ℕ) (ws : List (List ℕ)) (t : Tally) (text : List ℕ) (ws′ : List (List ℕ)) (r : RunOutcome) : Type 0 where
   pub ran : ranOf (r .answer) (lends (rowsIn ws′) (r .tally)) ≡ runLines lent k before (lends (rowsIn ws) t) (linesOf text)
-
--- words of a table of n rows in order, of which so many live; places has where the parent of each stands
-pub record Known (ws : List (List ℕ)) (n live issued : ℕ) (places : List ℕ) : Type 0 where
-  pub orderly : Orderly (rowsIn ws) n live issued
-  pub placed : Places (rowsIn ws) live places
 
 -- a line that is no event, on the words ws of a table, leaves the words ws′
 pub record TakesGroup (ws : List (List ℕ)) (t : Tally) (line : List ℕ) (ws′ : List (List ℕ)) (r : Outcome) : Type 0 where

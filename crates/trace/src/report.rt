@@ -5,6 +5,8 @@ use listing::writing;
 use model::Refusal;
 use model::Tally;
 use rules::answers::number_of;
+use table::Row;
+use table::WIDTH;
 use text::pieces;
 use text::write::Written;
 ghost use mathlib.Core.Path.{_≡_};
@@ -59,13 +61,7 @@ fn put_answer(refusal: u32, number: u32, out: &mut [u8]) -> usize
 
 // Writes the line of an answer and the listing of a table in order. The listing, which is measured before it is written, goes first:
 // where it does not fit, nothing is written.
-fn write_report(
-    table: &[[u32; 6]],
-    issued: u32,
-    refusal: u32,
-    number: u32,
-    out: &mut [u8],
-) -> Written
+fn write_report(table: &[Row], issued: u32, refusal: u32, number: u32, out: &mut [u8]) -> Written
     requires { ⌜ inOrder (rowsIn (now table)) issued ≡ true ⌝ }
     ensures { λ r. ⌜ Writes true (answerLine refusal number ++ listing (rowsIn (now (table .entry))) issued) (now (out .entry)) (now (out .exit)) r ⌝ }
 {
@@ -109,7 +105,7 @@ pub fn check(input: &[u8], out: &mut [u8]) -> Written
         drops: 0,
         refused: 0,
     };
-    let mut table = [[0u32; 6]; 1024];
+    let mut table = [[0u32; WIDTH]; 1024];
     let ran = run::run_lent(&mut table, none, input);
     let answer = ran.answer;
     let issued = ran.tally.issued;

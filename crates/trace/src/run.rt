@@ -1,15 +1,17 @@
 // A run: the lines of a text, until one is refused.
 use model::Answer;
+use model::Asked;
 use model::Refusal;
 use model::Tally;
 use rules::Outcome;
 use rules::Progress;
 use rules::count;
+use rules::steps;
+use table::Row;
 use table::lent::set_tally;
 use table::lent::tally_at;
-use rules::steps;
-use table::find;
 use table::ordered;
+use table::ordered::Look;
 use text::group;
 use text::group::GroupRead;
 use text::lines;
@@ -21,8 +23,9 @@ ghost use Prim.Native.Nat.{_≤_};
 ghost use Rattle.text.specs.Line.{nextLine};
 ghost use Rattle.text.specs.Read.{same};
 ghost use Rattle.table.specs.Lent;
+ghost use Rattle.table.specs.Known.{Known};
 ghost use Rattle.trace.specs.Run;
-ghost use Rattle.trace.specs.Run.{header, ranOf, Known, TakesGroup, Takes, RunsLines, Runs};
+ghost use Rattle.trace.specs.Run.{header, ranOf, TakesGroup, Takes, RunsLines, Runs};
 
 // What a run answers: the number of lines allowed, or the refusal and its line number from 1 (0 for refusal 1).
 pub enum RunAnswer {
@@ -38,22 +41,21 @@ pub struct RunOutcome {
 
 // A line that is no event, on a table in order: the names that it drops together, or refusal 2.
 fn take_group(
-    table: &mut [[u32; 6]],
-    n: usize,
+    table: &mut [Row],
     live: usize,
-    places: &mut [usize; 1024],
+    places: &mut [u16; 1024],
     tally: Tally,
     line: &[u8],
 ) -> Progress
-    requires { ⌜ Known (now table) n live (tally .issued) (now places) ⌝ }
+    requires { ⌜ Known (now table) live (tally .issued) (now places) ⌝ }
     ensures { λ r. ⌜ TakesGroup (now (table .entry)) tally (now (line .entry)) (now (table .exit)) (r .outcome)
-        × Known (now (table .exit)) n (r .live) (r .outcome .tally .issued) (now (places .exit)) ⌝ }
+        × Known (now (table .exit)) (r .live) (r .outcome .tally .issued) (now (places .exit)) ⌝ }
 {
     let mut names = [0u32; 64];
     let found = group::read_group(line, &mut names);
     match found {
         GroupRead::Count(count) => {
-            steps::drop_known(table, n, live, places, tally, &names[..count])
+            steps::take(table, live, places, tally, Asked::Group, &names[..count])
         }
         GroupRead::Refused(_) => {
             let counted = count::count_refused(tally);
@@ -68,38 +70,40 @@ fn take_group(
 
 // A line on a table in order: the event that it spells, or names dropped together, or refusal 2.
 fn take_line(
-    table: &mut [[u32; 6]],
-    n: usize,
+    table: &mut [Row],
     live: usize,
-    places: &mut [usize; 1024],
+    places: &mut [u16; 1024],
     tally: Tally,
     spelling: Spelling,
     line: &[u8],
 ) -> Progress
-    requires { ⌜ Known (now table) n live (tally .issued) (now places) ⌝ }
+    requires { ⌜ Known (now table) live (tally .issued) (now places) ⌝ }
     ensures { λ r. ⌜ Takes spelling (now (table .entry)) tally (now (line .entry)) (now (table .exit)) (r .outcome)
-        × Known (now (table .exit)) n (r .live) (r .outcome .tally .issued) (now (places .exit)) ⌝ }
+        × Known (now (table .exit)) (r .live) (r .outcome .tally .issued) (now (places .exit)) ⌝ }
 {
     let found = read::read_event(spelling, line);
     match found {
-        EventRead::Event(event) => steps::step_known(table, n, live, places, tally, event),
-        EventRead::Refused(_) => take_group(table, n, live, places, tally, line),
+        EventRead::Event(event) => {
+            // An event has no use for names beside it.
+            let none = [0u32];
+            steps::take(table, live, places, tally, Asked::Single(event), &none)
+        }
+        EventRead::Refused(_) => take_group(table, live, places, tally, line),
     }
 }
 
 // The lines of a text on a table in order, where so many lines were taken before them. An event keeps the order, and what is known of
 // the table, so neither is looked for again.
 fn run_ordered(
-    table: &mut [[u32; 6]],
-    n: usize,
+    table: &mut [Row],
     live: usize,
-    places: &mut [usize; 1024],
+    places: &mut [u16; 1024],
     tally: Tally,
     spelling: Spelling,
     before: usize,
     text: &[u8],
 ) -> RunOutcome
-    requires { ⌜ Known (now table) n live (tally .issued) (now places) × (before ≤ 1) ⌝ }
+    requires { ⌜ Known (now table) live (tally .issued) (now places) × (before ≤ 1) ⌝ }
     ensures { λ r. ⌜ RunsLines spelling before (now (table .entry)) tally (now (text .entry)) (now (table .exit)) r ⌝ }
 {
     let mut left = tally;
@@ -108,7 +112,7 @@ fn run_ordered(
     let mut count = before;
     while at < text.len() {
         let line = lines::next_line(&text[at..]);
-        let taken = take_line(table, n, alive, places, left, spelling, line);
+        let taken = take_line(table, alive, places, left, spelling, line);
         let outcome = taken.outcome;
         alive = taken.live;
         left = outcome.tally;
@@ -138,20 +142,18 @@ fn is_named(text: &[u8]) -> bool
 
 // A text on a table in order. Its first line may say that new names are written out; that line is counted, and is no event.
 fn run_text(
-    table: &mut [[u32; 6]],
-    n: usize,
+    table: &mut [Row],
     live: usize,
-    places: &mut [usize; 1024],
+    places: &mut [u16; 1024],
     tally: Tally,
     text: &[u8],
 ) -> RunOutcome
-    requires { ⌜ Known (now table) n live (tally .issued) (now places) ⌝ }
+    requires { ⌜ Known (now table) live (tally .issued) (now places) ⌝ }
     ensures { λ r. ⌜ Runs (now (table .entry)) tally (now (text .entry)) (now (table .exit)) r ⌝ }
 {
     if is_named(text) {
         run_ordered(
             table,
-            n,
             live,
             places,
             tally,
@@ -160,30 +162,27 @@ fn run_text(
             &text[10..],
         )
     } else {
-        run_ordered(table, n, live, places, tally, Spelling::Plain, 0, text)
+        run_ordered(table, live, places, tally, Spelling::Plain, 0, text)
     }
 }
 
-// A run on any table and a tally by value; above 1,024 rows it is refusal 1.
-pub fn run_lent(table: &mut [[u32; 6]], tally: Tally, text: &[u8]) -> RunOutcome
+// A run on any table and a tally by value; one that is not in order, as above 1,024 rows, is refusal 1.
+pub fn run_lent(table: &mut [Row], tally: Tally, text: &[u8]) -> RunOutcome
     ensures { λ r. ⌜ Runs (now (table .entry)) tally (now (text .entry)) (now (table .exit)) r ⌝ }
 {
-    let n = table.len();
-    if n <= 1024 {
-        let live = find::live_count(table, n);
-        let mut places = [0usize; 1024];
-        if ordered::check_order(table, n, live, tally.issued, &mut places) {
-            return run_text(table, n, live, &mut places, tally, text);
-        }
-    }
-    RunOutcome {
-        tally,
-        answer: RunAnswer::Refused(Refusal::Disordered, 0),
+    let mut places = [0u16; 1024];
+    let found = ordered::look_at(table, tally.issued, &mut places);
+    match found {
+        Look::InOrder(live) => run_text(table, live, &mut places, tally, text),
+        Look::Disordered => RunOutcome {
+            tally,
+            answer: RunAnswer::Refused(Refusal::Disordered, 0),
+        },
     }
 }
 
 // A run of a text on the table and the tally that are lent: the number of lines allowed, or the refusal and its line.
-pub fn run(table: &mut [[u32; 6]], tally: &mut [u32; 7], text: &[u8]) -> RunAnswer
+pub fn run(table: &mut [Row], tally: &mut [u32; 7], text: &[u8]) -> RunAnswer
     ensures { λ r. ⌜ ranOf r (Lent.lent (now (table .exit)) (now (tally .exit))) ≡ Run.run (Lent.lent (now (table .entry)) (now (tally .entry))) (now (text .entry)) ⌝ }
 {
     let t = tally_at(tally);

@@ -3,6 +3,8 @@
 use libc::STDOUT_FILENO;
 use listing::reading;
 use model::Tally;
+use table::Row;
+use table::WIDTH;
 use trace::run;
 use trace::run::RunAnswer;
 
@@ -38,14 +40,14 @@ fn print_answer(answer: RunAnswer) {
 }
 
 // Runs a trace on a table, and prints the refusal, 0 where every line is allowed, and the number of lines or the line.
-fn run_on(table: &mut [[u32; 6]], issued: u32, input: &[u8]) {
+fn run_on(table: &mut [Row], issued: u32, input: &[u8]) {
     let ran = run::run_lent(table, issued_so_far(issued), input);
     let answer = ran.answer;
     print_answer(answer);
 }
 
 // The same on the first rows of a table, or on all where it has no more.
-fn run_on_first(table: &mut [[u32; 6]], rows: usize, issued: u32, input: &[u8]) {
+fn run_on_first(table: &mut [Row], rows: usize, issued: u32, input: &[u8]) {
     if rows < table.len() {
         run_on(&mut table[..rows], issued, input);
     } else {
@@ -55,13 +57,13 @@ fn run_on_first(table: &mut [[u32; 6]], rows: usize, issued: u32, input: &[u8]) 
 
 // The same on so many empty rows, up to 1,025.
 fn run_on_empty(rows: usize, issued: u32, input: &[u8]) {
-    let mut table = [[0u32; 6]; 1025];
+    let mut table = [[0u32; WIDTH]; 1025];
     run_on_first(&mut table, rows, issued, input);
 }
 
 // The table of refusal 1: rows both named 3.
 fn run_on_disordered(input: &[u8]) {
-    let mut table = [[0u32; 6]; 2];
+    let mut table = [[0u32; WIDTH]; 2];
     table[0] = [3, 0, 0, 0, 0, 0];
     table[1] = [3, 0, 0, 0, 0, 0];
     run_on(&mut table, 3, input);
@@ -69,7 +71,7 @@ fn run_on_disordered(input: &[u8]) {
 
 // Trace 11, its second half: the listing of an empty table with all names but one issued is read, and two are asked for.
 fn last_name() {
-    let mut table = [[0u32; 6]; 1024];
+    let mut table = [[0u32; WIDTH]; 1024];
     let mut tally = [0u32; 7];
     reading::read_listing(b"(issued 999999)\n", &mut table, &mut tally);
     let answer = run::run(&mut table, &mut tally, b"(create 0 8 rw)\n(create 0 8 rw)\n");

@@ -27,11 +27,6 @@ pub not-written : (rows : List Cap) (issued : ℕ) (out : List ℕ) → inOrder 
 unfolding listingWritten listingStored
 not-written rows issued out h = record { answer = sym (rw h); buffer = sym (rw h) }
 
--- a table above 1,024 rows is not in order
-pub too-many : (ws : List (List ℕ)) (issued : ℕ) → 1024 < length ws → inOrder (rowsIn ws) issued ≡ false
-unfolding inOrder
-too-many ws issued l = rw (length-in ws, lt-leb (length ws) 1024 l)
-
 -- ---- reading
 
 module _ (s : List ℕ) (ws : List (List ℕ)) (w : List ℕ) where

@@ -21,22 +21,23 @@ use Rattle.model.specs.Step.{State, after}
 use Rattle.model.specs.Step
 use Rattle.model.specs.Answers.{verdictOf}
 use Rattle.model.proofs.Lists.{test}
-use Rattle.table.specs.Words.{capOf, six, rowsIn}
+use Rattle.table.specs.Words.{capOf, wordsOf, rowsIn}
 use Rattle.table.proofs.Laws.Words.{length-in}
 use Rattle.rules.specs.declared.Outcome.{Outcome}
 use Rattle.rules.specs.Steps.{lends, Stepped}
 use Rattle.rules.specs.Records.{held, Requested}
-use Rattle.rules.proofs.Laws.Steps.{too-many, stepped-disordered}
+use Rattle.table.proofs.Laws.Ordered.{too-many}
+use Rattle.rules.proofs.Laws.Steps.{stepped-disordered}
 
 map-append : {A B : Type 0} (f : A → B) (xs ys : List A) → map f (xs ++ ys) ≡ map f xs ++ map f ys
 map-append f [] ys = refl
 map-append {A} {B} f (x ∷ xs) ys = ap {B = List B} (λ l. f x ∷ l) (map-append f xs ys)
 
 -- a row's words are the row
-pub rows-six : (ys : List Cap) → rowsIn (map six ys) ≡ ys
+pub rows-words : (ys : List Cap) → rowsIn (map wordsOf ys) ≡ ys
 unfolding rowsIn
-rows-six [] = refl
-rows-six (c ∷ ys) = ap {B = List Cap} (λ l. c ∷ l) (rows-six ys)
+rows-words [] = refl
+rows-words (c ∷ ys) = ap {B = List Cap} (λ l. c ∷ l) (rows-words ys)
 
 pub rows-take : (ws : List (List ℕ)) (n : ℕ) → rowsIn (take n ws) ≡ take n (rowsIn ws)
 unfolding rowsIn
@@ -47,24 +48,24 @@ rows-take (w ∷ ws) (suc n) = ap {B = List Cap} (λ l. capOf w ∷ l) (rows-tak
 -- ---- `load`
 
 abbrev pub loaded : List Cap → List (List ℕ) → ℕ → List (List ℕ)
-loaded ys ws i = map six (take i ys) ++ drop i ws
+loaded ys ws i = map wordsOf (take i ys) ++ drop i ws
 
 pub loaded-none : (ys : List Cap) (ws : List (List ℕ)) → loaded ys ws 0 ≡ ws
 loaded-none ys ws = refl
 
-length-front : (ys : List Cap) (i : ℕ) → i ≤ length ys → length (map six (take i ys)) ≡ i
-length-front ys i l = length-map (take i ys) six ∙ length-take-le i ys l
+length-front : (ys : List Cap) (i : ℕ) → i ≤ length ys → length (map wordsOf (take i ys)) ≡ i
+length-front ys i l = length-map (take i ys) wordsOf ∙ length-take-le i ys l
 
 pub length-loaded : (ys : List Cap) (ws : List (List ℕ)) (i : ℕ) → i ≤ length ys → i ≤ length ws → length (loaded ys ws i) ≡ length ws
-length-loaded ys ws i l h = omega (arith, length-append (map six (take i ys)) (drop i ws), length-front ys i l, length-drop i ws)
+length-loaded ys ws i l h = omega (arith, length-append (map wordsOf (take i ys)) (drop i ws), length-front ys i l, length-drop i ws)
 
-pub loaded-suc : (ys : List Cap) (ws : List (List ℕ)) (i : ℕ) → i < length ys → i < length ws → set (loaded ys ws i) i (six (getD ys i emptyRow)) ≡ loaded ys ws (suc i)
+pub loaded-suc : (ys : List Cap) (ws : List (List ℕ)) (i : ℕ) → i < length ys → i < length ws → set (loaded ys ws i) i (wordsOf (getD ys i emptyRow)) ≡ loaded ys ws (suc i)
 loaded-suc ys ws i l h =
-    ap (λ (r : List (List ℕ)). set (map six (take i ys) ++ r) i (six (getD ys i emptyRow))) (drop-cons ws i [] h)
-    ∙ set-at (map six (take i ys)) (getD ws i []) (drop (suc i) ws) (six (getD ys i emptyRow)) i (length-front ys i (omega arith))
-    ∙ sym (append-snoc (map six (take i ys)) (six (getD ys i emptyRow)) (drop (suc i) ws))
-    ∙ ap (λ (r : List (List ℕ)). r ++ drop (suc i) ws) (sym (map-append six (take i ys) (getD ys i emptyRow ∷ [])))
-    ∙ ap (λ (r : List Cap). map six r ++ drop (suc i) ws) (sym (take-suc ys i emptyRow l))
+    ap (λ (r : List (List ℕ)). set (map wordsOf (take i ys) ++ r) i (wordsOf (getD ys i emptyRow))) (drop-cons ws i [] h)
+    ∙ set-at (map wordsOf (take i ys)) (getD ws i []) (drop (suc i) ws) (wordsOf (getD ys i emptyRow)) i (length-front ys i (omega arith))
+    ∙ sym (append-snoc (map wordsOf (take i ys)) (wordsOf (getD ys i emptyRow)) (drop (suc i) ws))
+    ∙ ap (λ (r : List (List ℕ)). r ++ drop (suc i) ws) (sym (map-append wordsOf (take i ys) (getD ys i emptyRow ∷ [])))
+    ∙ ap (λ (r : List Cap). map wordsOf r ++ drop (suc i) ws) (sym (take-suc ys i emptyRow l))
 
 -- ---- `store`
 
@@ -127,8 +128,8 @@ module _ (ys : List Cap) (t : Tally) (q : Request) (w ws : List (List ℕ)) (r :
     all-loaded : rowsIn w₁ ≡ ys
     all-loaded =
         ap (λ (k : ℕ). rowsIn (take (length ys) (loaded ys w k))) all-held
-        ∙ ap rowsIn (take-at (map six (take (length ys) ys)) (drop (length ys) w) (length ys) (length-front ys (length ys) (omega arith)))
-        ∙ rows-six (take (length ys) ys) ∙ take-length ys
+        ∙ ap rowsIn (take-at (map wordsOf (take (length ys) ys)) (drop (length ys) w) (length ys) (length-front ys (length ys) (omega arith)))
+        ∙ rows-words (take (length ys) ys) ∙ take-length ys
 
     all-stored : stored ys ws (held (length ys)) ≡ rowsIn (take (length ys) ws)
     all-stored =
@@ -144,10 +145,10 @@ module _ (ys : List Cap) (t : Tally) (q : Request) (w ws : List (List ℕ)) (r :
   -- a longer table is not in order
   left-many : 1024 < length ys → Left
   left-many l =
-      let long : 1024 < length (map six ys) = omega (arith, length-map ys six) in
-      let d : Stepped (map six ys) t q (map six ys) (record { tally = t; answer = Refused Disordered }) = stepped-disordered (map six ys) t q (too-many (map six ys) (t .issued) long) in
-      let h : lends (rowsIn (map six ys)) t ≡ lends ys t = ap (λ (rows : List Cap). lends rows t) (rows-six ys) in
-      let kept : stored ys ws (held (length ys)) ≡ rowsIn (map six ys) = ap (stored ys ws) (held-many (length ys) l) ∙ sym (rows-six ys) in
+      let long : 1024 < length (map wordsOf ys) = omega (arith, length-map ys wordsOf) in
+      let d : Stepped (map wordsOf ys) t q (map wordsOf ys) (record { tally = t; answer = Refused Disordered }) = stepped-disordered (map wordsOf ys) t q (too-many (map wordsOf ys) (t .issued) long) in
+      let h : lends (rowsIn (map wordsOf ys)) t ≡ lends ys t = ap (λ (rows : List Cap). lends rows t) (rows-words ys) in
+      let kept : stored ys ws (held (length ys)) ≡ rowsIn (map wordsOf ys) = ap (stored ys ws) (held-many (length ys) l) ∙ sym (rows-words ys) in
       (kept ∙ d .table ∙ ap (λ (x : State). after x q .table) h, s .many l .0 ∙ d .tally ∙ ap (λ (x : State). after x q .tally) h, s .many l .1 ∙ d .answer ∙ ap (λ (x : State). Step.answer x q) h)
 
   pub left : Left

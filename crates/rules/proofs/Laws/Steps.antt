@@ -30,7 +30,9 @@ use Rattle.model.specs.Strike.{Keep, isEnd, isLower, effectOf, strike, reached,
 use Rattle.model.specs.Derivation.{Derivation, ancestry, inSubtree, onAncestry}
 use Rattle.model.specs.Step.{Verdict, State, verdict, outcome, after, answer}
 use Rattle.model.specs.Table.{row, emptyRow, derivations, named, liveRows, lookup, lentTable, inOrder}
-use Rattle.model.specs.Requests.{Request, Single, Group}
+use Rattle.model.specs.declared.Asked.{Asked}
+use Rattle.model.specs.declared.Asked.the-variants as ask
+use Rattle.model.specs.Requests.{Request, Single, Group, requestOf}
 use Rattle.model.specs.Refusals.{viewOf, standings, checks, refusals, judge}
 use Rattle.model.specs.Effects.{newName, afterAccess, rowsWithout, rowsAfter}
 use Rattle.model.specs.Counts.{countAllowed, countRefused}
@@ -101,24 +103,24 @@ pub kept-used : (marks : List ℕ) (T : List Cap) (k u : ℕ) (a : Access) (s : 
 unfolding afterAccess
 kept-used marks T k u a s m = kept-revoke marks (struck isEnd a (derivations (before T k)) u s) (struck isLower a (derivations (before T k)) u s) T k m
 
-module _ (ws : List (List ℕ)) (n k issued : ℕ) (o : Orderly (rowsIn ws) n k issued) where
+module _ (ws : List (List ℕ)) (k issued : ℕ) (o : Orderly (rowsIn ws) (length ws) k issued) where
   abbrev T : List Cap
   T = rowsIn ws
 
-  pub ready : Ready ws T n k
-  ready = record { fits = o .front .fits; few = o .few; long = sym (length-in ws) ∙ o .all; stands = orderly-standing T n k issued o; zeros = orderly-zeros T n k issued o }
+  pub ready : Ready ws k
+  ready = record { fits = o .front .fits; few = o .few; stands = orderly-standing T (length ws) k issued o; zeros = orderly-zeros T (length ws) k issued o }
 
   live-is : liveRows T ≡ before T k
-  live-is = orderly-live T n k issued o
+  live-is = orderly-live T (length ws) k issued o
 
-  room-of : leb (length T) (length (liveRows T)) ≡ false → k < n
+  room-of : leb (length T) (length (liveRows T)) ≡ false → k < length ws
   room-of h = omega (arith, leb-false (length T) (length (liveRows T)) h, o .all, ap length live-is ∙ length-before T k)
 
-  pub room-create : (w : NewName) (s : Span) (r : ℕ) → judge (viewOf T issued) (Single (Create w s r)) ≡ 0 → k < n
+  pub room-create : (w : NewName) (s : Span) (r : ℕ) → judge (viewOf T issued) (Single (Create w s r)) ≡ 0 → k < length ws
   unfolding refusals
   room-create w s r h = room-of (allowed T issued (Single (Create w s r)) h 10)
 
-  pub room-borrow : (w : NewName) (u : Name) (s : Span) (r : ℕ) → judge (viewOf T issued) (Single (Borrow w u s r)) ≡ 0 → k < n
+  pub room-borrow : (w : NewName) (u : Name) (s : Span) (r : ℕ) → judge (viewOf T issued) (Single (Borrow w u s r)) ≡ 0 → k < length ws
   unfolding refusals
   room-borrow w u s r h = room-of (allowed T issued (Single (Borrow w u s r)) h 10)
 
@@ -131,22 +133,19 @@ module _ (ws : List (List ℕ)) (n k issued : ℕ) (o : Orderly (rowsIn ws) n k 
   depth-borrow w u s r h = leb-false 64 (lookup (u .0) (before T k) .depth) (rw live-is at (allowed T issued (Single (Borrow w u s r)) h 8))
 
 -- after an access through any name the table is in order, its live rows are those that are left, and they are no more than before
-module _ (ws : List (List ℕ)) (n k issued : ℕ) (o : Orderly (rowsIn ws) n k issued) (a : Access) (u : ℕ) (s : Span) (ws′ : List (List ℕ)) {r : ℕ} {places : List ℕ}
-    (left : Settled (rowsIn ws′) n r (afterAccess a u s (before (rowsIn ws) k)) places) (long : length ws′ ≡ length ws) where
+module _ (ws : List (List ℕ)) (k issued : ℕ) (o : Orderly (rowsIn ws) (length ws) k issued) (a : Access) (u : ℕ) (s : Span) (ws′ : List (List ℕ)) {r : ℕ} {places : List ℕ}
+    (left : Settled (rowsIn ws′) (length ws) r (afterAccess a u s (before (rowsIn ws) k)) places) (long : length ws′ ≡ length ws) where
   abbrev old : List Cap
   old = before (rowsIn ws) k
 
   live-old : liveRows (rowsIn ws) ≡ old
-  live-old = orderly-live (rowsIn ws) n k issued o
+  live-old = orderly-live (rowsIn ws) (length ws) k issued o
 
-  all-after : length (rowsIn ws′) ≡ n
-  all-after = length-in ws′ ∙ long ∙ sym (length-in ws) ∙ o .all
-
-  access-orderly : Orderly (rowsIn ws′) n r issued
+  access-orderly : Orderly (rowsIn ws′) (length ws′) r issued
   access-orderly = record {
-    few = o .few;
-    all = all-after;
-    front = left .front;
+    few = rw long (o .few);
+    all = length-in ws′;
+    front = rw long (left .front);
     ordered =
         ap (λ (t : List Cap). inOrder t issued) (left .table ∙ ap₂ (λ (m : ℕ) (rows : List Cap). lentTable m (afterAccess a u s rows)) (sym (o .all)) (sym live-old))
         ∙ access-inOrder (rowsIn ws) issued (ordered (rowsIn ws) issued (o .ordered)) a u s;
@@ -154,18 +153,18 @@ module _ (ws : List (List ℕ)) (n k issued : ℕ) (o : Orderly (rowsIn ws) n k 
 
   pub access-rows : before (rowsIn ws′) r ≡ afterAccess a u s old
   access-rows =
-      sym (orderly-live (rowsIn ws′) n r issued access-orderly) ∙ ap liveRows (left .table)
-      ∙ live-lent n (afterAccess a u s old) (access-named old (subst Named live-old (live-named (rowsIn ws))) a u s)
+      sym (orderly-live (rowsIn ws′) (length ws′) r issued access-orderly) ∙ ap liveRows (left .table)
+      ∙ live-lent (length ws) (afterAccess a u s old) (access-named old (subst Named live-old (live-named (rowsIn ws))) a u s)
 
   pub access-few : r ≤ k
   access-few = omega (arith, length-before (rowsIn ws′) r, ap length access-rows, access-fits a u s old, length-before (rowsIn ws) k)
 
-  pub access-ready : Ready ws′ (rowsIn ws′) n r
-  access-ready = ready ws′ n r issued access-orderly
+  pub access-ready : Ready ws′ r
+  access-ready = ready ws′ r issued access-orderly
 
   -- and a root has no parent among them
   pub access-root : Found (rowsIn ws′) r 0 r
-  access-root = found-zero (rowsIn ws′) r (orderly-rise (rowsIn ws′) n r issued access-orderly)
+  access-root = found-zero (rowsIn ws′) r (orderly-rise (rowsIn ws′) (length ws′) r issued access-orderly)
 
 -- ---- the whole step
 
@@ -180,16 +179,16 @@ module _ (ws : List (List ℕ)) (t : Tally) (req : Request) where
   unfolding judge refusals after answer
   stepped-disordered h = record { table = rw h; tally = rw h; answer = rw h }
 
-  module _ (n k : ℕ) (o : Orderly (rowsIn ws) n k (t .issued)) where
+  module _ (k : ℕ) (o : Orderly (rowsIn ws) (length ws) k (t .issued)) where
     pub allowed-zero : (x : Name) → verdictOf (Allowed x) ≡ verdict (judge (viewOf (rowsIn ws) (t .issued)) req) (newName (t .issued) req) → judge (viewOf (rowsIn ws) (t .issued)) req ≡ 0
     allowed-zero x q = sym (ap (λ (r : Verdict). r .refusal) q)
 
     -- an allowed event
     pub stepped-allowed : (ws′ : List (List ℕ)) (y : Tally) (x : Name) → verdictOf (Allowed x) ≡ verdict (judge (viewOf (rowsIn ws) (t .issued)) req) (newName (t .issued) req)
-        → rowsIn ws′ ≡ lentTable n (rowsAfter (t .issued) (before (rowsIn ws) k) req) → y ≡ countAllowed req t → Stepped ws t req ws′ (record { tally = y; answer = Allowed x })
+        → rowsIn ws′ ≡ lentTable (length ws) (rowsAfter (t .issued) (before (rowsIn ws) k) req) → y ≡ countAllowed req t → Stepped ws t req ws′ (record { tally = y; answer = Allowed x })
     unfolding after answer
     stepped-allowed ws′ y x q h c = record {
-      table = h ∙ rw zero-is (ap₂ (λ (m : ℕ) (rows : List Cap). lentTable m (rowsAfter (t .issued) rows req)) (sym (o .all)) (sym (live-is ws n k (t .issued) o)));
+      table = h ∙ rw zero-is (ap₂ (λ (m : ℕ) (rows : List Cap). lentTable m (rowsAfter (t .issued) rows req)) (sym (o .all)) (sym (live-is ws k (t .issued) o)));
       tally = c ∙ rw zero-is;
       answer = q;
     }
@@ -217,11 +216,11 @@ module _ (ws : List (List ℕ)) (t : Tally) (req : Request) where
         not-1 = ordered-not-1 (rowsIn ws) (t .issued) req (o .ordered)
 
 -- the table is in order after it too
-pub orderly-after : (ws : List (List ℕ)) (n : ℕ) (t : Tally) (req : Request) (k : ℕ) (ws′ : List (List ℕ)) (r : Outcome) (live : ℕ) → length ws′ ≡ length ws → Orderly (rowsIn ws) n k (t .issued) → Stepped ws t req ws′ r → Front (rowsIn ws′) n live → Orderly (rowsIn ws′) n live (r .tally .issued)
-orderly-after ws n t req k ws′ r live long o s f = record {
-  few = o .few;
-  all = length-in ws′ ∙ long ∙ sym (length-in ws) ∙ o .all;
-  front = f;
+pub orderly-after : (ws : List (List ℕ)) (t : Tally) (req : Request) (k : ℕ) (ws′ : List (List ℕ)) (r : Outcome) (live : ℕ) → length ws′ ≡ length ws → Orderly (rowsIn ws) (length ws) k (t .issued) → Stepped ws t req ws′ r → Front (rowsIn ws′) (length ws) live → Orderly (rowsIn ws′) (length ws′) live (r .tally .issued)
+orderly-after ws t req k ws′ r live long o s f = record {
+  few = rw long (o .few);
+  all = length-in ws′;
+  front = rw long f;
   ordered =
       ap₂ (λ (rows : List Cap) (y : Tally). inOrder rows (y .issued)) (s .table) (s .tally)
       ∙ order-after (lends (rowsIn ws) t) req (o .ordered);
@@ -250,7 +249,7 @@ module _ (issued : ℕ) (rows : List Cap) where
   unfolding rowsAfter
   next-drop u = refl
 
--- a table of more than 1,024 rows is not in order
-pub too-many : (ws : List (List ℕ)) (issued : ℕ) → 1024 < length ws → inOrder (rowsIn ws) issued ≡ false
-unfolding inOrder
-too-many ws issued l = rw (lt-leb (length (rowsIn ws)) 1024 (omega (arith, length-in ws)))
+-- what counts of a request is what is asked; the names that are lent beside it do not
+pub counted : (asked : Asked) (names : List ℕ) (t : Tally) → countAllowed (requestOf asked []) t ≡ countAllowed (requestOf asked names) t
+counted (ask.Single e) names t = refl
+counted ask.Group names t = refl

@@ -15,12 +15,14 @@ use borrow.Author.Tests.{eq-eqb, leb-true, le-leb, lt-leb, leb-false}
 use Rattle.model.specs.declared.Cap.{Cap}
 use Rattle.model.specs.Lists.{filter, any, all}
 use Rattle.model.specs.Table.{emptyRow, named, liveRows, lookup, isEmptyRow, liveRowsFirst, rowInOrder, rowsInOrder, inOrder}
+use Rattle.table.specs.Words.{rowsIn}
 use Rattle.table.specs.Rows.{nameAt, before, Filled, Rise, Front}
 use Rattle.model.proofs.Lists.{test, clash, unless, and-both}
 use Rattle.model.proofs.Ancestries.{below-differs}
 use Rattle.model.proofs.Rows.{emptyRow-empty}
 use Rattle.model.proofs.Order.{Rises, rises, risen, rowsInOrder-wider}
 use Rattle.table.proofs.Laws.Prefix.{last, before-suc}
+use Rattle.table.proofs.Laws.Words.{length-in}
 
 pub rise-sub : (T : List Cap) (k i : ℕ) → i ≤ k → Rise T k → Rise T i
 rise-sub T k i l r = record { positive = λ j h. r .positive j (omega arith); sorted = λ j m h g. r .sorted j m h (omega arith) }
@@ -157,3 +159,8 @@ module _ (T : List Cap) (n k : ℕ) (h : Front T n k) (l : length T ≡ n) where
   pub order-rest : (issued : ℕ) → n ≤ 1024 → issued ≤ 1000000 → all isEmptyRow (drop k T) ≡ true → inOrder T issued ≡ rowsInOrder (suc issued) (before T k)
   unfolding inOrder
   order-rest issued m i b = rw (le-leb (length T) 1024 (omega arith), liveRowsFirst-front, b, le-leb issued 1000000 i, live-front b)
+
+-- a table of more than 1,024 rows is not in order
+pub too-many : (ws : List (List ℕ)) (issued : ℕ) → 1024 < length ws → inOrder (rowsIn ws) issued ≡ false
+unfolding inOrder
+too-many ws issued l = rw (length-in ws, lt-leb (length ws) 1024 l)

@@ -10,7 +10,7 @@ use native.Mathlib.Nat.{le-of-eq}
 use lib.ListN.{length, getD, set, length-map, List·getD-map, List·getD-eq-default}
 use Rattle.model.specs.declared.Cap.{Cap}
 use Rattle.model.specs.Table.{emptyRow}
-use Rattle.table.specs.Words.{capOf, six, rowsIn}
+use Rattle.table.specs.Words.{capOf, wordsOf, rowsIn}
 use Rattle.table.specs.Rows.{nameAt, Filled, Rise}
 use Rattle.model.proofs.Lists.{test}
 use borrow.Author.Tests.{leb-true, leb-false}
@@ -24,7 +24,7 @@ pub in-at : (ws : List (List ℕ)) (i : ℕ) → getD (rowsIn ws) i emptyRow ≡
 unfolding rowsIn
 in-at ws i = List·getD-map capOf ws i []
 
-pub in-set : (ws : List (List ℕ)) (i : ℕ) (c : Cap) → rowsIn (set ws i (six c)) ≡ set (rowsIn ws) i c
+pub in-set : (ws : List (List ℕ)) (i : ℕ) (c : Cap) → rowsIn (set ws i (wordsOf c)) ≡ set (rowsIn ws) i c
 unfolding rowsIn
 in-set [] i c = refl
 in-set (w ∷ ws) zero c = refl

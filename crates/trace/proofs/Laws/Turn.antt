@@ -35,7 +35,7 @@ use Rattle.rules.specs.Steps.{lends, Stepped}
 use Rattle.table.proofs.Laws.Judge.{numbered}
 use Rattle.trace.specs.declared.run.RunAnswer.the-variants.{Refused as RunRefused}
 use Rattle.text.specs.Request.{readRequest}
-use Rattle.trace.specs.Run.{takeRead, takeLine, runLines, lent, ranOf, Known, TakesGroup, Takes}
+use Rattle.trace.specs.Run.{takeRead, takeLine, runLines, lent, ranOf, TakesGroup, Takes}
 
 -- a line keeps a table in order
 pub line-order : (k : Spelling) (h : State) (l : List ℕ) → inOrder (h .table) (h .tally .issued) ≡ true → inOrder (takeLine lent k h l .state .table) (takeLine lent k h l .state .tally .issued) ≡ true
@@ -44,10 +44,6 @@ line-order k h l o = go (readRequest k l)
     go : (r : Result Request) → inOrder (takeRead lent h r .state .table) (takeRead lent h r .state .tally .issued) ≡ true
     go (value q) = order-after h q o
     go (refused k) = o
-
--- what is known of words says that their table is in order
-pub known-order : {ws : List (List ℕ)} {n live issued : ℕ} {places : List ℕ} → Known ws n live issued places → inOrder (rowsIn ws) issued ≡ true
-known-order k = k .orderly .ordered
 
 module _ (ws : List (List ℕ)) (t : Tally) (line : List ℕ) where
   -- a line that spells an event goes by the event's step

@@ -2,8 +2,8 @@
 -- Assumes nothing.
 use mathlib.Core.Path.{_≡_, sym, ap, _∙_}
 use Rattle.model.specs.declared.Event.{Event}
-use Rattle.rules.specs.declared.Asked.{Asked}
-use Rattle.rules.specs.Records.{requestOf}
+use Rattle.model.specs.declared.Asked.{Asked}
+use Rattle.model.specs.Requests.{requestOf}
 use Rattle.text.specs.declared.spelling.Spelling.{Spelling}
 use Rattle.text.specs.Write.{writeEvent}
 use Rattle.text.specs.Request.{writeRequest}

@@ -15,7 +15,8 @@ use Rattle.listing.specs.Listing.{listed, listing}
 use Rattle.text.specs.Write.{Writes, written, stored}
 use Rattle.listing.specs.WriteListing.{listingWritten, listingStored, WritesListing}
 use Rattle.text.specs.declared.write.Written.{Written}
-use Rattle.listing.proofs.Laws.Lent.{not-written, too-many}
+use Rattle.table.proofs.Laws.Ordered.{too-many}
+use Rattle.listing.proofs.Laws.Lent.{not-written}
 use Rattle.listing.proofs.Laws.Front.{front-live, front-listing}
 use borrow.Author.Needs.{needs}
 use Rattle.listing.proofs.writing.write_listing.Statement.{statement}

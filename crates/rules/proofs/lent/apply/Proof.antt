@@ -7,7 +7,7 @@ use Rattle.rules.proofs.lent.apply.Tie as tie
 
 returns : tie.Need-returns
 returns c =
-    let s = c .before .before .before .before .before .before .before .before in
+    let s = c .before .before .before .before .before .before .before .before .before in
     let t = c .before .before .before .before .before .before .tally-at .ensures in
     let out = c .before .before .before .before .step in
     let a = out .ensures in

@@ -23,19 +23,19 @@ loop-holds c = walk-first (rowsIn (c .before .args .table .now)) (c .before .arg
 array-write-ancestry : tie.Need-array-write-ancestry Inv-loop μ-loop
 array-write-ancestry c = omega (arith, c .before .before .before .pre .0, c .before .loop .inv .fits, c .before .loop .inv .long, c .loop-test .taken)
 
-mul-at : tie.Need-mul-at Inv-loop μ-loop
-mul-at c = omega (arith, c .before .before .before .pre .0, c .before .loop .inv .fits, c .before .loop .inv .long, c .loop-test .taken)
+mul-wide : tie.Need-mul-wide Inv-loop μ-loop
+mul-wide c = omega (arith, c .before .before .before .pre .0, c .before .loop .inv .fits, c .before .loop .inv .long, c .loop-test .taken)
 
-element-copy-out-at : tie.Need-element-copy-out-at Inv-loop μ-loop
-element-copy-out-at c = omega (arith, c .before .before .before .pre .0, c .before .loop .inv .fits, c .before .loop .inv .long, c .loop-test .taken)
+element-copy-out-wide : tie.Need-element-copy-out-wide Inv-loop μ-loop
+element-copy-out-wide c = omega (arith, c .before .before .before .pre .0, c .before .loop .inv .fits, c .before .loop .inv .long, c .loop-test .taken)
 
 loop-less : tie.Need-loop-less Inv-loop μ-loop
-loop-less c = omega (arith, c .before .loop-test .taken)
+loop-less c = omega (arith, c .before .before .loop-test .taken)
 
 loop-again : tie.Need-loop-again Inv-loop μ-loop
 loop-again c =
-    let q : ℕ = c .before .before .loop .at in
-    walk-step (rowsIn (c .before .before .before .before .args .table .now)) (c .before .before .before .before .args .k) (c .before .before .before .before .args .u) (c .before .before .before .before .pre .0) (c .before .before .before .before .pre .1) (c .before .before .loop .ancestry) (c .before .before .loop .top) q (getD (c .before .before .before .before .args .places .now) q 0) (c .before .before .loop .inv) (c .before .loop-test .taken) (c .before .before .before .before .pre .2 .each q (omega (arith, c .before .loop-test .taken, c .before .before .loop .inv .fits)))
+    let q : ℕ = c .before .before .before .loop .at in
+    rw (c .wide .ensures) (walk-step (rowsIn (c .before .before .before .before .before .args .table .now)) (c .before .before .before .before .before .args .k) (c .before .before .before .before .before .args .u) (c .before .before .before .before .before .pre .0) (c .before .before .before .before .before .pre .1) (c .before .before .before .loop .ancestry) (c .before .before .before .loop .top) q (getD (c .before .before .before .before .before .args .places .now) q 0) (c .before .before .before .loop .inv) (c .before .before .loop-test .taken) (c .before .before .before .before .before .pre .2 .each q (omega (arith, c .before .before .loop-test .taken, c .before .before .before .loop .inv .fits))))
 
 returns : tie.Need-returns Inv-loop μ-loop
 returns c = walk-over (rowsIn (c .before .before .before .args .table .now)) (c .before .before .before .args .k) (c .before .before .before .args .u) (c .before .before .before .pre .0) (c .before .before .before .pre .1) (c .before .loop .ancestry) (c .before .loop .top) (c .before .loop .at) (c .before .loop .inv) (c .loop-test .left)
@@ -49,8 +49,9 @@ ancestry-of-spec =
     find-requires
     loop-holds
     array-write-ancestry
-    mul-at
-    element-copy-out-at
+    mul-wide
+    element-copy-out-wide
+    (λ c κs. tt)
     loop-less
     loop-again
     returns)

@@ -35,35 +35,36 @@ element-copy-out-own-mark c = omega (arith, c .before .before .before .before .p
 own-mark-requires : tie.Need-own-mark-requires Inv-loop μ-loop
 own-mark-requires c κs = tt
 
-mul-mark-below : tie.Need-mul-mark-below Inv-loop μ-loop
-mul-mark-below c = omega (arith, c .before .before .before .before .before .before .before .pre .0, c .before .before .before .before .before .loop-test .taken)
+mul-wide : tie.Need-mul-wide Inv-loop μ-loop
+mul-wide c = omega (arith, c .before .before .before .before .before .before .before .pre .0, c .before .before .before .before .before .loop-test .taken)
 
-element-copy-out-mark-below : tie.Need-element-copy-out-mark-below Inv-loop μ-loop
-element-copy-out-mark-below c = omega (arith, c .before .before .before .before .before .before .before .pre .0, c .before .before .before .before .before .loop-test .taken)
+element-copy-out-wide : tie.Need-element-copy-out-wide Inv-loop μ-loop
+element-copy-out-wide c = omega (arith, c .before .before .before .before .before .before .before .pre .0, c .before .before .before .before .before .loop-test .taken)
 
 mark-below-requires : tie.Need-mark-below-requires Inv-loop μ-loop
-mark-below-requires c κs = omega (arith, c .before .before .before .before .before .before .before .before .pre .0, c .before .before .before .before .before .before .loop-test .taken)
+mark-below-requires c κs = omega (arith, c .before .before .before .before .before .before .before .before .before .pre .0, c .before .before .before .before .before .before .before .loop-test .taken)
 
 larger-requires : tie.Need-larger-requires Inv-loop μ-loop
 larger-requires c κs = tt
 
 array-write-marks : tie.Need-array-write-marks Inv-loop μ-loop
-array-write-marks c = omega (arith, c .before .before .before .before .before .before .before .before .before .before .pre .0, c .before .before .before .before .before .before .before .before .loop-test .taken, c .before .before .before .before .before .before .before .before .before .loop .inv .1 .long)
+array-write-marks c = omega (arith, c .before .before .before .before .before .before .before .before .before .before .before .pre .0, c .before .before .before .before .before .before .before .before .before .loop-test .taken, c .before .before .before .before .before .before .before .before .before .before .loop .inv .1 .long)
 
 add-i : tie.Need-add-i Inv-loop μ-loop
-add-i c = omega (arith, c .before .before .before .before .before .before .before .before .before .before .pre .0, c .before .before .before .before .before .before .before .before .loop-test .taken)
+add-i c = omega (arith, c .before .before .before .before .before .before .before .before .before .before .before .pre .0, c .before .before .before .before .before .before .before .before .before .loop-test .taken)
 
 loop-less : tie.Need-loop-less Inv-loop μ-loop
-loop-less c = omega (arith, c .before .before .before .before .before .before .before .before .loop-test .taken)
+loop-less c = omega (arith, c .before .before .before .before .before .before .before .before .before .loop-test .taken)
 
 loop-again : tie.Need-loop-again Inv-loop μ-loop
 loop-again c =
-    let s = c .before .before .before .before .before .before .before .before .before .before in let T = rowsIn (s .args .table .now) in
-    let i : ℕ = c .before .before .before .before .before .before .before .before .before .loop .i in
+    let s = c .before .before .before .before .before .before .before .before .before .before .before in let T = rowsIn (s .args .table .now) in
+    let i : ℕ = c .before .before .before .before .before .before .before .before .before .before .loop .i in
     let q : ℕ = getD (s .args .places .now) i 0 in
-    let o : c .before .before .before .before .own-mark .result ≡ ownOfAccess T (s .args .ancestry .now) (s .args .a) (s .args .s) i = c .before .before .before .before .own-mark .ensures ∙ ap (λ t. own (s .args .a) (s .args .s) t (eqb (getD (s .args .ancestry .now) i 0) 1)) (c .before .before .before .before .before .before .span-of .ensures ∙ ap span (c .before .before .before .before .before .before .before .row-at .ensures)) in
-    let e : c .larger .result ≡ max (ownOfAccess T (s .args .ancestry .now) (s .args .a) (s .args .s) i) (cond (ltb q i) (getD (c .before .before .before .before .before .before .before .before .before .loop .marks) q 0) 0) = c .larger .ensures ∙ ap₂ (λ (x y : ℕ). max x y) o (c .before .mark-below .ensures) in
-    (omega (arith, c .before .before .before .before .before .before .before .before .loop-test .taken), rw e (spread-more T (s .args .k) i q (ownOfAccess T (s .args .ancestry .now) (s .args .a) (s .args .s)) (c .before .before .before .before .before .before .before .before .before .loop .marks) (s .pre .1) (s .pre .0) (c .before .before .before .before .before .before .before .before .loop-test .taken) (s .pre .2 .each i (c .before .before .before .before .before .before .before .before .loop-test .taken)) (c .before .before .before .before .before .before .before .before .before .loop .inv .1)))
+    let up : ℕ → ℕ = λ p. cond (ltb p i) (getD (c .before .before .before .before .before .before .before .before .before .before .loop .marks) p 0) 0 in
+    let o : c .before .before .before .before .before .own-mark .result ≡ ownOfAccess T (s .args .ancestry .now) (s .args .a) (s .args .s) i = c .before .before .before .before .before .own-mark .ensures ∙ ap (λ t. own (s .args .a) (s .args .s) t (eqb (getD (s .args .ancestry .now) i 0) 1)) (c .before .before .before .before .before .before .before .span-of .ensures ∙ ap span (c .before .before .before .before .before .before .before .before .row-at .ensures)) in
+    let e : c .larger .result ≡ max (ownOfAccess T (s .args .ancestry .now) (s .args .a) (s .args .s) i) (cond (ltb q i) (getD (c .before .before .before .before .before .before .before .before .before .before .loop .marks) q 0) 0) = c .larger .ensures ∙ ap₂ (λ (x y : ℕ). max x y) o (c .before .mark-below .ensures ∙ ap up (c .before .before .wide .ensures)) in
+    (omega (arith, c .before .before .before .before .before .before .before .before .before .loop-test .taken), rw e (spread-more T (s .args .k) i q (ownOfAccess T (s .args .ancestry .now) (s .args .a) (s .args .s)) (c .before .before .before .before .before .before .before .before .before .before .loop .marks) (s .pre .1) (s .pre .0) (c .before .before .before .before .before .before .before .before .before .loop-test .taken) (s .pre .2 .each i (c .before .before .before .before .before .before .before .before .before .loop-test .taken)) (c .before .before .before .before .before .before .before .before .before .before .loop .inv .1)))
 
 returns : tie.Need-returns Inv-loop μ-loop
 returns c = let e : c .before .loop .i ≡ c .before .before .args .k = omega (arith, c .before .loop .inv .0, c .loop-test .left) in rw (← e) (c .before .loop .inv .1 .done)
@@ -79,8 +80,9 @@ spread-access-spec =
     span-of-requires
     element-copy-out-own-mark
     own-mark-requires
-    mul-mark-below
-    element-copy-out-mark-below
+    mul-wide
+    element-copy-out-wide
+    (λ c κs. tt)
     mark-below-requires
     larger-requires
     array-write-marks

@@ -20,38 +20,39 @@ abbrev μ-loop : tie.MeasureT-loop
 loop-holds : tie.Need-loop-holds Inv-loop μ-loop
 loop-holds c = (omega arith, spread-none (rowsIn (c .args .table .now)) (λ j. getD (c .args .owned .now) j 0) _ (length-replicate {A = ℕ} 1024 0))
 
-mul-mark-below : tie.Need-mul-mark-below Inv-loop μ-loop
-mul-mark-below c = omega (arith, c .before .before .before .pre .0, c .before .loop-test .taken)
+mul-wide : tie.Need-mul-wide Inv-loop μ-loop
+mul-wide c = omega (arith, c .before .before .before .pre .0, c .before .loop-test .taken)
 
-element-copy-out-mark-below : tie.Need-element-copy-out-mark-below Inv-loop μ-loop
-element-copy-out-mark-below c = omega (arith, c .before .before .before .pre .0, c .before .loop-test .taken)
+element-copy-out-wide : tie.Need-element-copy-out-wide Inv-loop μ-loop
+element-copy-out-wide c = omega (arith, c .before .before .before .pre .0, c .before .loop-test .taken)
 
 mark-below-requires : tie.Need-mark-below-requires Inv-loop μ-loop
-mark-below-requires c κs = omega (arith, c .before .before .before .before .pre .0, c .before .before .loop-test .taken)
+mark-below-requires c κs = omega (arith, c .before .before .before .before .before .pre .0, c .before .before .before .loop-test .taken)
 
 element-copy-out-larger : tie.Need-element-copy-out-larger Inv-loop μ-loop
-element-copy-out-larger c = omega (arith, c .before .before .before .before .before .pre .0, c .before .before .before .loop-test .taken)
+element-copy-out-larger c = omega (arith, c .before .before .before .before .before .before .pre .0, c .before .before .before .before .loop-test .taken)
 
 larger-requires : tie.Need-larger-requires Inv-loop μ-loop
 larger-requires c κs = tt
 
 array-write-marks : tie.Need-array-write-marks Inv-loop μ-loop
-array-write-marks c = omega (arith, c .before .before .before .before .before .before .before .pre .0, c .before .before .before .before .before .loop-test .taken, c .before .before .before .before .before .before .loop .inv .1 .long)
+array-write-marks c = omega (arith, c .before .before .before .before .before .before .before .before .pre .0, c .before .before .before .before .before .before .loop-test .taken, c .before .before .before .before .before .before .before .loop .inv .1 .long)
 
 add-i : tie.Need-add-i Inv-loop μ-loop
-add-i c = omega (arith, c .before .before .before .before .before .before .before .pre .0, c .before .before .before .before .before .loop-test .taken)
+add-i c = omega (arith, c .before .before .before .before .before .before .before .before .pre .0, c .before .before .before .before .before .before .loop-test .taken)
 
 loop-less : tie.Need-loop-less Inv-loop μ-loop
-loop-less c = omega (arith, c .before .before .before .before .before .loop-test .taken)
+loop-less c = omega (arith, c .before .before .before .before .before .before .loop-test .taken)
 
 loop-again : tie.Need-loop-again Inv-loop μ-loop
 loop-again c =
-    let s = c .before .before .before .before .before .before .before in let T = rowsIn (s .args .table .now) in
-    let i : ℕ = c .before .before .before .before .before .before .loop .i in
+    let s = c .before .before .before .before .before .before .before .before in let T = rowsIn (s .args .table .now) in
+    let i : ℕ = c .before .before .before .before .before .before .before .loop .i in
     let q : ℕ = getD (s .args .places .now) i 0 in
+    let up : ℕ → ℕ = λ p. cond (ltb p i) (getD (c .before .before .before .before .before .before .before .loop .marks) p 0) 0 in
     let own : ℕ = getD (s .args .owned .now) i 0 in
-    let e : c .larger .result ≡ max own (cond (ltb q i) (getD (c .before .before .before .before .before .before .loop .marks) q 0) 0) = c .larger .ensures ∙ ap (max own) (c .before .before .mark-below .ensures) in
-    (omega (arith, c .before .before .before .before .before .loop-test .taken), rw e (spread-more T (s .args .k) i q (λ j. getD (s .args .owned .now) j 0) (c .before .before .before .before .before .before .loop .marks) (s .pre .1) (s .pre .0) (c .before .before .before .before .before .loop-test .taken) (s .pre .2 .each i (c .before .before .before .before .before .loop-test .taken)) (c .before .before .before .before .before .before .loop .inv .1)))
+    let e : c .larger .result ≡ max own (cond (ltb q i) (getD (c .before .before .before .before .before .before .before .loop .marks) q 0) 0) = c .larger .ensures ∙ ap (max own) (c .before .before .mark-below .ensures ∙ ap up (c .before .before .before .wide .ensures)) in
+    (omega (arith, c .before .before .before .before .before .before .loop-test .taken), rw e (spread-more T (s .args .k) i q (λ j. getD (s .args .owned .now) j 0) (c .before .before .before .before .before .before .before .loop .marks) (s .pre .1) (s .pre .0) (c .before .before .before .before .before .before .loop-test .taken) (s .pre .2 .each i (c .before .before .before .before .before .before .loop-test .taken)) (c .before .before .before .before .before .before .before .loop .inv .1)))
 
 returns : tie.Need-returns Inv-loop μ-loop
 returns c = let e : c .before .loop .i ≡ c .before .before .args .k = omega (arith, c .before .loop .inv .0, c .loop-test .left) in rw (← e) (c .before .loop .inv .1 .done)
@@ -63,8 +64,9 @@ spread-names-spec =
     Inv-loop
     μ-loop
     loop-holds
-    mul-mark-below
-    element-copy-out-mark-below
+    mul-wide
+    element-copy-out-wide
+    (λ c κs. tt)
     mark-below-requires
     element-copy-out-larger
     larger-requires

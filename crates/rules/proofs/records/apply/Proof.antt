@@ -78,13 +78,14 @@ use Rattle.rules.proofs.records.request_held as core
 use Rattle.rules.proofs.records.request_held.Symbol as core-def
 use Rattle.rules.proofs.records.request_held.Symbol.{name as #rules·core}
 use Rattle.rules.proofs.records.request_held.Met as core-thm
-use Rattle.rules.specs.Records.{requestOf, held, Requested}
+use Rattle.model.specs.Requests.{requestOf}
+use Rattle.rules.specs.Records.{held, Requested}
 use Rattle.rules.proofs.records.held as held′
 use Rattle.rules.proofs.records.load as load′
 use Rattle.rules.proofs.records.store as store′
-use Rattle.rules.specs.declared.Asked.{Asked}
-use Rattle.rules.proofs.Asked as Q
-use Rattle.rules.proofs.Asked.Laws as Q′
+use Rattle.model.specs.declared.Asked.{Asked}
+use Rattle.model.proofs.Asked as Q
+use Rattle.model.proofs.Asked.Laws as Q′
 use Rattle.rules.proofs.records.apply.Key.{name as #rules·apply}
 use Rattle.rules.proofs.records.apply as apply
 use Rattle.rules.proofs.records.apply.Statement as stated

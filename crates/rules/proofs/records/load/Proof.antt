@@ -49,7 +49,7 @@ use denote.Triple.Walked.{says, needs, Stays, stay-none-slice, stay-none, stay-r
 use denote.Exit.{yes}
 use Rattle.model.specs.declared.Cap.{Cap}
 use Rattle.model.specs.Table.{emptyRow}
-use Rattle.table.specs.Words.{six}
+use Rattle.table.specs.Words.{wordsOf}
 use Rattle.model.proofs.Cap as T
 use Rattle.model.proofs.Cap.Laws as T′
 use Rattle.rules.proofs.Walks.Count.{counts, holds, fails}
@@ -121,12 +121,12 @@ module _ {M : Type 1} (𝓤 : URA M) (H : Heap 𝓤) (A : Atoms 𝓤) (W : Given
 
   -- what the caller has of the call: the token, and the rows' last list
   gives : (ν : ℕ) (δ : GName) (l : List (List ℕ)) (i : ℕ) (c : Cap) (v : Val)
-      → ent 𝓤 (Put 𝓤 H A mem run .post (to-put ν δ l i c) v) (H .⇛ (guard 𝓤 (v ≡ vunit) (sep 𝓤 (A .lft (ν ∷ []) fullShare) (A .res δ (Ws .coded .code (set l i (six c)))))))
+      → ent 𝓤 (Put 𝓤 H A mem run .post (to-put ν δ l i c) v) (H .⇛ (guard 𝓤 (v ≡ vunit) (sep 𝓤 (A .lft (ν ∷ []) fullShare) (A .res δ (Ws .coded .code (set l i (wordsOf c)))))))
   gives ν δ l i c v =
       qed W (raw (Put 𝓤 H A mem run .post (to-put ν δ l i c) v) ∷ []) ∵ updating ! $
       use1 W (later (some (λ (r : Unit {0}). ((‵ (flft (ν ∷ []) fullShare) ⊛ ‵ ftrue) ⊛ ‵ (unit .own r (v ∷ []))) ⊛ raw (ensured 𝓤 H A put.ended (put.clauses 𝓤 H A mem run) (ν ∷ [], tt) (rows δ l, (i, (c, tt))) tt r)))) (id⊢ 𝓤 _) $ await ! tt $ pick ! (λ r.
-      split ! $ move ! (1 ∷ []) $ use1 W (some (λ (zs : List (List ℕ) × (Unit {0} × (Unit {0} × Unit {0}))). ‵ (lasts put.ended (ν ∷ [], tt) (rows δ l, (i, (c, tt))) zs) ⊛ raw (fact 𝓤 (zs .0 ≡ set l i (six c))))) (id⊢ 𝓤 _) $ pick ! (λ zs.
-      split ! $ move ! (1 ∷ []) $ heard ! (zs .0 ≡ set l i (six c)) (λ e. fsplit ! $ rewrite ! 0 (λ (z : List (List ℕ)). ‵ (fres δ (Ws .coded .code z))) e refl $
+      split ! $ move ! (1 ∷ []) $ use1 W (some (λ (zs : List (List ℕ) × (Unit {0} × (Unit {0} × Unit {0}))). ‵ (lasts put.ended (ν ∷ [], tt) (rows δ l, (i, (c, tt))) zs) ⊛ raw (fact 𝓤 (zs .0 ≡ set l i (wordsOf c))))) (id⊢ 𝓤 _) $ pick ! (λ zs.
+      split ! $ move ! (1 ∷ []) $ heard ! (zs .0 ≡ set l i (wordsOf c)) (λ e. fsplit ! $ rewrite ! 0 (λ (z : List (List ℕ)). ‵ (fres δ (Ws .coded .code z))) e refl $
       move ! (2 ∷ []) $ split ! $ move ! (1 ∷ []) $ feqL ! (λ u. at-once ! $ check ! (ap only u) $ split ! $ keep ! (0 ∷ 2 ∷ []) $ done !))))
 
   module _ (𝓣 : Tables 𝓤 H) (known : Triple 𝓤 (𝓣 .C #rules·put) (Put 𝓤 H A mem run)) where
@@ -195,10 +195,10 @@ module _ {M : Type 1} (𝓤 : URA M) (H : Heap 𝓤) (A : Atoms 𝓤) (W : Given
           move ! (2 ∷ 0 ∷ []) $ use2 W (raw (Put 𝓤 H A mem run .pre (to-put ν δ (loaded ys ws i) i (getD ys i emptyRow)))) (goes ν δ (loaded ys ws i) i (getD ys i emptyRow) (small, all-rows) g) $
           calls-at ! (fmOf 𝓤 H (W .laws) 𝓣) (Put 𝓤 H A mem run) known (to-put ν δ (loaded ys ws i) i (getD ys i emptyRow))
           (and-then ! (load ! (from ! (stop !)) (look ! 10 refl)) (and-then ! (load ! (from ! (stop !)) (look ! 16 refl)) (and-then ! (load ! (from ! (stop !)) (look ! 4 refl)) (no-more !)))) (λ v.
-          use1 W (later (given (v ≡ vunit) (‵ (flft (ν ∷ []) fullShare) ⊛ ‵ (fres δ (Ws .coded .code (set (loaded ys ws i) i (six (getD ys i emptyRow)))))))) (gives ν δ (loaded ys ws i) i (getD ys i emptyRow) v) $ await ! tt $ learn ! (λ e. split ! $
+          use1 W (later (given (v ≡ vunit) (‵ (flft (ν ∷ []) fullShare) ⊛ ‵ (fres δ (Ws .coded .code (set (loaded ys ws i) i (wordsOf (getD ys i emptyRow)))))))) (gives ν δ (loaded ys ws i) i (getD ys i emptyRow) v) $ await ! tt $ learn ! (λ e. split ! $
           land ! (from ! (stop !)) (init ! 13 refl (subst (λ (y : Val). T (hasTy tyUnit y) × WT y) (sym e) (tt, tt))) $
           -- the lifetime is ended, and the rows come back with row i in them
-          lft-end ! tt $ move ! (0 ∷ 2 ∷ 1 ∷ []) $ use3 W (later (‵ (Rows (set (loaded ys ws i) i (six (getD ys i emptyRow)))) ⊛ ‵ (flft κ′ q′))) (comes-back 𝓤 H A W Ws (named 1) κ′ (ν ∷ []) q′ γ′ b′ o′ δ (loaded ys ws i) (set (loaded ys ws i) i (six (getD ys i emptyRow)))) $ await ! tt $ split ! $
+          lft-end ! tt $ move ! (0 ∷ 2 ∷ 1 ∷ []) $ use3 W (later (‵ (Rows (set (loaded ys ws i) i (wordsOf (getD ys i emptyRow)))) ⊛ ‵ (flft κ′ q′))) (comes-back 𝓤 H A W Ws (named 1) κ′ (ν ∷ []) q′ γ′ b′ o′ δ (loaded ys ws i) (set (loaded ys ws i) i (wordsOf (getD ys i emptyRow)))) $ await ! tt $ split ! $
           rewrite ! 0 (λ (z : List (List ℕ)). ‵ (Rows z)) (loaded-suc ys ws i inside enough) refl $
           assigns-last ! (bin ! (load ! (from ! (stop !)) (look ! 16 refl)) (lit ! tt) (record { fits = next-fits })) (from ! (stop !)) (store ! 16 refl (tt, record { fits = next-fits })) $
           forget ! 4 refl $ forget ! 6 refl $ forget ! 8 refl $ forget ! 10 refl $ forget ! 12 refl $ forget ! 14 refl $

@@ -5,22 +5,19 @@ use native.Mathlib.Omega.{arith}
 use lib.ListN.{length, take}
 use lib.Seq.{length-take-le}
 use borrow.Author.Needs.{needs}
-use Rattle.rules.specs.Records.{requestOf}
+use Rattle.model.specs.Requests.{requestOf}
 use Rattle.rules.proofs.Laws.Records.{requested-few, requested-many}
 use Rattle.rules.proofs.records.request_first.Statement.{statement}
 use Rattle.rules.proofs.records.request_first.Tie as tie
 
-slice-aggregate-request : tie.Need-slice-aggregate-request
-slice-aggregate-request c = let s = c .before .before .before in sym (length-take-le (s .args .n) (s .args .rows .now) (omega (arith, s .pre, c .before .if1 .taken)))
-
-request-requires : tie.Need-request-requires
-request-requires c κs = let s = c .before .before .before in length-take-le (s .args .n) (s .args .rows .now) (omega (arith, s .pre, c .before .if1 .taken))
+slice-aggregate-step : tie.Need-slice-aggregate-step
+slice-aggregate-step c = let s = c .before .before .before in sym (length-take-le (s .args .n) (s .args .rows .now) (omega (arith, s .pre, c .before .if1 .taken)))
 
 returns : tie.Need-returns
 returns c =
     let s = c .before .before .before .before .before in
-    let long : length (c .before .request .last .0) ≡ length (take (s .args .n) (s .args .rows .now)) = c .rows .given .0 in
-    requested-few (s .args .rows .now) (c .before .request .last .0) (s .args .n) (s .args .t) (requestOf (s .args .asked) (s .args .names .now)) (c .before .request .result) (s .pre) (c .before .before .before .if1 .taken) (long ∙ length-take-le (s .args .n) (s .args .rows .now) (omega (arith, s .pre, c .before .before .before .if1 .taken))) (c .before .request .ensures)
+    let long : length (c .before .step .last .0) ≡ length (take (s .args .n) (s .args .rows .now)) = c .rows .given .0 in
+    requested-few (s .args .rows .now) (c .before .step .last .0) (s .args .n) (s .args .t) (requestOf (s .args .asked) (s .args .names .now)) (c .before .step .result) (s .pre) (c .before .before .before .if1 .taken) (long ∙ length-take-le (s .args .n) (s .args .rows .now) (omega (arith, s .pre, c .before .before .before .if1 .taken))) (c .before .step .ensures)
 
 returns-2 : tie.Need-returns-2
 returns-2 c = let s = c .before .before in requested-many (s .args .rows .now) (s .args .n) (s .args .t) (requestOf (s .args .asked) (s .args .names .now)) (c .if1 .left)
@@ -30,8 +27,8 @@ request-first-spec =
     tie.close
     (tie.spec
     (λ c. search needs)
-    slice-aggregate-request
-    request-requires
+    slice-aggregate-step
+    (λ c κs. search needs)
     (λ c. search needs)
     returns
     returns-2)

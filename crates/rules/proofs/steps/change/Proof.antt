@@ -1,164 +1,42 @@
 -- `change` meets its contract.
 -- Assumes nothing.
-use mathlib.Core.Path.{_≡_, sym, ap, _∙_, subst}
-use mathlib.Core.Bool.{false}
-use mathlib.Core.List.{List, [], _∷_}
-use Prim.Native.Nat.{_+_, _≤_, _<_}
-use native.Mathlib.Omega.{arith}
-use lib.ListN.{length, take}
+use mathlib.Core.Path.{_≡_, subst}
 use borrow.Author.Needs.{needs}
-use Rattle.model.specs.declared.Cap.{Cap}
-use Rattle.model.specs.declared.Event.{Event}
-use Rattle.model.specs.declared.Access.the-variants.{Reading, Writing}
-use Rattle.model.specs.Derivation.{ancestry, inSubtree}
-use Rattle.model.specs.Table.{derivations}
-use Rattle.model.specs.Requests.{Single}
+use Rattle.model.specs.declared.Asked.{Asked}
+use Rattle.model.specs.Requests.{requestOf}
 use Rattle.model.specs.Refusals.{viewOf, judge}
-use Rattle.model.specs.Effects.{afterAccess, rowsWithout, rowsAfter}
+use Rattle.model.specs.Effects.{rowsAfter}
 use Rattle.table.specs.Words.{rowsIn}
-use Rattle.table.specs.Rows.{before, Found}
-use Rattle.table.proofs.Laws.Words.{length-in}
-use Rattle.table.proofs.Laws.Judge.{orderly-issued, orderly-few, orderly-rise}
-use Rattle.rules.proofs.Laws.Steps.{ready, access-rows, access-few, access-ready, access-root, room-create, room-borrow, there-borrow, depth-borrow, next-create, next-borrow, next-read, next-write, next-drop}
+use Rattle.rules.proofs.Laws.Steps.{ready}
 use Rattle.rules.proofs.steps.change.Statement.{statement}
 use Rattle.rules.proofs.steps.change.Tie as tie
 
-add-new-row : tie.Need-add-new-row
-add-new-row c =
-    let s = c .before .before .before in let ws = s .args .table .now in let T = rowsIn ws in
-    let i : s .args .issued ≤ 1000000 = orderly-issued T (s .args .n) (s .args .k) (s .args .issued) (s .pre .0) in
-    omega arith
-
-add-write-rows : tie.Need-add-write-rows
-add-write-rows c =
-    let s = c .before .before .before .before .before .before in let ws = s .args .table .now in let T = rowsIn ws in
-    let i : s .args .issued ≤ 1000000 = orderly-issued T (s .args .n) (s .args .k) (s .args .issued) (s .pre .0) in
-    omega arith
-
-write-rows-requires : tie.Need-write-rows-requires
-write-rows-requires c κs =
-    let s = c .before .before .before .before .before .before in let ws = s .args .table .now in
-    (ready ws (s .args .n) (s .args .k) (s .args .issued) (s .pre .0), s .pre .2)
-
-append-requires : tie.Need-append-requires
-append-requires c κs =
-    let s = c .before .before .before .before .before .before .before .before .before .before in let ws = s .args .table .now in let T = rowsIn ws in
-    let j = subst (λ (x : Event). judge (viewOf T (s .args .issued)) (Single x) ≡ 0) (c .before .before .before .before .before .before .before .before .e .given .1) (s .pre .1) in
-    let span = c .before .before .before .before .before .before .before .before .e .given .0 .1 .0 in
-    let left = c .before .before .before .write-rows .ensures in let long = c .before .before .table .given in
-    let room : s .args .k < s .args .n = room-create ws (s .args .n) (s .args .k) (s .args .issued) (s .pre .0) (c .before .before .before .before .before .before .before .before .e .given .0 .0) span (c .before .before .before .before .before .before .before .before .e .given .0 .1 .1 .0) j in
-    (omega (arith, room, access-few ws (s .args .n) (s .args .k) (s .args .issued) (s .pre .0) Writing (s .args .issued + 1) span (c .before .before .before .write-rows .last .0) left long), access-ready ws (s .args .n) (s .args .k) (s .args .issued) (s .pre .0) Writing (s .args .issued + 1) span (c .before .before .before .write-rows .last .0) left long, left .placed, subst (λ (d : Cap). Found (rowsIn (c .before .before .before .write-rows .last .0)) (c .before .before .before .write-rows .result) (d .parent .0) (c .before .before .before .write-rows .result)) (sym (c .before .before .before .before .before .before .new-row .ensures)) (access-root ws (s .args .n) (s .args .k) (s .args .issued) (s .pre .0) Writing (s .args .issued + 1) span (c .before .before .before .write-rows .last .0) left long), subst (λ (d : Cap). 0 < d .name .0) (sym (c .before .before .before .before .before .before .new-row .ensures)) (omega arith))
-
-find-requires : tie.Need-find-requires
-find-requires c κs =
-    let s = c .before .before .before .before in let ws = s .args .table .now in let T = rowsIn ws in
-    (orderly-few T (s .args .n) (s .args .k) (s .args .issued) (s .pre .0), orderly-rise T (s .args .n) (s .args .k) (s .args .issued) (s .pre .0))
-
-depth-at-requires : tie.Need-depth-at-requires
-depth-at-requires c κs =
-    let s = c .before .before .before .before .before .before in let ws = s .args .table .now in let T = rowsIn ws in
-    let j = subst (λ (x : Event). judge (viewOf T (s .args .issued)) (Single x) ≡ 0) (c .before .before .before .before .e2 .given .1) (s .pre .1) in
-    (orderly-few T (s .args .n) (s .args .k) (s .args .issued) (s .pre .0), orderly-rise T (s .args .n) (s .args .k) (s .args .issued) (s .pre .0), there-borrow ws (s .args .n) (s .args .k) (s .args .issued) (s .pre .0) (c .before .before .before .before .e2 .given .0 .0) (c .before .before .before .before .e2 .given .0 .1 .0) (c .before .before .before .before .e2 .given .0 .1 .1 .0) (c .before .before .before .before .e2 .given .0 .1 .1 .1 .0) j, c .before .find .ensures)
-
-add-new-row-2 : tie.Need-add-new-row-2
-add-new-row-2 c =
-    let s = c .before .before .before .before .before .before .before in let ws = s .args .table .now in let T = rowsIn ws in
-    let i : s .args .issued ≤ 1000000 = orderly-issued T (s .args .n) (s .args .k) (s .args .issued) (s .pre .0) in
-    omega arith
-
-add-new-row-3 : tie.Need-add-new-row-3
-add-new-row-3 c =
-    let s = c .before .before .before .before .before .before .before in let ws = s .args .table .now in let T = rowsIn ws in
-    let j = subst (λ (x : Event). judge (viewOf T (s .args .issued)) (Single x) ≡ 0) (c .before .before .before .before .before .e2 .given .1) (s .pre .1) in
-    omega (arith, c .depth-at .ensures, depth-borrow ws (s .args .n) (s .args .k) (s .args .issued) (s .pre .0) (c .before .before .before .before .before .e2 .given .0 .0) (c .before .before .before .before .before .e2 .given .0 .1 .0) (c .before .before .before .before .before .e2 .given .0 .1 .1 .0) (c .before .before .before .before .before .e2 .given .0 .1 .1 .1 .0) j)
-
-append-requires-2 : tie.Need-append-requires-2
-append-requires-2 c κs =
-    let s = c .before .before .before .before .before .before .before .before .before .before in let ws = s .args .table .now in let T = rowsIn ws in
-    let j = subst (λ (x : Event). judge (viewOf T (s .args .issued)) (Single x) ≡ 0) (c .before .before .before .before .before .before .before .before .e2 .given .1) (s .pre .1) in
-    (room-borrow ws (s .args .n) (s .args .k) (s .args .issued) (s .pre .0) (c .before .before .before .before .before .before .before .before .e2 .given .0 .0) (c .before .before .before .before .before .before .before .before .e2 .given .0 .1 .0) (c .before .before .before .before .before .before .before .before .e2 .given .0 .1 .1 .0) (c .before .before .before .before .before .before .before .before .e2 .given .0 .1 .1 .1 .0) j, ready ws (s .args .n) (s .args .k) (s .args .issued) (s .pre .0), s .pre .2, subst (λ (d : Cap). Found T (s .args .k) (d .parent .0) (c .before .before .before .before .before .find .result)) (sym (c .before .before .new-row2 .ensures)) (c .before .before .before .before .before .find .ensures), subst (λ (d : Cap). 0 < d .name .0) (sym (c .before .before .new-row2 .ensures)) (omega arith))
-
-read-rows-requires : tie.Need-read-rows-requires
-read-rows-requires c κs =
-    let s = c .before .before .before .before .before in let ws = s .args .table .now in let T = rowsIn ws in
-    (ready ws (s .args .n) (s .args .k) (s .args .issued) (s .pre .0), s .pre .2)
-
-write-rows-requires-2 : tie.Need-write-rows-requires-2
-write-rows-requires-2 c κs =
-    let s = c .before .before .before .before .before in let ws = s .args .table .now in let T = rowsIn ws in
-    (ready ws (s .args .n) (s .args .k) (s .args .issued) (s .pre .0), s .pre .2)
+change-event-requires : tie.Need-change-event-requires
+change-event-requires c κs =
+    let s = c .before .before .before .before .before .before in
+    (s .pre .0 .orderly, subst (λ (x : Asked). judge (viewOf (rowsIn (s .args .table .now)) (s .args .issued)) (requestOf x (s .args .names .now)) ≡ 0) (c .before .before .before .asked .given .1) (s .pre .1), s .pre .0 .placed)
 
 drop-names-requires : tie.Need-drop-names-requires
 drop-names-requires c κs =
-    let s = c .before .before .before .before .before .before in let ws = s .args .table .now in let T = rowsIn ws in
-    (ready ws (s .args .n) (s .args .k) (s .args .issued) (s .pre .0), s .pre .2)
+    let s = c .before .before .before .before .before in
+    (ready (s .args .table .now) (s .args .k) (s .args .issued) (s .pre .0 .orderly), s .pre .0 .placed)
 
 returns : tie.Need-returns
-returns c =
-    let s = c .before .before .before .before .before .before .before .before .before .before .before .before in let ws = s .args .table .now in let T = rowsIn ws in
-    let span = c .before .before .before .before .before .before .before .before .before .before .e .given .0 .1 .0 in
-    let new = c .before .before .before .before .before .before .before .before .new-row .result in
-    let rows = access-rows ws (s .args .n) (s .args .k) (s .args .issued) (s .pre .0) Writing (s .args .issued + 1) span (c .before .before .before .before .before .write-rows .last .0) (c .before .before .before .before .before .write-rows .ensures) (c .before .before .before .before .table .given) in
-    let e = ap (λ (l : List Cap). new ∷ l) rows ∙ next-create (s .args .issued) (before T (s .args .k)) (c .before .before .before .before .before .before .before .before .before .before .e .given .0 .0) span (c .before .before .before .before .before .before .before .before .before .before .e .given .0 .1 .1 .0) new (c .before .before .before .before .before .before .before .before .new-row .ensures) ∙ ap (λ (x : Event). rowsAfter (s .args .issued) (before T (s .args .k)) (Single x)) (sym (c .before .before .before .before .before .before .before .before .before .before .e .given .1)) in
-    rw (← e) (c .before .append .ensures)
+returns c = rw (c .before .before .before .before .before .asked .given .1) (c .before .change-event .ensures)
 
 returns-2 : tie.Need-returns-2
-returns-2 c =
-    let s = c .before .before .before .before .before .before .before .before .before .before .before .before in let ws = s .args .table .now in let T = rowsIn ws in
-    let e : (c .before .before .before .before .new-row2 .result ∷ before T (s .args .k)) ≡ rowsAfter (s .args .issued) (before T (s .args .k)) (Single (s .args .e)) = next-borrow (s .args .issued) (before T (s .args .k)) (c .before .before .before .before .before .before .before .before .before .before .e2 .given .0 .0) (c .before .before .before .before .before .before .before .before .before .before .e2 .given .0 .1 .0) (c .before .before .before .before .before .before .before .before .before .before .e2 .given .0 .1 .1 .0) (c .before .before .before .before .before .before .before .before .before .before .e2 .given .0 .1 .1 .1 .0) (c .before .before .before .before .before .depth-at .result) (c .before .before .before .before .new-row2 .result) (c .before .before .before .before .before .depth-at .ensures) (c .before .before .before .before .new-row2 .ensures) ∙ ap (λ (x : Event). rowsAfter (s .args .issued) (before T (s .args .k)) (Single x)) (sym (c .before .before .before .before .before .before .before .before .before .before .e2 .given .1)) in
-    rw (← e) (c .before .append2 .ensures)
-
-returns-3 : tie.Need-returns-3
-returns-3 c =
-    let s = c .before .before .before .before .before .before .before in let ws = s .args .table .now in let T = rowsIn ws in
-    let e : afterAccess Reading (c .before .before .before .before .before .e3 .given .0 .0 .0) (c .before .before .before .before .before .e3 .given .0 .1 .0) (before T (s .args .k)) ≡ rowsAfter (s .args .issued) (before T (s .args .k)) (Single (s .args .e)) = next-read (s .args .issued) (before T (s .args .k)) (c .before .before .before .before .before .e3 .given .0 .0) (c .before .before .before .before .before .e3 .given .0 .1 .0) ∙ ap (λ (x : Event). rowsAfter (s .args .issued) (before T (s .args .k)) (Single x)) (sym (c .before .before .before .before .before .e3 .given .1)) in
-    rw (← e) (c .before .read-rows .ensures)
-
-returns-4 : tie.Need-returns-4
-returns-4 c =
-    let s = c .before .before .before .before .before .before .before in let ws = s .args .table .now in let T = rowsIn ws in
-    let e : afterAccess Writing (c .before .before .before .before .before .e4 .given .0 .0 .0) (c .before .before .before .before .before .e4 .given .0 .1 .0) (before T (s .args .k)) ≡ rowsAfter (s .args .issued) (before T (s .args .k)) (Single (s .args .e)) = next-write (s .args .issued) (before T (s .args .k)) (c .before .before .before .before .before .e4 .given .0 .0) (c .before .before .before .before .before .e4 .given .0 .1 .0) ∙ ap (λ (x : Event). rowsAfter (s .args .issued) (before T (s .args .k)) (Single x)) (sym (c .before .before .before .before .before .e4 .given .1)) in
-    rw (← e) (c .before .write-rows2 .ensures)
-
-returns-5 : tie.Need-returns-5
-returns-5 c =
-    let s = c .before .before .before .before .before .before .before .before in let ws = s .args .table .now in let T = rowsIn ws in
-    let e : rowsWithout (c .before .before .before .before .before .before .e5 .given .0 .0 .0 ∷ []) (before T (s .args .k)) ≡ rowsAfter (s .args .issued) (before T (s .args .k)) (Single (s .args .e)) = next-drop (s .args .issued) (before T (s .args .k)) (c .before .before .before .before .before .before .e5 .given .0 .0) ∙ ap (λ (x : Event). rowsAfter (s .args .issued) (before T (s .args .k)) (Single x)) (sym (c .before .before .before .before .before .before .e5 .given .1)) in
-    rw (← e) (c .before .drop-names .ensures)
+unfolding rowsAfter
+returns-2 c = rw (c .before .before .before .before .enum-told .given .1) (c .before .drop-names .ensures)
 
 pub change-spec : {M : Type 1} → statement M
 change-spec =
     tie.close
     (tie.spec
     (λ c. search needs)
-    add-new-row
-    (λ c. search needs)
-    (λ c κs. search needs)
-    add-write-rows
-    write-rows-requires
-    append-requires
-    (λ c. search needs)
-    find-requires
-    depth-at-requires
-    add-new-row-2
-    (λ c. search needs)
-    add-new-row-3
-    (λ c κs. search needs)
-    append-requires-2
-    (λ c. search needs)
-    read-rows-requires
-    (λ c. search needs)
-    write-rows-requires-2
-    (λ c. search needs)
+    change-event-requires
     (λ c. search needs)
     drop-names-requires
     (λ c. search needs)
     returns
     (λ c. search needs)
-    returns-2
-    (λ c. search needs)
-    returns-3
-    (λ c. search needs)
-    returns-4
-    (λ c. search needs)
-    returns-5)
+    returns-2)

@@ -3,6 +3,7 @@
 use mathlib.Core.Path.{_≡_, ap, sym, _∙_}
 use Prim.Native.Nat.{ℕ, _-_, _≤_, _<_}
 use native.Mathlib.Omega.{arith}
+use lib.ListN.{length}
 use borrow.Author.Needs.{needs}
 use Rattle.model.specs.declared.Cap.{Cap}
 use Rattle.table.specs.Words.{rowsIn}
@@ -12,10 +13,10 @@ use Rattle.table.proofs.find.live_count.Statement.{statement}
 use Rattle.table.proofs.find.live_count.Tie as tie
 
 abbrev Inv-loop : tie.InvT-loop
-Inv-loop table n i₀ i = (i ≤ n) × ((j : ℕ) → j < i → 0 < nameAt (rowsIn table) j)
+Inv-loop table i₀ i = (i ≤ length table) × ((j : ℕ) → j < i → 0 < nameAt (rowsIn table) j)
 
 abbrev μ-loop : tie.MeasureT-loop
-μ-loop table n i₀ i = n - i
+μ-loop table i₀ i = length table - i
 
 loop-holds : tie.Need-loop-holds Inv-loop μ-loop
 loop-holds c = (search needs, λ j l. absurd (omega arith))
@@ -30,7 +31,7 @@ loop-again c =
 
 returns-2 : tie.Need-returns-2 Inv-loop μ-loop
 returns-2 c =
-    let e : c .before .loop .i ≡ c .before .before .args .n = omega (arith, c .before .loop .inv .0, c .loop-test .left) in
+    let e : c .before .loop .i ≡ length (c .before .before .args .table .now) = omega (arith, c .before .loop .inv .0, c .loop-test .left) in
     record { fits = omega arith; filled = c .before .loop .inv .1; stop = λ b. absurd (omega arith) }
 
 pub live-count-spec : {M : Type 1} → statement M

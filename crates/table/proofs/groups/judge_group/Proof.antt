@@ -4,6 +4,7 @@ use mathlib.Core.Path.{_≡_, sym, ap, _∙_}
 use Prim.Native.Nat.{ℕ, _≤_}
 use native.Mathlib.Omega.{arith}
 use lib.ListN.{length, take}
+use lib.ListN.{length}
 use borrow.Author.Needs.{needs}
 use borrow.Author.Tests.{not-true, not-false}
 use Rattle.model.specs.Step.{verdict}
@@ -22,13 +23,13 @@ returns c =
 judge-names-requires : tie.Need-judge-names-requires
 judge-names-requires c κs =
     let s = c .before .before .before in let T = rowsIn (s .args .table .now) in
-    (orderly-few T (s .args .n) (s .args .k) (s .args .issued) (s .pre), orderly-rise T (s .args .n) (s .args .k) (s .args .issued) (s .pre))
+    (orderly-few T (length (s .args .table .now)) (s .args .k) (s .args .issued) (s .pre), orderly-rise T (length (s .args .table .now)) (s .args .k) (s .args .issued) (s .pre))
 
 returns-2 : tie.Need-returns-2
 returns-2 c =
     let s = c .before .before .before .before in let T = rowsIn (s .args .table .now) in
     c .judge-names .ensures
-    ∙ ap (λ (j : ℕ). verdict j 0) (group-judged T (s .args .n) (s .args .k) (s .args .issued) (s .pre) (s .args .names .now) (sym (c .before .before .is-group .ensures) ∙ not-false (c .before .before .is-group .result) (c .before .if1 .left)))
+    ∙ ap (λ (j : ℕ). verdict j 0) (group-judged T (length (s .args .table .now)) (s .args .k) (s .args .issued) (s .pre) (s .args .names .now) (sym (c .before .before .is-group .ensures) ∙ not-false (c .before .before .is-group .result) (c .before .if1 .left)))
 
 pub judge-group-spec : {M : Type 1} → statement M
 judge-group-spec = tie.close (tie.spec (λ c κs. search needs) returns judge-names-requires returns-2)

@@ -4,6 +4,7 @@ use mathlib.Core.Path.{_≡_, sym, ap, _∙_, subst}
 use mathlib.Core.Bool.{true}
 use Prim.Native.Nat.{ℕ, suc}
 use native.Mathlib.Omega.{arith}
+use lib.ListN.{length}
 use borrow.Author.Needs.{needs}
 use borrow.Author.Tests.{not-true, not-false}
 use Rattle.table.specs.declared.judge.Place.{Place}
@@ -37,7 +38,7 @@ returns-2 c =
     let h : isRight (s .args .r) ≡ true = sym (c .before .before .before .before .before .before .before .before .is-right .ensures) ∙ not-false (c .before .before .before .before .before .before .before .before .is-right .result) (c .before .before .before .before .before .before .before .if1 .left) in
     let st : Serves T (s .args .k) (s .args .issued) (s .args .u) (s .args .s) (s .args .r) (At (c .before .before .before .before .q .given .0 .0)) = subst (λ (p : Place). Serves T (s .args .k) (s .args .issued) (s .args .u) (s .args .s) (s .args .r) p) (c .before .before .before .before .q .given .1) (c .before .before .before .before .before .before .usable-place .ensures) in
     let sk = lookup-place T (s .args .k) (c .before .before .before .before .q .given .0 .0) (s .args .u .0) (s .pre .1) (st .1) (st .2) .1 ∙ sym (c .before .before .row-at .ensures) in
-    rw (borrow-deep T (s .args .n) (s .args .k) (s .args .issued) (s .args .w) (s .args .u) (s .args .s) (s .args .r) h (c .before .before .row-at .result) (st .0) sk (c .if2 .taken))
+    rw (borrow-deep T (length (s .args .table .now)) (s .args .k) (s .args .issued) (s .args .w) (s .args .u) (s .args .s) (s .args .r) h (c .before .before .row-at .result) (st .0) sk (c .if2 .taken))
 
 room-answer-requires : tie.Need-room-answer-requires
 room-answer-requires c κs = c .before .before .before .before .before .before .before .before .before .pre .2
@@ -47,7 +48,7 @@ returns-3 c =
     let s = c .before .before .before .before .before .before in let T = rowsIn (s .args .table .now) in
     let h : isRight (s .args .r) ≡ true = sym (c .before .before .before .before .before .is-right .ensures) ∙ not-false (c .before .before .before .before .before .is-right .result) (c .before .before .before .before .if1 .left) in
     let st : Serves T (s .args .k) (s .args .issued) (s .args .u) (s .args .s) (s .args .r) (Not (c .before .x .given .0 .0)) = subst (λ (p : Place). Serves T (s .args .k) (s .args .issued) (s .args .u) (s .args .s) (s .args .r) p) (c .before .x .given .1) (c .before .before .before .usable-place .ensures) in
-    rw (borrow-not T (s .args .n) (s .args .k) (s .args .issued) (s .args .w) (s .args .u) (s .args .s) (s .args .r) h (c .before .x .given .0 .0) st, numbered (c .before .x .given .0 .0))
+    rw (borrow-not T (length (s .args .table .now)) (s .args .k) (s .args .issued) (s .args .w) (s .args .u) (s .args .s) (s .args .r) h (c .before .x .given .0 .0) st, numbered (c .before .x .given .0 .0))
 
 returns-4 : tie.Need-returns-4
 returns-4 c =
@@ -55,7 +56,7 @@ returns-4 c =
     let h : isRight (s .args .r) ≡ true = sym (c .before .before .before .before .before .before .before .before .before .is-right .ensures) ∙ not-false (c .before .before .before .before .before .before .before .before .before .is-right .result) (c .before .before .before .before .before .before .before .before .if1 .left) in
     let st : Serves T (s .args .k) (s .args .issued) (s .args .u) (s .args .s) (s .args .r) (At (c .before .before .before .before .before .q .given .0 .0)) = subst (λ (p : Place). Serves T (s .args .k) (s .args .issued) (s .args .u) (s .args .s) (s .args .r) p) (c .before .before .before .before .before .q .given .1) (c .before .before .before .before .before .before .before .usable-place .ensures) in
     let sk = lookup-place T (s .args .k) (c .before .before .before .before .before .q .given .0 .0) (s .args .u .0) (s .pre .1) (st .1) (st .2) .1 ∙ sym (c .before .before .before .row-at .ensures) in
-    c .room-answer .ensures ∙ ap (λ (j : ℕ). verdict j (suc (s .args .issued))) (sym (borrow-room T (s .args .n) (s .args .k) (s .args .issued) (s .args .w) (s .args .u) (s .args .s) (s .args .r) h (c .before .before .before .row-at .result) (st .0) sk (c .before .if2 .left)))
+    c .room-answer .ensures ∙ ap (λ (j : ℕ). verdict j (suc (s .args .issued))) (sym (borrow-room T (length (s .args .table .now)) (s .args .k) (s .args .issued) (s .args .w) (s .args .u) (s .args .s) (s .args .r) h (c .before .before .before .row-at .result) (st .0) sk (c .before .if2 .left)))
 
 pub judge-borrow-spec : {M : Type 1} → statement M
 judge-borrow-spec =

@@ -64,6 +64,9 @@ returns-2 c = let s = c .before .before .before .before .before .before .before 
     let n : nameAt T i ≡ c .before .before .before .before .before .before .before .row-at .result .name .0 = ap (λ (d : Cap). d .name .0) (sym (c .before .before .before .before .before .before .before .row-at .ensures)) in
     (sym (fails-place T (suc (s .args .issued)) (s .args .k) i (c .before .before .before .before .before .before .before .before .loop-test .taken) (ap (λ (d : Cap). rowInOrder d (before T i)) (sym (c .before .before .before .before .before .before .before .row-at .ensures)) ∙ sym (c .before .row-in-order .ensures) ∙ not-true (c .before .row-in-order .result) (c .if2 .taken))), record { known = λ e. clash e refl })
 
+cast-places : tie.Need-cast-places Inv-loop μ-loop
+cast-places c = omega (arith, c .before .before .find-near .ensures .fits, c .before .before .before .before .before .before .before .before .before .before .pre .0, c .before .before .before .before .before .before .before .before .loop-test .taken)
+
 mul-places : tie.Need-mul-places Inv-loop μ-loop
 mul-places c = omega (arith, c .before .before .before .before .before .before .before .before .before .before .pre .0, c .before .before .before .before .before .before .before .before .loop-test .taken, c .before .before .before .before .before .before .before .before .before .loop .inv .2 .long)
 
@@ -115,6 +118,7 @@ rows-in-order-spec =
     find-near-requires
     row-in-order-requires
     returns-2
+    cast-places
     mul-places
     element-write-places
     cast-seen

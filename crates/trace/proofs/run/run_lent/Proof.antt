@@ -1,6 +1,6 @@
 -- `trace::run::run_lent` meets its contract: the order is checked once, before the first line.
 -- Assumes nothing.
-use mathlib.Core.Path.{_≡_, sym, _∙_}
+use mathlib.Core.Path.{_≡_, subst}
 use mathlib.Core.Bool.{false}
 use mathlib.Core.List.{List}
 use Prim.Native.Nat.{ℕ}
@@ -8,9 +8,9 @@ use borrow.Author.Needs.{needs}
 use Rattle.model.specs.declared.Tally.{Tally}
 use Rattle.model.specs.declared.Refusal.the-variants.{Disordered}
 use Rattle.model.specs.Table.{inOrder}
+use Rattle.table.specs.declared.ordered.Look.{Look}
 use Rattle.table.specs.Words.{rowsIn}
-use Rattle.table.proofs.Laws.Words.{length-in}
-use Rattle.rules.proofs.Laws.Steps.{too-many}
+use Rattle.table.specs.Known.{Looks}
 use Rattle.trace.specs.declared.run.RunAnswer.the-variants.{Refused}
 use Rattle.trace.specs.Run.{runFrom, Runs}
 use Rattle.trace.proofs.run.run_lent.Statement.{statement}
@@ -23,27 +23,23 @@ refused ws t text d = record { ran = rw d }
 
 run-text-requires : tie.Need-run-text-requires
 run-text-requires c κs =
-    let s = c .before .before .before .before .before .before .before .before .before .before in
-    record {
-      orderly = record { few = c .before .before .before .before .before .before .before .before .if1 .taken; all = length-in (s .args .table .now); front = c .before .before .before .before .before .before .live-count .ensures; ordered = sym (c .before .before .before .check-order .ensures .0) ∙ c .before .before .if2 .taken };
-      placed = c .before .before .before .check-order .ensures .1 .known (c .before .before .if2 .taken);
-    }
+    let s = c .before .before .before .before .before .before .before .before .before in
+    subst (λ (x : Look). Looks (s .args .table .now) (s .args .tally .issued) (c .before .before .before .before .before .look-at .last .1 .1 .0) x) (c .before .before .before .found .given .1) (c .before .before .before .before .before .look-at .ensures)
 
 returns-2 : tie.Need-returns-2
-returns-2 c = let s = c .before .before .before .before .before .before .before .before in refused (s .args .table .now) (s .args .tally) (s .args .text .now) (sym (c .before .check-order .ensures .0) ∙ c .if2 .left)
-
-returns-3 : tie.Need-returns-3
-returns-3 c = let s = c .before .before in refused (s .args .table .now) (s .args .tally) (s .args .text .now) (too-many (s .args .table .now) (s .args .tally .issued) (c .if1 .left))
+returns-2 c =
+    let s = c .before .before .before .before .before .before in
+    refused (s .args .table .now) (s .args .tally) (s .args .text .now) (subst (λ (x : Look). Looks (s .args .table .now) (s .args .tally .issued) (c .before .before .look-at .last .1 .1 .0) x) (c .enum-told .given .1) (c .before .before .look-at .ensures))
 
 pub run-lent-spec : {M : Type 1} → statement M
 run-lent-spec =
     tie.close
     (tie.spec
     (λ c κs. search needs)
-    (λ c κs. search needs)
+    (λ c. search needs)
     run-text-requires
     (λ c. search needs)
     (λ c. search needs)
     (λ c. search needs)
-    returns-2
-    returns-3)
+    (λ c. search needs)
+    returns-2)

@@ -7,9 +7,10 @@ use native.Mathlib.Omega.{arith}
 use lib.ListN.{length, drop}
 use borrow.Author.Needs.{needs}
 use Rattle.table.specs.Words.{rowsIn}
+use Rattle.table.specs.Known.{Known}
 use Rattle.rules.specs.Steps.{lends}
 use Rattle.text.specs.Line.{linesOf}
-use Rattle.trace.specs.Run.{lent, runLines, Known}
+use Rattle.trace.specs.Run.{lent, runLines}
 use Rattle.trace.proofs.Laws.Turn.{line-some, line-inside, turn-on, turn-ends, run-ends}
 use Rattle.trace.proofs.run.run_ordered.Statement.{statement}
 use Rattle.trace.proofs.run.run_ordered.Tie as tie
@@ -19,12 +20,12 @@ use Rattle.text.proofs.lines.next_line.Reads as next-line-reads
 use Rattle.trace.proofs.run.take_line.Reads as take-line-reads
 
 abbrev Inv-loop : tie.InvT-loop
-Inv-loop table₀ n live places₀ spelling before text left₀ alive₀ at₀ count₀ table places left alive at count =
-    (at ≤ length text) × (count ≤ at + 1) × Known table n alive (left .issued) places × (length table ≡ length table₀)
+Inv-loop table₀ live places₀ spelling before text left₀ alive₀ at₀ count₀ table places left alive at count =
+    (at ≤ length text) × (count ≤ at + 1) × Known table alive (left .issued) places × (length table ≡ length table₀)
     × (runLines lent spelling count (lends (rowsIn table) left) (linesOf (drop at text)) ≡ runLines lent spelling before (lends (rowsIn table₀) left₀) (linesOf text))
 
 abbrev μ-loop : tie.MeasureT-loop
-μ-loop table₀ n live places₀ spelling before text left₀ alive₀ at₀ count₀ table places left alive at count = length text - at
+μ-loop table₀ live places₀ spelling before text left₀ alive₀ at₀ count₀ table places left alive at count = length text - at
 
 loop-holds : tie.Need-loop-holds Inv-loop μ-loop
 loop-holds c = (omega arith, omega (arith, c .before .pre .1), c .before .pre .0, refl, refl)

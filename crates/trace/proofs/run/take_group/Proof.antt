@@ -23,24 +23,21 @@ left c = got _ _ _ (ap groupAnswer (sym (c .found .given .1)) ∙ c .before .bef
 array-share-prefix-names : tie.Need-array-share-prefix-names
 array-share-prefix-names c = left (c .before .before .before) .inside
 
-slice-aggregate-drop-known : tie.Need-slice-aggregate-drop-known
-slice-aggregate-drop-known c = sym (length-take-le _ _ (left (c .before .before .before .before) .inside))
+slice-aggregate-take : tie.Need-slice-aggregate-take
+slice-aggregate-take c = sym (length-take-le _ _ (left (c .before .before .before .before) .inside))
 
 returns : tie.Need-returns
 returns c =
     let s = c .before .before .before .before .before .before .before .before .before .before .before in
     let g = left (c .before .before .before .before .before .before) in
-    let k = c .before .drop-known .ensures in
-    (taken-group (s .args .table .now) (s .args .tally) (s .args .line .now) (g .read ∙ ap value (sym (g .taken))) (k .0), record { orderly = k .1; placed = k .2 })
+    let k = c .before .take .ensures in
+    (taken-group (s .args .table .now) (s .args .tally) (s .args .line .now) (g .read ∙ ap value (sym (g .taken))) (k .0), k .1)
 
 returns-2 : tie.Need-returns-2
 returns-2 c =
     let s = c .before .before .before .before .before .before in
     let read : readGroup (s .args .line .now) ≡ refused 2 = none-got (s .args .line .now) (number (c .before .enum-told .given .0 .0)) (ap groupAnswer (sym (c .before .enum-told .given .1)) ∙ c .before .before .before .read-group .ensures .0) in
     (taken-misspelt (s .args .table .now) (s .args .tally) (s .args .line .now) read (c .count-refused .ensures), rw (ap (λ (y : Tally). y .issued) (c .count-refused .ensures)) (s .pre))
-
-drop-known-requires : tie.Need-drop-known-requires
-drop-known-requires c κs = let s = c .before .before .before .before .before .before .before .before .before in (s .pre .orderly, s .pre .placed)
 
 pub take-group-spec : {M : Type 1} → statement M
 take-group-spec =
@@ -49,8 +46,8 @@ take-group-spec =
     (λ c κs. search needs)
     (λ c. search needs)
     array-share-prefix-names
-    slice-aggregate-drop-known
-    drop-known-requires
+    slice-aggregate-take
+    (λ c κs. search needs)
     (λ c. search needs)
     (λ c κs. search needs)
     (λ c. search needs)

@@ -10,14 +10,11 @@ use borrow.Author.Needs.{needs}
 use Rattle.trace.proofs.run.take_line.Statement.{statement}
 use Rattle.trace.proofs.run.take_line.Tie as tie
 
-step-known-requires : tie.Need-step-known-requires
-step-known-requires c κs = let s = c .before .before .before .before .before .before .before in (s .pre .orderly, s .pre .placed)
-
 returns : tie.Need-returns
 returns c =
-    let s = c .before .before .before .before .before .before .before .before .before in
-    let k = c .before .step-known .ensures in
-    (taken-event (s .args .table .now) (s .args .tally) (s .args .line .now) (s .args .spelling) (sym (ap readAnswer (sym (c .before .before .before .before .before .found .given .1)) ∙ c .before .before .before .before .before .before .before .read-event .ensures)) (k .0), record { orderly = k .1; placed = k .2 })
+    let s = c .before .before .before .before .before .before .before .before .before .before in
+    let k = c .before .take .ensures in
+    (taken-event (s .args .table .now) (s .args .tally) (s .args .line .now) (s .args .spelling) (sym (ap readAnswer (sym (c .before .before .before .before .before .before .found .given .1)) ∙ c .before .before .before .before .before .before .before .before .read-event .ensures)) (k .0), k .1)
 
 returns-2 : tie.Need-returns-2
 returns-2 c =
@@ -31,7 +28,8 @@ take-line-spec =
     (tie.spec
     (λ c κs. search needs)
     (λ c. search needs)
-    step-known-requires
+    (λ c. search needs)
+    (λ c κs. search needs)
     (λ c. search needs)
     (λ c κs. search needs)
     (λ c. search needs)

@@ -1,0 +1,22 @@
+-- What is known of a lent table that is in order, so that a run of requests looks for it once.
+-- Assumes nothing.
+use Prim.Native.Nat.{ℕ}
+use mathlib.Core.Path.{_≡_}
+use mathlib.Core.Bool.{false}
+use mathlib.Core.List.{List}
+use lib.ListN.{length}
+use Rattle.model.specs.Table.{inOrder}
+use Rattle.table.specs.declared.ordered.Look.{Look}
+use Rattle.table.specs.declared.ordered.Look.the-variants.{InOrder, Disordered}
+use Rattle.table.specs.Words.{rowsIn}
+use Rattle.table.specs.Rows.{Orderly, Places}
+
+-- a table in order, of which so many rows live; places has where the parent of each stands
+pub record Known (ws : List (List ℕ)) (live issued : ℕ) (places : List ℕ) : Type 0 where
+  pub orderly : Orderly (rowsIn ws) (length ws) live issued
+  pub placed : Places (rowsIn ws) live places
+
+-- what a look at a table finds
+abbrev pub Looks : List (List ℕ) → ℕ → List ℕ → Look → Type 0
+Looks ws issued places (InOrder live) = Known ws live issued places
+Looks ws issued places Disordered = inOrder (rowsIn ws) issued ≡ false
