@@ -1,70 +1,45 @@
--- The numbers of answers: those of a run's are those of what it stands for, no refusal's is above 13, and a refusal and a value that are
--- packed into one number are found again in it.
+-- The answer of a run, taken apart, and how many names a line reads as.
 -- Assumes nothing.
 use mathlib.Core.Path.{_≡_, refl, ap, _∙_}
-use Prim.Native.Nat.{ℕ, _+_, _*_, _/_, _%_, _≤_}
-use native.Mathlib.Nat.{min-eq-left, min-eq-right, div-eq-of-lt, mod-eq-of-lt, mul-add-div-right, mul-add-mod-self-right, add-zero}
+use mathlib.Core.List.{List}
+use Prim.Native.Nat.{ℕ, _≤_}
 use native.Mathlib.Omega.{arith}
-use Rattle.model.specs.declared.Refusal.{Refusal}
-use Rattle.model.specs.declared.Refusal.the-variants.{Disordered, Misspelt, IllegalSpan, Unissued, Ended, OutsideSpan, ReadOnly, TooDeep, NamesSpent, TableFull, BufferTooShort, Misnamed, Misgrouped}
-use Rattle.model.specs.Answers.{number}
+use lib.ListN.{length}
 use Rattle.model.specs.Step.{State}
+use Rattle.text.specs.Result.{Result, value, refused}
+use Rattle.text.specs.Group.{readGroup, countOf}
+use Rattle.text.proofs.Laws.Group.{group-few}
+use Rattle.text.proofs.Laws.GroupLine.{read-group-is-spelling}
 use Rattle.trace.specs.declared.run.RunAnswer.{RunAnswer}
 use Rattle.trace.specs.declared.run.RunAnswer.the-variants.{Allowed, Refused}
 use Rattle.trace.specs.Run.{Ran, ranOf}
-use Rattle.kelzoud.specs.Interface.{packed, packedRan, packedRun}
+use Rattle.kelzoud.specs.Interface.{packedRan, packedRun}
 
 -- what a run answers and leaves, taken apart
 pub ran-parts : (a : RunAnswer) (h : State) (x : Ran State) → ranOf a h ≡ x → (h .table ≡ x .state .table) × (h .tally ≡ x .state .tally) × (packedRun a ≡ packedRan x)
 ran-parts (Allowed k) h x e = (ap (λ (r : Ran State). r .state .table) e, ap (λ (r : Ran State). r .state .tally) e, ap packedRan e)
 ran-parts (Refused r k) h x e = (ap (λ (r : Ran State). r .state .table) e, ap (λ (r : Ran State). r .state .tally) e, ap packedRan e)
 
-pub number-small : (r : Refusal) → number r ≤ 13
-number-small Disordered = omega arith
-number-small Misspelt = omega arith
-number-small IllegalSpan = omega arith
-number-small Unissued = omega arith
-number-small Ended = omega arith
-number-small OutsideSpan = omega arith
-number-small ReadOnly = omega arith
-number-small TooDeep = omega arith
-number-small NamesSpent = omega arith
-number-small TableFull = omega arith
-number-small BufferTooShort = omega arith
-number-small Misnamed = omega arith
-number-small Misgrouped = omega arith
+-- the names that a line reads as
+pub record Counted (line : List ℕ) (n : ℕ) : Type 0 where
+  pub names : List ℕ
+  pub read : readGroup line ≡ value names
+  pub count : n ≡ length names
+  pub few : n ≤ 64
 
--- ---- a refusal and a value in one number
+pub counted : (line : List ℕ) (n : ℕ) → value n ≡ countOf (readGroup line) → Counted line n
+counted line n = go (readGroup line) refl
+  where
+    go : (r : Result (List ℕ)) → readGroup line ≡ r → value n ≡ countOf r → Counted line n
+    go (value names) is e =
+        let l : n ≡ length names = cc in
+        record { names = names; read = is; count = l; few = omega (arith, l, group-few names (read-group-is-spelling line names is .0)) }
+    go (refused k) is e = absurd (let z : _≡_ {A = ℕ} 0 1 = cc in omega arith)
 
--- the largest value that is given as it is, and the first above it
-pub packed-ceiling : (k : ℕ) → packed k 4294967295 ≡ k * 4294967296 + 4294967295
-unfolding packed
-packed-ceiling k = refl
-
-pub packed-above : (k : ℕ) → packed k 4294967296 ≡ packed k 4294967295
-unfolding packed
-packed-above k = refl
-
-module _ (k n : ℕ) (h : n ≤ 4294967295) where
-  pub packed-value : packed k n ≡ k * 4294967296 + n
-  unfolding packed
-  packed-value = rw (min-eq-left h)
-
-  -- the refusal's number is the quotient, and the value the rest
-  pub packed-number-back : packed k n / 4294967296 ≡ k
-  packed-number-back =
-      ap (λ m. m / 4294967296) packed-value
-      ∙ mul-add-div-right (omega arith) k n
-      ∙ ap (λ m. k + m) (div-eq-of-lt (omega arith))
-      ∙ add-zero k
-
-  pub packed-value-back : packed k n % 4294967296 ≡ n
-  packed-value-back =
-      ap (λ m. m % 4294967296) packed-value
-      ∙ mul-add-mod-self-right k 4294967296 n
-      ∙ mod-eq-of-lt (omega arith)
-
--- a value above the largest is given as the largest
-pub packed-large : (k n : ℕ) → 4294967295 ≤ n → packed k n ≡ packed k 4294967295
-unfolding packed
-packed-large k n h = rw (min-eq-right h)
+-- one that reads as none
+pub unread : (line : List ℕ) (k : ℕ) → refused k ≡ countOf (readGroup line) → readGroup line ≡ refused k
+unread line k = go (readGroup line) refl
+  where
+    go : (r : Result (List ℕ)) → readGroup line ≡ r → refused k ≡ countOf r → readGroup line ≡ refused k
+    go (value names) is e = absurd (let z : _≡_ {A = ℕ} 0 1 = cc in omega arith)
+    go (refused x) is e = let h : x ≡ k = cc in is ∙ ap (λ (n : ℕ). refused n) h

@@ -2,6 +2,7 @@
 use model::Answer;
 use model::Tally;
 
+pub mod answers;
 pub mod count;
 pub mod lent;
 mod marks;

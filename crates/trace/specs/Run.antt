@@ -6,8 +6,7 @@ use mathlib.Core.Path.{_≡_}
 use mathlib.Core.Bool.{Bool, cond}
 use mathlib.Core.List.{List, [], _∷_}
 use lib.Dec.{eqb}
-use Rattle.model.specs.declared.Event.{Event}
-use Rattle.model.specs.Requests.{Request, Single, Group}
+use Rattle.model.specs.Requests.{Request}
 use Rattle.model.specs.declared.Tally.{Tally}
 use Rattle.model.specs.Table.{inOrder}
 use Rattle.model.specs.Counts.{countRefused}
@@ -20,8 +19,9 @@ use Rattle.rules.specs.Steps.{lends}
 use Rattle.text.specs.Result.{Result, value, refused}
 use Rattle.text.specs.Line.{linesOf}
 use Rattle.text.specs.Event.{bytes}
-use Rattle.text.specs.Read.{same, readEvent}
+use Rattle.text.specs.Read.{same}
 use Rattle.text.specs.Group.{readGroup}
+use Rattle.text.specs.Request.{groupOf, readRequest}
 use Rattle.text.specs.declared.spelling.Spelling.{Spelling}
 use Rattle.text.specs.declared.spelling.Spelling.the-variants.{Plain, Named}
 use Rattle.trace.specs.declared.run.RunAnswer.{RunAnswer}
@@ -39,18 +39,6 @@ pub record Checker (S : Type 0) : Type 0 where
   pub answer : S → Request → Verdict
   pub after : S → Request → S
   pub misspelt : S → S
-
--- card 5: a line is an event, or names that are dropped together; one name is an event
-abbrev pub groupOf : Result (List ℕ) → Result Request
-groupOf (value names) = value (Group names)
-groupOf (refused r) = refused r
-
-abbrev pub requestOf : List ℕ → Result Event → Result Request
-requestOf line (value e) = value (Single e)
-requestOf line (refused r) = groupOf (readGroup line)
-
-abbrev pub readRequest : Spelling → List ℕ → Result Request
-readRequest k line = requestOf line (readEvent k line)
 
 -- what a line does: its refusal, 0 where it is allowed, and the state after it
 pub record Taken (S : Type 0) : Type 0 where

@@ -17,7 +17,8 @@ use Rattle.text.specs.Result.{refused}
 use Rattle.text.specs.declared.spelling.Spelling.{Spelling}
 use Rattle.text.specs.declared.spelling.Spelling.the-variants.{Plain, Named}
 use Rattle.listing.specs.Listing.{listing}
-use Rattle.trace.specs.Run.{header, readRequest, Ran, run}
+use Rattle.text.specs.Request.{readRequest}
+use Rattle.trace.specs.Run.{header, Ran, run}
 use Rattle.trace.specs.Check.{answerLine, report, noCounts, checkText}
 
 -- the line of an event, or of names dropped together, and the lines of several

@@ -5,5 +5,4 @@ pub mod run;
 pub use report::Printed;
 pub use report::check;
 pub use report::check_text;
-pub use report::number_of;
-
+pub use rules::answers::number_of;

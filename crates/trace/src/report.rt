@@ -4,6 +4,7 @@ use crate::run::RunAnswer;
 use listing::writing;
 use model::Refusal;
 use model::Tally;
+use rules::answers::number_of;
 use table::Row;
 use table::WIDTH;
 use text::pieces;
@@ -13,7 +14,6 @@ ghost use mathlib.Core.Bool.{true};
 ghost use mathlib.Core.List.{_++_};
 ghost use Prim.Native.Nat.{_≤_};
 ghost use lib.ListN.{length, take};
-ghost use Rattle.model.specs.Answers.{number};
 ghost use Rattle.model.specs.Table.{inOrder};
 ghost use Rattle.table.specs.Words.{rowsIn};
 ghost use Rattle.text.specs.Event.{bytes, spaced};
@@ -21,27 +21,6 @@ ghost use Rattle.text.specs.Put.{Room, Put};
 ghost use Rattle.text.specs.Write.{Writes};
 ghost use Rattle.listing.specs.Listing.{listing};
 ghost use Rattle.trace.specs.Check.{answerLine, checkText};
-
-// The number of a refusal.
-pub fn number_of(refusal: Refusal) -> u32
-    ensures { λ r. ⌜ r ≡ number refusal ⌝ }
-{
-    match refusal {
-        Refusal::Disordered => 1,
-        Refusal::Misspelt => 2,
-        Refusal::IllegalSpan => 3,
-        Refusal::Unissued => 4,
-        Refusal::Ended => 5,
-        Refusal::OutsideSpan => 6,
-        Refusal::ReadOnly => 7,
-        Refusal::TooDeep => 8,
-        Refusal::NamesSpent => 9,
-        Refusal::TableFull => 10,
-        Refusal::BufferTooShort => 11,
-        Refusal::Misnamed => 12,
-        Refusal::Misgrouped => 13,
-    }
-}
 
 // How many bytes the line of an answer has. The refusal is 0 where every line was allowed.
 fn answer_length(refusal: u32, number: u32) -> usize
@@ -82,13 +61,7 @@ fn put_answer(refusal: u32, number: u32, out: &mut [u8]) -> usize
 
 // Writes the line of an answer and the listing of a table in order. The listing, which is measured before it is written, goes first:
 // where it does not fit, nothing is written.
-fn write_report(
-    table: &[Row],
-    issued: u32,
-    refusal: u32,
-    number: u32,
-    out: &mut [u8],
-) -> Written
+fn write_report(table: &[Row], issued: u32, refusal: u32, number: u32, out: &mut [u8]) -> Written
     requires { ⌜ inOrder (rowsIn (now table)) issued ≡ true ⌝ }
     ensures { λ r. ⌜ Writes true (answerLine refusal number ++ listing (rowsIn (now (table .entry))) issued) (now (out .entry)) (now (out .exit)) r ⌝ }
 {

@@ -30,7 +30,8 @@ use Rattle.text.proofs.Laws.Digits.{decimal-under}
 use Rattle.text.proofs.Laws.GroupLine.{refused-group-is-2}
 use Rattle.listing.specs.Listing.{listing}
 use Rattle.listing.proofs.Laws.Fits.{listing-fits}
-use Rattle.trace.specs.Run.{Ran, groupOf, requestOf, takeRead, takeLine, runLines, runTrace, runFrom, lent, run}
+use Rattle.text.specs.Request.{groupOf, orGroup}
+use Rattle.trace.specs.Run.{Ran, takeRead, takeLine, runLines, runTrace, runFrom, lent, run}
 use Rattle.trace.specs.Check.{answerLine, noCounts, checkText}
 use Rattle.trace.proofs.Laws.Order.{turned, of-trace, number-run}
 use Rattle.trace.proofs.Laws.Report.{answer-allowed, answer-refused, long-text, ran-order, ran-report}
@@ -76,7 +77,7 @@ line-most k h l = event (readEvent k l)
     group (value names) two = judge-most (h .table) (h .tally .issued) (Group names)
     group (refused n) two = omega (arith, two n refl)
 
-    event : (r : Result Event) → takeRead lent h (requestOf l r) .refusal ≤ 13
+    event : (r : Result Event) → takeRead lent h (orGroup l r) .refusal ≤ 13
     event (value e) = judge-most (h .table) (h .tally .issued) (Single e)
     event (refused n) = group (readGroup l) (refused-group-is-2 l)
 

@@ -20,7 +20,8 @@ use Rattle.text.specs.Line.{linesOf}
 use Rattle.text.specs.Read.{same}
 use Rattle.text.specs.declared.spelling.Spelling.{Spelling}
 use Rattle.text.specs.declared.spelling.Spelling.the-variants.{Plain, Named}
-use Rattle.trace.specs.Run.{header, Taken, Ran, readRequest, takeRead, takeLine, runLines, runTrace, runFrom, lent, run}
+use Rattle.text.specs.Request.{readRequest}
+use Rattle.trace.specs.Run.{header, Taken, Ran, takeRead, takeLine, runLines, runTrace, runFrom, lent, run}
 use Rattle.trace.specs.HistoryRun.{noted, SameRun}
 
 module _ (n : ℕ) where

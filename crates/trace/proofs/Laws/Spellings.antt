@@ -33,7 +33,8 @@ use Rattle.text.proofs.Laws.OneLine.{spell-is-line, header-is-no-event}
 use Rattle.text.proofs.Laws.GroupLine.{group-reads-back, group-is-line, group-is-no-event}
 use Rattle.text.proofs.Laws.Read.{same-true}
 use Rattle.text.proofs.Laws.OneSpelling.{spelling-reads-back}
-use Rattle.trace.specs.Run.{header, Ran, readRequest, runLines, runFrom, lent, run}
+use Rattle.text.specs.Request.{readRequest}
+use Rattle.trace.specs.Run.{header, Ran, runLines, runFrom, lent, run}
 use Rattle.trace.specs.Check.{report, noCounts, checkText}
 use Rattle.trace.specs.Spellings.{spellRequest, textOf, plainText, namedText, HasLine, Spellable, Spelled, oneHigher, Rests, none, misspelt, OldTrace, SameVerdicts, checked, SameChecks}
 use Rattle.trace.proofs.Laws.Header.{trace-plain, trace-named}

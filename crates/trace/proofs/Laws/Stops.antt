@@ -26,7 +26,8 @@ use Rattle.text.specs.Result.{Result, value, refused}
 use Rattle.text.specs.declared.spelling.Spelling.{Spelling}
 use Rattle.text.specs.declared.spelling.Spelling.the-variants.{Plain, Named}
 use Rattle.text.proofs.Laws.GroupLine.{refused-group-is-2}
-use Rattle.trace.specs.Run.{header, Taken, Ran, requestOf, readRequest, takeRead, takeLine, runLines, runTrace, runFrom, lent, run}
+use Rattle.text.specs.Request.{orGroup, readRequest}
+use Rattle.trace.specs.Run.{header, Taken, Ran, takeRead, takeLine, runLines, runTrace, runFrom, lent, run}
 use Rattle.trace.specs.Stops.{firstLines, runBefore, LineZero, RefusedLine, Stops}
 use Rattle.trace.proofs.Laws.Turn.{line-order}
 use Rattle.trace.proofs.Laws.Order.{Ordered, turned, of-trace, refused-run, Behind, refused-trace}
@@ -64,7 +65,7 @@ first-examples = (refl, refl)
 misread-2 : (k : Spelling) (l : List ℕ) (x : ℕ) → readRequest k l ≡ refused x → x ≡ 2
 misread-2 k l x = go (readEvent k l) (readGroup l) refl
   where
-    go : (e : Result Event) (g : Result (List ℕ)) → readGroup l ≡ g → requestOf l e ≡ refused x → x ≡ 2
+    go : (e : Result Event) (g : Result (List ℕ)) → readGroup l ≡ g → orGroup l e ≡ refused x → x ≡ 2
     go (value e) g is z = absurd (let q : _≡_ {A = ℕ} 0 1 = cc in omega arith)
     go (refused r) (value names) is z = absurd (let y = rw is at z in let q : _≡_ {A = ℕ} 0 1 = cc in omega arith)
     go (refused r) (refused y) is z = let e = rw is at z in let q : x ≡ y = cc in q ∙ refused-group-is-2 l y is

@@ -34,7 +34,8 @@ use Rattle.table.specs.Words.{rowsIn}
 use Rattle.rules.specs.Steps.{lends, Stepped}
 use Rattle.table.proofs.Laws.Judge.{numbered}
 use Rattle.trace.specs.declared.run.RunAnswer.the-variants.{Refused as RunRefused}
-use Rattle.trace.specs.Run.{takeRead, takeLine, runLines, lent, ranOf, readRequest, TakesGroup, Takes}
+use Rattle.text.specs.Request.{readRequest}
+use Rattle.trace.specs.Run.{takeRead, takeLine, runLines, lent, ranOf, TakesGroup, Takes}
 
 -- a line keeps a table in order
 pub line-order : (k : Spelling) (h : State) (l : List ℕ) → inOrder (h .table) (h .tally .issued) ≡ true → inOrder (takeLine lent k h l .state .table) (takeLine lent k h l .state .tally .issued) ≡ true

@@ -1,0 +1,44 @@
+-- `kelzoud::requests::read_names` meets its contract: the words of a group and its names, or nothing is written.
+-- Assumes nothing.
+use mathlib.Core.Path.{_≡_, sym, ap, _∙_}
+use native.Mathlib.Omega.{arith}
+use Rattle.model.specs.Requests.{Request}
+use Rattle.text.specs.Result.{Result, value, refused}
+use Rattle.text.specs.Group.{readGroup, groupAnswer}
+use Rattle.text.specs.Request.{groupOf}
+use Rattle.kelzoud_events.specs.Interface.{wordsOf, groupWords}
+use Rattle.kelzoud.specs.Interface.{packedRead, eventAfter, groupAfter}
+use Rattle.kelzoud.proofs.Laws.{counted, unread}
+use borrow.Author.Needs.{needs}
+use Rattle.kelzoud.proofs.requests.read_names.Statement.{statement}
+use Rattle.kelzoud.proofs.requests.read_names.Tie as tie
+
+cast-group-words : tie.Need-cast-group-words
+cast-group-words c = record { fits = omega (arith, counted _ _ (ap groupAnswer (sym (c .before .found .given .1)) ∙ c .before .before .before .read-group .ensures .0) .few) }
+
+returns : tie.Need-returns
+unfolding wordsOf
+returns c =
+    let line = c .before .before .before .before .before .before .before .before .args .line .now in
+    let k = counted line (c .before .before .before .found .given .0 .0) (ap groupAnswer (sym (c .before .before .before .found .given .1)) ∙ c .before .before .before .before .before .read-group .ensures .0) in
+    (rw (k .read) (c .pack .ensures), rw (k .read, ← k .count) (c .before .group-words .ensures), rw (k .read) (rw (k .read) at (c .before .before .before .before .before .read-group .ensures .1)))
+
+returns-2 : tie.Need-returns-2
+returns-2 c =
+    let line = c .before .before .before .before .before .before .before .args .line .now in
+    let k = unread line _ (ap groupAnswer (sym (c .before .before .found2 .given .1)) ∙ c .before .before .before .before .read-group .ensures .0) in
+    (rw k (c .pack-refusal .ensures), rw k, rw k (rw k at (c .before .before .before .before .read-group .ensures .1)))
+
+pub read-names-spec : {M : Type 1} → statement M
+read-names-spec =
+    tie.close
+    (tie.spec
+    (λ c κs. search needs)
+    (λ c. search needs)
+    cast-group-words
+    (λ c κs. search needs)
+    (λ c κs. search needs)
+    (λ c. search needs)
+    (λ c κs. search needs)
+    returns
+    returns-2)

@@ -1,0 +1,102 @@
+// The line of a request, written and read.
+use kelzoud_events::answers::pack;
+use kelzoud_events::answers::pack_refusal;
+use kelzoud_events::events::group_words;
+use kelzoud_events::events::words_of;
+use model::Asked;
+use model::Event;
+use model::NewName;
+use text::group::GroupRead;
+use text::group::read_group;
+use text::group::write_group;
+use text::read::EventRead;
+use text::read::read_event;
+use text::spelling::Spelling;
+use text::write::Written;
+use text::write::write_event;
+ghost use mathlib.Core.Path.{_≡_};
+ghost use Rattle.model.specs.Requests.{requestOf};
+ghost use Rattle.text.specs.Group.{readGroup};
+ghost use Rattle.text.specs.Request.{groupOf, readRequest, spellingWith, spellingOf, writeRequest};
+ghost use Rattle.text.specs.Write.{outcome};
+ghost use Rattle.kelzoud.specs.Interface.{packedRead, spellingIn, eventAfter, groupAfter};
+
+// The spelling that C asks for.
+pub fn spelling_in(named: u32) -> Spelling
+    ensures { λ r. ⌜ r ≡ spellingIn named ⌝ }
+{
+    if named == 0 {
+        Spelling::Plain
+    } else {
+        Spelling::Named
+    }
+}
+
+fn spelling_with(new: NewName) -> Spelling
+    ensures { λ r. ⌜ r ≡ spellingWith new ⌝ }
+{
+    match new {
+        NewName::Unwritten => Spelling::Plain,
+        NewName::Written(_) => Spelling::Named,
+    }
+}
+
+// The spelling that an event has.
+fn spelling_of(event: Event) -> Spelling
+    ensures { λ r. ⌜ r ≡ spellingOf event ⌝ }
+{
+    match event {
+        Event::Create(new, _, _) => spelling_with(new),
+        Event::Borrow(new, _, _, _) => spelling_with(new),
+        Event::Read(_, _) => Spelling::Plain,
+        Event::Write(_, _) => Spelling::Plain,
+        Event::Drop(_) => Spelling::Plain,
+    }
+}
+
+// Writes the line of what is asked.
+pub fn write_request(asked: Asked, names: &[u32], out: &mut [u8]) -> Written
+    ensures { λ r. ⌜ outcome r (now (out .exit)) ≡ writeRequest (requestOf asked (now (names .entry))) (now (out .entry)) ⌝ }
+{
+    match asked {
+        Asked::Single(event) => write_event(spelling_of(event), event, out),
+        Asked::Group => write_group(names, out),
+    }
+}
+
+// Reads a line that is no event: the names that it drops together.
+fn read_names(line: &[u8], event: &mut [u32; 7], names: &mut [u32; 64]) -> u64
+    ensures { λ r. ⌜ (r ≡ packedRead (groupOf (readGroup (now (line .entry)))))
+        × (now (event .exit) ≡ eventAfter (groupOf (readGroup (now (line .entry)))) (now (event .entry)))
+        × (now (names .exit) ≡ groupAfter (groupOf (readGroup (now (line .entry)))) (now (names .entry))) ⌝ }
+{
+    let found = read_group(line, names);
+    match found {
+        GroupRead::Count(count) => {
+            *event = group_words(count as u32);
+            pack(0, 0)
+        }
+        GroupRead::Refused(refusal) => pack_refusal(refusal, 0),
+    }
+}
+
+// Reads a line: the event that it spells, or the names that it drops together.
+pub fn read_request(
+    spelling: Spelling,
+    line: &[u8],
+    event: &mut [u32; 7],
+    names: &mut [u32; 64],
+) -> u64
+    ensures { λ r. ⌜ (r ≡ packedRead (readRequest spelling (now (line .entry))))
+        × (now (event .exit) ≡ eventAfter (readRequest spelling (now (line .entry))) (now (event .entry)))
+        × (now (names .exit) ≡ groupAfter (readRequest spelling (now (line .entry))) (now (names .entry))) ⌝ }
+{
+    let found = read_event(spelling, line);
+    match found {
+        EventRead::Event(read) => {
+            *event = words_of(read);
+            pack(0, 0)
+        }
+        EventRead::Refused(_) => read_names(line, event, names),
+    }
+}

@@ -1,0 +1,98 @@
+-- Requests in turn: one more, and all of them on a table out of order.
+-- Assumes nothing.
+use mathlib.Core.Path.{_≡_, refl, sym, ap, ap₂, _∙_}
+use mathlib.Core.Bool.{false}
+use mathlib.Core.List.{List, [], _∷_, _++_, map, map-append}
+use Prim.Native.Nat.{ℕ, suc, _+_, _≤_, _<_}
+use native.Mathlib.Numerals.{add-one}
+use native.Mathlib.Omega.{arith}
+use lib.ListN.{length, getD, set, take, drop, replicate, length-map, length-replicate, replicate-append-replicate, List·getD-map}
+use lib.Seq.{take-suc, drop-cons, set-at, append-snoc, length-take-le}
+use Rattle.model.specs.Requests.{Request}
+use Rattle.model.specs.Lists.{final, answers}
+use Rattle.model.specs.Table.{inOrder}
+use Rattle.model.specs.Refusals.{refusals, judge}
+use Rattle.model.specs.Step.{State, Verdict, after, answer}
+use Rattle.model.proofs.Lists.{final-append, answers-append}
+use Rattle.table.specs.Words.{rowsIn}
+use Rattle.table.specs.Lent.{tallyIn, lent}
+use Rattle.kelzoud_events.specs.Interface.{answerWords, requestIn}
+use Rattle.kelzoud_events.specs.Batch.{requestsIn, afterFirst, answersFirst, Ran}
+
+-- the answer that refuses a table out of order
+abbrev pub one : List ℕ
+one = 1 ∷ 0 ∷ []
+
+-- one entry more, behind those that are there
+put : (A out out₁ : List (List ℕ)) (i : ℕ) (v : List ℕ) → length A ≡ i → i < length out → out₁ ≡ A ++ drop i out → set out₁ i v ≡ (A ++ (v ∷ [])) ++ drop (i + 1) out
+put A out out₁ i v n l q =
+    ap (λ (x : List (List ℕ)). set x i v) (q ∙ ap (λ (x : List (List ℕ)). A ++ x) (drop-cons out i [] l)) ∙ set-at A (getD out i []) (drop (suc i) out) v i n
+    ∙ sym (append-snoc A v (drop (suc i) out)) ∙ ap (λ (x : ℕ). (A ++ (v ∷ [])) ++ drop x out) (sym (add-one i))
+
+length-answers : (h : State) (qs : List Request) → length (answers after answer h qs) ≡ length qs
+length-answers h [] = refl
+length-answers h (q ∷ qs) = ap suc (length-answers (after h q) qs)
+
+module _ (names : List ℕ) where
+  requests-long : (ws : List (List ℕ)) (m : ℕ) → m ≤ length ws → length (requestsIn ws names m) ≡ m
+  requests-long ws m l = length-take-le m (map (λ w. requestIn w names) ws) (omega (arith, length-map ws (λ w. requestIn w names)))
+
+  answers-long : (h : State) (ws : List (List ℕ)) (m : ℕ) → m ≤ length ws → length (map answerWords (answers after answer h (requestsIn ws names m))) ≡ m
+  answers-long h ws m l = length-map (answers after answer h (requestsIn ws names m)) answerWords ∙ length-answers h (requestsIn ws names m) ∙ requests-long ws m l
+
+  -- one request more
+  requests-more : (ws : List (List ℕ)) (i : ℕ) (q : Request) → i < length ws → q ≡ requestIn (getD ws i []) names → requestsIn ws names (i + 1) ≡ requestsIn ws names i ++ (q ∷ [])
+  requests-more ws i q l e =
+      ap (requestsIn ws names) (add-one i) ∙ take-suc (map (λ w. requestIn w names) ws) i (requestIn [] names) (omega (arith, length-map ws (λ w. requestIn w names)))
+      ∙ ap (λ (x : Request). requestsIn ws names i ++ (x ∷ [])) (List·getD-map (λ w. requestIn w names) ws i [] ∙ sym e)
+
+  pub ran-none : (h : State) (ws out : List (List ℕ)) → Ran h ws names 0 out h out
+  ran-none h ws out = record { state = refl; said = refl }
+
+  pub ran-more : (h : State) (ws : List (List ℕ)) (i : ℕ) (out : List (List ℕ)) (h₁ : State) (out₁ : List (List ℕ)) (q : Request) (h₂ : State) (v : List ℕ) → Ran h ws names i out h₁ out₁ → i < length ws → i < length out
+      → q ≡ requestIn (getD ws i []) names → h₂ ≡ after h₁ q → v ≡ answerWords (answer h₁ q) → Ran h ws names (i + 1) out h₂ (set out₁ i v)
+  ran-more h ws i out h₁ out₁ q h₂ v r l m e a b = record {
+    state = a ∙ ap (λ (x : State). after x q) (r .state) ∙ sym (ap (final after h) more ∙ final-append after h (requestsIn ws names i) (q ∷ []));
+    said = put A out out₁ i v (answers-long h ws i (omega arith)) m (r .said) ∙ ap (λ (x : List (List ℕ)). x ++ drop (i + 1) out) (sym answered);
+  }
+    where
+      A : List (List ℕ)
+      A = map answerWords (answers after answer h (requestsIn ws names i))
+
+      more : requestsIn ws names (i + 1) ≡ requestsIn ws names i ++ (q ∷ [])
+      more = requests-more ws i q l e
+
+      answered : map answerWords (answers after answer h (requestsIn ws names (i + 1))) ≡ A ++ (v ∷ [])
+      answered =
+          ap (λ (x : List Request). map answerWords (answers after answer h x)) more ∙ ap (map answerWords) (answers-append after answer h (requestsIn ws names i) (q ∷ []))
+          ∙ map-append answerWords (answers after answer h (requestsIn ws names i)) (answer (afterFirst h ws names i) q ∷ [])
+          ∙ ap (λ (x : List ℕ). A ++ (x ∷ [])) (ap (λ (x : State). answerWords (answer x q)) (sym (r .state)) ∙ sym b)
+
+-- on a table out of order
+module _ (h : State) (d : inOrder (h .table) (h .tally .issued) ≡ false) where
+  unchanged : (q : Request) → (after h q ≡ h) × (answerWords (answer h q) ≡ one)
+  unfolding judge refusals after answer
+  unchanged q = (rw d, rw d)
+
+  all-unchanged : (qs : List Request) → (final after h qs ≡ h) × (map answerWords (answers after answer h qs) ≡ replicate (length qs) one)
+  all-unchanged [] = (refl, refl)
+  all-unchanged (q ∷ qs) =
+      let u = unchanged q in let ih = all-unchanged qs in
+      (ap (λ (x : State). final after x qs) (u .0) ∙ ih .0, ap₂ (λ (x : List ℕ) (l : List (List ℕ)). x ∷ l) (u .1) (ap (λ (x : State). map answerWords (answers after answer x qs)) (u .0) ∙ ih .1))
+
+  pub ran-refused : (ws : List (List ℕ)) (names : List ℕ) (m : ℕ) (out out₁ : List (List ℕ)) → m ≤ length ws → out₁ ≡ replicate m one ++ drop m out → Ran h ws names m out h out₁
+  ran-refused ws names m out out₁ l q = record {
+    state = sym (all-unchanged (requestsIn ws names m) .0);
+    said = q ∙ ap (λ (x : List (List ℕ)). x ++ drop m out) (sym (all-unchanged (requestsIn ws names m) .1 ∙ ap (λ (x : ℕ). replicate x one) (requests-long names ws m l)));
+  }
+
+-- one refusal more
+pub refused-more : (i : ℕ) (out out₁ : List (List ℕ)) → i < length out → out₁ ≡ replicate i one ++ drop i out → set out₁ i one ≡ replicate (i + 1) one ++ drop (i + 1) out
+refused-more i out out₁ l q = put (replicate i one) out out₁ i one (length-replicate {A = List ℕ} i one) l q ∙ ap (λ (x : List (List ℕ)). x ++ drop (i + 1) out) (replicate-append-replicate {A = List ℕ} i 1 one)
+
+-- what a batch leaves, part by part
+abbrev pub Left : State → List (List ℕ) → List ℕ → ℕ → List (List ℕ) → List (List ℕ) → List ℕ → List (List ℕ) → Type 0
+Left h ws names m out ws′ w′ out′ = (rowsIn ws′ ≡ afterFirst h ws names m .table) × (tallyIn w′ ≡ afterFirst h ws names m .tally) × (out′ ≡ answersFirst h ws names m out)
+
+pub left : (h : State) (ws : List (List ℕ)) (names : List ℕ) (m : ℕ) (out ws′ : List (List ℕ)) (w′ : List ℕ) (out′ : List (List ℕ)) → Ran h ws names m out (lent ws′ w′) out′ → Left h ws names m out ws′ w′ out′
+left h ws names m out ws′ w′ out′ r = (ap (λ (x : State). x .table) (r .state), ap (λ (x : State). x .tally) (r .state), r .said)

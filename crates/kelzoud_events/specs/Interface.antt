@@ -1,0 +1,102 @@
+-- Events and answers as the numbers that pass between this library and C. An event is seven words of 32 bits: its kind, name, start, length and
+-- right, whether its new name is written out, and that name.
+-- Assumes nothing.
+use Prim.Native.Nat.{ℕ, _+_, _*_, min}
+use mathlib.Core.Bool.{cond}
+use mathlib.Core.List.{List, [], _∷_}
+use lib.Dec.{eqb, leb, ltb}
+use lib.ListN.{length, getD, take, drop}
+use Rattle.model.specs.declared.Name.{Name}
+use Rattle.model.specs.declared.Span.{Span}
+use Rattle.model.specs.declared.NewName.{NewName}
+use Rattle.model.specs.declared.NewName.the-variants.{Unwritten, Written}
+use Rattle.model.specs.declared.Event.{Event}
+use Rattle.model.specs.declared.Event.the-variants.{Create, Borrow, Read, Write, Drop}
+use Rattle.model.specs.declared.Asked.{Asked}
+use Rattle.model.specs.declared.Asked.the-variants as asked
+use Rattle.model.specs.Requests.{Request, Single, Group, requestOf}
+use Rattle.model.specs.Step.{Verdict}
+
+-- ---- answers
+
+-- a refusal's number k, 0 for none, and a value n: k * 2^32 + n, where a value above 2^32 - 1 is given as 2^32 - 1
+unfoldable pub packed : ℕ → ℕ → ℕ
+packed k n = k * 4294967296 + min n 4294967295
+
+-- the answer to a request: its refusal, and its name
+abbrev pub packedVerdict : Verdict → ℕ
+packedVerdict v = packed (v .refusal) (v .name)
+
+-- the same as two words
+abbrev pub answerWords : Verdict → List ℕ
+answerWords v = v .refusal ∷ v .name ∷ []
+
+-- ---- requests
+
+abbrev pub nameOf : ℕ → Name
+nameOf n = record { 0 = n }
+
+abbrev pub spanOf : ℕ → ℕ → Span
+spanOf start length = record { start = record { 0 = start }; length = length }
+
+-- "An event is one of five kinds": create, borrow, read, write and drop are 1 to 5. The values that a kind lacks are not looked at.
+-- Another kind stands for an event that is refused 2 in itself, a create whose right is 0.
+unfoldable pub eventWith : NewName → ℕ → ℕ → ℕ → ℕ → ℕ → Event
+eventWith new kind name start length right =
+    cond (eqb kind 1) (Create new (spanOf start length) right)
+    (cond (eqb kind 2) (Borrow new (nameOf name) (spanOf start length) right)
+    (cond (eqb kind 3) (Read (nameOf name) (spanOf start length))
+    (cond (eqb kind 4) (Write (nameOf name) (spanOf start length))
+    (cond (eqb kind 5) (Drop (nameOf name))
+    (Create new (spanOf start length) 0)))))
+
+-- a right above 255 is no right, as 0 is none
+abbrev pub rightIn : ℕ → ℕ
+rightIn right = cond (ltb right 256) right 0
+
+-- the new name is written out where `named` is not 0
+abbrev pub newIn : ℕ → ℕ → NewName
+newIn named written = cond (eqb named 0) Unwritten (Written (nameOf written))
+
+-- the event that seven words are
+unfoldable pub eventIn : List ℕ → Event
+eventIn w = eventWith (newIn (getD w 5 0) (getD w 6 0)) (getD w 0 0) (getD w 1 0) (getD w 2 0) (getD w 3 0) (rightIn (getD w 4 0))
+
+-- kind 6 asks that names are dropped together
+unfoldable pub askedIn : List ℕ → Asked
+askedIn w = cond (eqb (getD w 0 0) 6) asked.Group (asked.Single (eventIn w))
+
+-- names[start .. start + length]; none where that reaches past their end
+unfoldable pub part : ℕ → ℕ → List ℕ → List ℕ
+part start size names = cond (leb (start + size) (length names)) (take size (drop start names)) []
+
+-- the names that seven words point to, in the list that is lent beside them
+abbrev pub namesIn : List ℕ → List ℕ → List ℕ
+namesIn w names = part (getD w 2 0) (getD w 3 0) names
+
+-- the request that seven words are. An event has no use for the names
+abbrev pub requestIn : List ℕ → List ℕ → Request
+requestIn w names = requestOf (askedIn w) (namesIn w names)
+
+-- ---- and back
+
+abbrev pub namedOf : NewName → ℕ
+namedOf Unwritten = 0
+namedOf (Written x) = 1
+
+abbrev pub writtenOf : NewName → ℕ
+writtenOf Unwritten = 0
+writtenOf (Written x) = x .0
+
+-- the words of so many names dropped together, which are the first in a list of their own
+abbrev pub groupWords : ℕ → List ℕ
+groupWords count = 6 ∷ 0 ∷ 0 ∷ count ∷ 0 ∷ 0 ∷ 0 ∷ []
+
+-- the seven words of a request, with 0 where its kind has no such value
+unfoldable pub wordsOf : Request → List ℕ
+wordsOf (Single (Create w s r)) = 1 ∷ 0 ∷ s .start .0 ∷ s .length ∷ r ∷ namedOf w ∷ writtenOf w ∷ []
+wordsOf (Single (Borrow w n s r)) = 2 ∷ n .0 ∷ s .start .0 ∷ s .length ∷ r ∷ namedOf w ∷ writtenOf w ∷ []
+wordsOf (Single (Read n s)) = 3 ∷ n .0 ∷ s .start .0 ∷ s .length ∷ 0 ∷ 0 ∷ 0 ∷ []
+wordsOf (Single (Write n s)) = 4 ∷ n .0 ∷ s .start .0 ∷ s .length ∷ 0 ∷ 0 ∷ 0 ∷ []
+wordsOf (Single (Drop n)) = 5 ∷ n .0 ∷ 0 ∷ 0 ∷ 0 ∷ 0 ∷ 0 ∷ []
+wordsOf (Group names) = groupWords (length names)

@@ -1,0 +1,101 @@
+// Events in turn. The table's order is looked at once; what is known of it goes from each event to the next.
+use crate::answers::answer_words;
+use crate::events::asked_in;
+use crate::events::names_in;
+use model::Tally;
+use rules::steps::take;
+use table::Row;
+use table::lent::set_tally;
+use table::lent::tally_at;
+use table::ordered::Look;
+use table::ordered::look_at;
+ghost use mathlib.Core.Path.{_≡_};
+ghost use mathlib.Core.List.{[], _∷_, _++_};
+ghost use Prim.Native.Nat.{_≤_, min};
+ghost use lib.ListN.{length, drop, replicate};
+ghost use Rattle.table.specs.Words.{rowsIn};
+ghost use Rattle.table.specs.Lent.{tallyIn, lent};
+ghost use Rattle.table.specs.Known.{Known};
+ghost use Rattle.rules.specs.Steps.{lends};
+ghost use Rattle.kelzoud_events.specs.Batch.{taken, afterAll, answersAll, Ran};
+
+fn fewer(a: usize, b: usize) -> usize
+    ensures { λ r. ⌜ r ≡ min a b ⌝ }
+{
+    if a < b { a } else { b }
+}
+
+// The first m events on a table in order, refused ones too; the answer is the tally after them.
+fn take_turns(
+    table: &mut [Row],
+    live: usize,
+    places: &mut [u16; 1024],
+    t: Tally,
+    events: &[[u32; 7]],
+    names: &[u32],
+    m: usize,
+    answers: &mut [[u32; 2]],
+) -> Tally
+    requires { ⌜ Known (now table) live (t .issued) (now places) × (m ≤ length (now events)) × (m ≤ length (now answers)) ⌝ }
+    ensures { λ r. ⌜ Ran (lends (rowsIn (now (table .entry))) t) (now (events .entry)) (now (names .entry)) m (now (answers .entry)) (lends (rowsIn (now (table .exit))) r) (now (answers .exit)) ⌝ }
+{
+    let mut tally = t;
+    let mut alive = live;
+    let mut i: usize = 0;
+    while i < m {
+        let words = events[i];
+        let asked = asked_in(words);
+        let part = names_in(words, names);
+        let p = take(table, alive, places, tally, asked, part);
+        let outcome = p.outcome;
+        let after = outcome.tally;
+        let answer = outcome.answer;
+        answers[i] = answer_words(answer);
+        tally = after;
+        alive = p.live;
+        i += 1;
+    }
+    tally
+}
+
+// The first m answers are refusal 1.
+fn refuse_all(answers: &mut [[u32; 2]], m: usize)
+    requires { ⌜ m ≤ length (now answers) ⌝ }
+    ensures { λ _. ⌜ now (answers .exit) ≡ replicate m (1 ∷ 0 ∷ []) ++ drop m (now (answers .entry)) ⌝ }
+{
+    let mut i: usize = 0;
+    while i < m {
+        answers[i] = [1, 0];
+        i += 1;
+    }
+}
+
+// As many events as there are answers for, on the table and the tally that are lent; the answer is how many.
+pub fn apply_all(
+    table: &mut [Row],
+    tally: &mut [u32; 7],
+    events: &[[u32; 7]],
+    names: &[u32],
+    answers: &mut [[u32; 2]],
+) -> usize
+    ensures { λ r. ⌜ (rowsIn (now (table .exit)) ≡ afterAll (lent (now (table .entry)) (now (tally .entry))) (now (events .entry)) (now (names .entry)) (now (answers .entry)) .table)
+        × (tallyIn (now (tally .exit)) ≡ afterAll (lent (now (table .entry)) (now (tally .entry))) (now (events .entry)) (now (names .entry)) (now (answers .entry)) .tally)
+        × (now (answers .exit) ≡ answersAll (lent (now (table .entry)) (now (tally .entry))) (now (events .entry)) (now (names .entry)) (now (answers .entry)))
+        × (r ≡ taken (now (events .entry)) (now (answers .entry))) ⌝ }
+{
+    let m = fewer(events.len(), answers.len());
+    let t = tally_at(tally);
+    let mut places = [0u16; 1024];
+    let found = look_at(table, t.issued, &mut places);
+    match found {
+        Look::InOrder(live) => {
+            let after = take_turns(table, live, &mut places, t, events, names, m, answers);
+            set_tally(tally, after);
+            m
+        }
+        Look::Disordered => {
+            refuse_all(answers, m);
+            m
+        }
+    }
+}

@@ -1,0 +1,145 @@
+// Events as the seven words that C lends, and back. Only these functions know the layout.
+use model::Addr;
+use model::Asked;
+use model::Event;
+use model::Name;
+use model::NewName;
+use model::Span;
+ghost use mathlib.Core.Path.{_≡_};
+ghost use Rattle.model.specs.Requests.{Single};
+ghost use Rattle.kelzoud_events.specs.Interface.{eventWith, rightIn, newIn, eventIn, askedIn, part, namesIn, namedOf, writtenOf, groupWords, wordsOf};
+
+// The kind that asks for names dropped together.
+const DROP_ALL: u32 = 6;
+
+// The event of a kind, 1 to 5, with a new name that is written or not. Another kind is an event that is refused 2 in itself.
+fn event_with(new: NewName, kind: u32, name: u32, start: u32, length: u32, right: u8) -> Event
+    ensures { λ r. ⌜ r ≡ eventWith new kind name start length right ⌝ }
+{
+    let span = Span {
+        start: Addr(start),
+        length,
+    };
+    if kind == 1 {
+        return Event::Create(new, span, right);
+    }
+    if kind == 2 {
+        return Event::Borrow(new, Name(name), span, right);
+    }
+    if kind == 3 {
+        return Event::Read(Name(name), span);
+    }
+    if kind == 4 {
+        return Event::Write(Name(name), span);
+    }
+    if kind == 5 {
+        return Event::Drop(Name(name));
+    }
+    Event::Create(new, span, 0)
+}
+
+fn right_in(right: u32) -> u8
+    ensures { λ r. ⌜ r ≡ rightIn right ⌝ }
+{
+    if right < 256 { right as u8 } else { 0 }
+}
+
+fn new_in(named: u32, written: u32) -> NewName
+    ensures { λ r. ⌜ r ≡ newIn named written ⌝ }
+{
+    if named == 0 {
+        NewName::Unwritten
+    } else {
+        NewName::Written(Name(written))
+    }
+}
+
+// What seven words ask for.
+pub fn asked_in(w: [u32; 7]) -> Asked
+    ensures { λ r. ⌜ r ≡ askedIn w ⌝ }
+{
+    if w[0] == DROP_ALL {
+        return Asked::Group;
+    }
+    let new = new_in(w[5], w[6]);
+    let right = right_in(w[4]);
+    Asked::Single(event_with(new, w[0], w[1], w[2], w[3], right))
+}
+
+// A part of a list of names: none where it reaches past the end.
+fn part_of(names: &[u32], start: u32, size: u32) -> &[u32]
+    ensures { λ r. ⌜ now r ≡ part start size (now (names .entry)) ⌝ }
+{
+    let from = start as usize;
+    let to = from + size as usize;
+    if to <= names.len() {
+        return &names[from..to];
+    }
+    &names[..0]
+}
+
+// The names that seven words point to.
+pub fn names_in(w: [u32; 7], names: &[u32]) -> &[u32]
+    ensures { λ r. ⌜ now r ≡ namesIn w (now (names .entry)) ⌝ }
+{
+    part_of(names, w[2], w[3])
+}
+
+// Whether a new name is written, and which.
+fn named_of(new: NewName) -> u32
+    ensures { λ r. ⌜ r ≡ namedOf new ⌝ }
+{
+    match new {
+        NewName::Unwritten => 0,
+        NewName::Written(_) => 1,
+    }
+}
+
+fn written_of(new: NewName) -> u32
+    ensures { λ r. ⌜ r ≡ writtenOf new ⌝ }
+{
+    match new {
+        NewName::Unwritten => 0,
+        NewName::Written(name) => name.0,
+    }
+}
+
+// The seven words of an event.
+pub fn words_of(event: Event) -> [u32; 7]
+    ensures { λ r. ⌜ r ≡ wordsOf (Single event) ⌝ }
+{
+    match event {
+        Event::Create(w, s, r) => {
+            [
+                1,
+                0,
+                s.start.0,
+                s.length,
+                r as u32,
+                named_of(w),
+                written_of(w),
+            ]
+        }
+        Event::Borrow(w, n, s, r) => {
+            [
+                2,
+                n.0,
+                s.start.0,
+                s.length,
+                r as u32,
+                named_of(w),
+                written_of(w),
+            ]
+        }
+        Event::Read(n, s) => [3, n.0, s.start.0, s.length, 0, 0, 0],
+        Event::Write(n, s) => [4, n.0, s.start.0, s.length, 0, 0, 0],
+        Event::Drop(n) => [5, n.0, 0, 0, 0, 0, 0],
+    }
+}
+
+// Those of so many names dropped together, which are first in their list.
+pub fn group_words(count: u32) -> [u32; 7]
+    ensures { λ r. ⌜ r ≡ groupWords count ⌝ }
+{
+    [DROP_ALL, 0, 0, count, 0, 0, 0]
+}

@@ -1,0 +1,52 @@
+// The calls of the C interface for events alone, over words that are lent, and nothing else.
+use crate::answers::packed_answer;
+use crate::events::asked_in;
+use crate::events::names_in;
+use rules::lent::apply;
+use table::Row;
+ghost use mathlib.Core.Path.{_≡_};
+ghost use Rattle.model.specs.Step;
+ghost use Rattle.table.specs.Words.{rowsIn};
+ghost use Rattle.table.specs.Lent.{tallyIn, lent};
+ghost use Rattle.kelzoud_events.specs.Interface.{packedVerdict, requestIn};
+ghost use Rattle.kelzoud_events.specs.Batch.{taken, afterAll, answersAll};
+
+pub mod answers;
+mod batch;
+pub mod events;
+
+// One event on the table and the tally that are lent. The names are those that it may point to.
+#[no_mangle]
+pub extern "C" fn kz_abi_apply(
+    table: &mut [Row],
+    tally: &mut [u32; 7],
+    event: &[u32; 7],
+    names: &[u32],
+) -> u64
+    ensures { λ r. ⌜ (rowsIn (now (table .exit)) ≡ Step.after (lent (now (table .entry)) (now (tally .entry))) (requestIn (now (event .entry)) (now (names .entry))) .table)
+        × (tallyIn (now (tally .exit)) ≡ Step.after (lent (now (table .entry)) (now (tally .entry))) (requestIn (now (event .entry)) (now (names .entry))) .tally)
+        × (r ≡ packedVerdict (Step.answer (lent (now (table .entry)) (now (tally .entry))) (requestIn (now (event .entry)) (now (names .entry))))) ⌝ }
+{
+    let words = *event;
+    let asked = asked_in(words);
+    let part = names_in(words, names);
+    let answer = apply(table, tally, asked, part);
+    packed_answer(answer)
+}
+
+// As many events in turn as there are answers for, refused ones too; the answer is how many.
+#[no_mangle]
+pub extern "C" fn kz_abi_apply_all(
+    table: &mut [Row],
+    tally: &mut [u32; 7],
+    events: &[[u32; 7]],
+    names: &[u32],
+    answers: &mut [[u32; 2]],
+) -> usize
+    ensures { λ r. ⌜ (rowsIn (now (table .exit)) ≡ afterAll (lent (now (table .entry)) (now (tally .entry))) (now (events .entry)) (now (names .entry)) (now (answers .entry)) .table)
+        × (tallyIn (now (tally .exit)) ≡ afterAll (lent (now (table .entry)) (now (tally .entry))) (now (events .entry)) (now (names .entry)) (now (answers .entry)) .tally)
+        × (now (answers .exit) ≡ answersAll (lent (now (table .entry)) (now (tally .entry))) (now (events .entry)) (now (names .entry)) (now (answers .entry)))
+        × (r ≡ taken (now (events .entry)) (now (answers .entry))) ⌝ }
+{
+    batch::apply_all(table, tally, events, names, answers)
+}
