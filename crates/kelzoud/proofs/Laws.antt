@@ -8,8 +8,7 @@ use lib.ListN.{length}
 use Rattle.model.specs.Step.{State}
 use Rattle.text.specs.Result.{Result, value, refused}
 use Rattle.text.specs.Group.{readGroup, countOf}
-use Rattle.text.proofs.Laws.Group.{group-few}
-use Rattle.text.proofs.Laws.GroupLine.{read-group-is-spelling}
+use Rattle.text.proofs.Offered.{group-few, read-group-is-spelling}
 use Rattle.trace.specs.declared.run.RunAnswer.{RunAnswer}
 use Rattle.trace.specs.declared.run.RunAnswer.the-variants.{Allowed, Refused}
 use Rattle.trace.specs.Run.{Ran, ranOf}

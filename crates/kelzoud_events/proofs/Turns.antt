@@ -13,7 +13,7 @@ use Rattle.model.specs.Lists.{final, answers}
 use Rattle.model.specs.Table.{inOrder}
 use Rattle.model.specs.Refusals.{refusals, judge}
 use Rattle.model.specs.Step.{State, Verdict, after, answer}
-use Rattle.model.proofs.Lists.{final-append, answers-append}
+use Rattle.model.proofs.Offered.{final-append, answers-append}
 use Rattle.table.specs.Words.{rowsIn}
 use Rattle.table.specs.Lent.{tallyIn, lent}
 use Rattle.kelzoud_events.specs.Interface.{answerWords, requestIn}

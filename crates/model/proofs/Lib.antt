@@ -1,23 +1,24 @@
-pub mod Lists
-pub mod Addresses
-pub mod Ancestries
-pub mod Strikes
-pub mod Notes
-pub mod Agree
-pub mod Lent
-pub mod Judged
-pub mod Named
-pub mod Precedence
-pub mod Frame
-pub mod Counted
-pub mod Match
-pub mod Order
-pub mod Allowed
-pub mod Lost
-pub mod Traces
-pub mod Rows
-pub mod OneTable
-pub mod Fresh
-pub mod Together
-pub mod Demand3
-pub mod Given
+mod Lists
+mod Addresses
+mod Ancestries
+mod Strikes
+mod Notes
+mod Agree
+mod Lent
+mod Judged
+mod Named
+mod Precedence
+mod Frame
+mod Counted
+mod Match
+mod Order
+mod Allowed
+mod Lost
+mod Traces
+mod Rows
+mod OneTable
+mod Fresh
+mod Together
+mod Demand3
+mod Given
+pub mod Offered

@@ -10,7 +10,7 @@ use lib.Dec.{ltb, eqb}
 use lib.ListN.{length, getD, drop, length-append, length-reverseAux}
 use borrow.Author.Tests.{lt-ltb, ne-eqb, eqb-true, eqb-false}
 use Rattle.model.specs.declared.Cap.{Cap}
-use Rattle.model.proofs.Lists.{All, test}
+use Rattle.model.proofs.Offered.{All, test}
 use Rattle.text.specs.Class.{classOf, newline}
 use Rattle.text.specs.Line.{through, afterSpace}
 use Rattle.text.specs.Decimal.{decimal, numberFrom}
@@ -19,9 +19,7 @@ use Rattle.text.specs.Read.{rightOf}
 use Rattle.listing.specs.Listing.{right, pieces, form, children, roots, issuedLine, listed, formLength, total, formsLength}
 use Rattle.listing.proofs.Laws.Sorted.{preorder}
 use Rattle.listing.specs.Forms.{Reading, childrenText, rowOf, childFollows, readForm, readRun, readLine, readLines, guessIssued}
-use Rattle.text.proofs.Laws.Digits.{digits, digitAt, decimal-width}
-use Rattle.text.proofs.Laws.Number.{Stops, digit-class, digit-small}
-use Rattle.text.proofs.Laws.Words.{plain-decimal, next, number-is, rights}
+use Rattle.text.proofs.Offered.{digits, digitAt, decimal-width, Stops, digit-class, digit-small, plain-decimal, next, number-is, rights}
 use Rattle.listing.proofs.Laws.Listing.{length-form, length-children}
 use Rattle.listing.proofs.Laws.Reading.{run-on, run-off}
 use Rattle.listing.proofs.Laws.Roots.{goes-on, line-more}

@@ -10,7 +10,7 @@ use lib.Seq.{length-take-le, getD-take, take-all, take-suc, take-suc-set}
 use Rattle.model.specs.declared.Cap.{Cap}
 use Rattle.model.specs.Table.{emptyRow}
 use Rattle.table.specs.Words.{capOf, rowsIn}
-use Rattle.table.proofs.Laws.Words.{length-in}
+use Rattle.table.proofs.Offered.{length-in}
 use Rattle.listing.specs.First.{firstRows}
 
 pub length-first : (ws : List (List ℕ)) (n : ℕ) → n ≤ length ws → length (firstRows ws n) ≡ n

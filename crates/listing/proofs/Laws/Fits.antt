@@ -10,11 +10,10 @@ use borrow.Author.Tests.{leb-true}
 use Rattle.model.specs.declared.Cap.{Cap}
 use Rattle.model.specs.Values.{end}
 use Rattle.model.specs.Table.{span, liveRows, rowInOrder, rowsInOrder, inOrder}
-use Rattle.model.proofs.Judged.{length-live}
-use Rattle.model.proofs.Order.{rises, place}
+use Rattle.model.proofs.Offered.{length-live, rises, place}
 use Rattle.text.specs.Decimal.{decimal}
 use Rattle.text.specs.Event.{spaced}
-use Rattle.text.proofs.Laws.Digits.{decimal-under}
+use Rattle.text.proofs.Offered.{decimal-under}
 use Rattle.listing.specs.Listing.{listing, listed, formLength, total, formsLength}
 use Rattle.listing.specs.Links.{Live}
 use Rattle.listing.proofs.Laws.Live.{live-order}

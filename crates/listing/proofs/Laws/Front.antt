@@ -14,12 +14,9 @@ use Rattle.model.specs.Table.{named, liveRows, liveRowsFirst, rowsInOrder, inOr
 use Rattle.table.specs.Words.{rowsIn}
 use Rattle.listing.specs.First.{firstRows}
 use Rattle.table.specs.Rows.{Front}
-use Rattle.model.proofs.Lists.{All-reverse, and-both}
-use Rattle.model.proofs.Lent.{Named}
-use Rattle.model.proofs.Order.{rowsInOrder-wider, live-named}
-use Rattle.table.proofs.Laws.Words.{length-in}
+use Rattle.model.proofs.Offered.{All-reverse, and-both, Named, rowsInOrder-wider, live-named}
+use Rattle.table.proofs.Offered.{length-in, before-reverse, liveRowsFirst-front, live-front}
 use Rattle.listing.proofs.Laws.First.{length-first}
-use Rattle.table.proofs.Laws.Ordered.{before-reverse, liveRowsFirst-front, live-front}
 use Rattle.listing.specs.Listing.{listed, listing}
 use Rattle.listing.specs.Links.{Live}
 

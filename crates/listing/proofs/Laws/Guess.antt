@@ -9,10 +9,10 @@ use lib.ListN.{length, replicate, drop}
 use Rattle.model.specs.declared.Cap.{Cap}
 use Rattle.model.specs.Lists.{filter}
 use Rattle.model.specs.Table.{emptyRow, named, liveRows, lentTable}
-use Rattle.model.proofs.Lists.{All, All-append, All-reverse, All-sub}
+use Rattle.model.proofs.Offered.{All, All-append, All-reverse, All-sub}
 use Rattle.text.specs.Class.{newline}
 use Rattle.text.specs.Line.{through}
-use Rattle.text.proofs.Laws.Number.{number-of-small}
+use Rattle.text.proofs.Offered.{number-of-small}
 use Rattle.listing.specs.Sort.{insert, sorted}
 use Rattle.listing.specs.Forms.{Reading, startText, lengthText, childrenText, rowOf, childFollows, readForm, readRun, readLine, lineFollows, readLines, guessRows}
 use Rattle.listing.specs.ReadListing.{guessTable}

@@ -14,7 +14,7 @@ use Rattle.model.specs.Step.{State}
 use Rattle.model.specs.Table.{inOrder}
 use Rattle.table.specs.Words.{rowsIn}
 use Rattle.table.specs.Lent.{tallyIn, lent}
-use Rattle.table.proofs.Laws.Words.{length-in}
+use Rattle.table.proofs.Offered.{length-in}
 use Rattle.text.specs.Result.{Result, value, refused}
 use Rattle.text.specs.declared.write.Written.the-variants.{Refused}
 use Rattle.listing.specs.declared.reading.ListingRead.the-variants.{Issued, Refused as ReadRefused}

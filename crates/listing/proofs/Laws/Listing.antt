@@ -12,7 +12,7 @@ use borrow.Author.Tests.{eq-eqb}
 use Rattle.model.specs.declared.Cap.{Cap}
 use Rattle.model.specs.Table.{emptyRow}
 use Rattle.table.specs.Words.{rowsIn}
-use Rattle.table.proofs.Laws.Words.{length-in}
+use Rattle.table.proofs.Offered.{length-in}
 use Rattle.table.specs.Rows.{nameAt, parentAt}
 use Rattle.text.specs.Event.{bytes, spaced}
 use Rattle.listing.specs.First.{firstRows}

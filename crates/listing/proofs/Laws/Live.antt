@@ -17,8 +17,7 @@ use Rattle.table.specs.Words.{rowsIn}
 use Rattle.listing.specs.First.{firstRows}
 use Rattle.table.specs.Rows.{nameAt, parentAt, Rise}
 use Rattle.listing.proofs.Laws.First.{length-first, first-at}
-use Rattle.model.proofs.Lists.{All, All-map, All-reverse, test, clash, and-both}
-use Rattle.model.proofs.Order.{rises, place, parentInOrder-rowFitsParent}
+use Rattle.model.proofs.Offered.{All, All-map, All-reverse, test, clash, and-both, rises, place, parentInOrder-rowFitsParent, Rises}
 use Rattle.listing.specs.Links.{Live}
 use Rattle.listing.proofs.Laws.Sorted.{Above, Member, here, there, Ordered, InOrder}
 
@@ -76,7 +75,7 @@ ordered-reverse bound (c ∷ rows) h =
     root : (p : ℕ) → p ≡ 0 → Member p (0 ∷ [])
     root p e = rw e here
 
-    go : (eqb (c .parent .0) 0 ≡ true) ⊎ (eqb (c .parent .0) 0 ≡ false) → Rattle.model.proofs.Order.Rises bound c rows → Member (c .parent .0) (0 ∷ []) ⊎ (any (named (c .parent .0)) (reverse rows) ≡ true)
+    go : (eqb (c .parent .0) 0 ≡ true) ⊎ (eqb (c .parent .0) 0 ≡ false) → Rises bound c rows → Member (c .parent .0) (0 ∷ []) ⊎ (any (named (c .parent .0)) (reverse rows) ≡ true)
     go (inl t) r = inl (root (c .parent .0) (eqb-true (c .parent .0) 0 t))
     go (inr f) r = inr (any-reverse (named (c .parent .0)) rows (parentInOrder-rowFitsParent c rows f (place c rows (r .in-place) .does-hang) .0))
 

@@ -11,9 +11,7 @@ use borrow.Author.Tests.{leb-true, eqb-true, eqb-false, eq-eqb}
 use Rattle.model.specs.declared.Cap.{Cap}
 use Rattle.model.specs.Values.{inside}
 use Rattle.model.specs.Table.{span, named, lookup, isRight, rowFitsParent, parentInOrder, rowsInOrder}
-use Rattle.model.proofs.Lists.{All, All-map, All-append, All-reverse, test, and-both}
-use Rattle.model.proofs.Order.{rises, place, parentInOrder-rowFitsParent}
-use Rattle.model.proofs.Rows.{lookup-each}
+use Rattle.model.proofs.Offered.{All, All-map, All-append, All-reverse, test, and-both, rises, place, parentInOrder-rowFitsParent, lookup-each, All-zip}
 use Rattle.listing.specs.Listable.{SmallRows}
 
 -- numbers of 32 bits, and a right
@@ -46,7 +44,7 @@ under-depth c p h =
     (e, omega (arith, leb-true (c .depth) 64 (a .1)))
 
 deeper-than : (bound : ℕ) (c : Cap) (earlier : List Cap) → All (λ x. named 0 x ≡ false) earlier → rowsInOrder bound earlier ≡ true → parentInOrder c earlier ≡ true → All (λ x. Deeper (x .name .0) (x .depth) c) earlier
-deeper-than bound c earlier nz r h = All-map _ _ each earlier (Rattle.model.proofs.Lists.All-zip _ _ earlier nz (lookup-each bound earlier r))
+deeper-than bound c earlier nz r h = All-map _ _ each earlier (All-zip _ _ earlier nz (lookup-each bound earlier r))
   where
     each : (x : Cap) → (named 0 x ≡ false) × ((x .name .0 < bound) × (lookup (x .name .0) earlier ≡ x)) → Deeper (x .name .0) (x .depth) c
     each x q e = go (test (eqb (c .parent .0) 0))

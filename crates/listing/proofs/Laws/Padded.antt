@@ -13,7 +13,7 @@ use Rattle.model.specs.Lists.{filter, consIf, all}
 use Rattle.model.specs.Table.{emptyRow, named, isEmptyRow, liveRows, liveRowsFirst, lentTable, rowsInOrder, inOrder}
 use Rattle.table.specs.Words.{rowsIn}
 use Rattle.listing.specs.First.{firstRows}
-use Rattle.table.proofs.Laws.Words.{length-in}
+use Rattle.table.proofs.Offered.{length-in}
 use Rattle.listing.specs.Stored.{newest, Stored}
 
 zeros-empty : (k : ℕ) → all isEmptyRow (replicate k emptyRow) ≡ true

@@ -14,9 +14,8 @@ use Rattle.model.specs.Table.{emptyRow, liveRows, lentTable, liveRowsFirst, inO
 use Rattle.table.specs.Words.{rowsIn}
 use Rattle.listing.specs.First.{firstRows}
 use Rattle.table.specs.Rows.{Front}
-use Rattle.model.proofs.Lists.{test, clash}
-use Rattle.model.proofs.Rows.{lent-live}
-use Rattle.table.proofs.Laws.Words.{length-in}
+use Rattle.model.proofs.Offered.{test, clash, lent-live}
+use Rattle.table.proofs.Offered.{length-in}
 use Rattle.text.specs.Result.{Result, value, refused}
 use Rattle.text.specs.Read.{same}
 use Rattle.listing.specs.Listing.{listed}

@@ -9,7 +9,7 @@ use lib.Dec.{leb, ltb, eqb}
 use lib.ListN.{length, getD, drop, length-drop, drop-of-length-le}
 use lib.Seq.{drop-drop}
 use borrow.Author.Tests.{leb-true, leb-false, ltb-true, eqb-true}
-use Rattle.model.proofs.Lists.{and-both}
+use Rattle.model.proofs.Offered.{and-both}
 use Rattle.text.specs.Class.{space}
 use Rattle.text.specs.Line.{through}
 use Rattle.model.specs.declared.Cap.{Cap}

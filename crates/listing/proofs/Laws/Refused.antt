@@ -15,8 +15,7 @@ use Rattle.model.specs.Lists.{first}
 use Rattle.model.specs.Refusals.{place}
 use Rattle.model.specs.Step.{State}
 use Rattle.model.specs.Table.{liveRows, lentTable, inOrder}
-use Rattle.model.proofs.Lists.{listed, test, clash, unless, and-both}
-use Rattle.model.proofs.Precedence.{risesFrom, first-lowest, first-holds}
+use Rattle.model.proofs.Offered.{listed, test, clash, unless, and-both, risesFrom, first-lowest, first-holds}
 use Rattle.text.specs.Result.{Result, value, refused, refusalOf}
 use Rattle.text.specs.Read.{same}
 use Rattle.text.specs.Write.{written}
@@ -27,7 +26,7 @@ use Rattle.listing.specs.WriteListing.{listingWritten}
 use Rattle.listing.specs.ReadInto.{readTable, issuedRead, answerInto}
 use Rattle.listing.specs.Listable.{ListingOf, Overfull}
 use Rattle.listing.specs.Refusals.{noListing, tooManyCapabilities, readRefusals, writeRefusals}
-use Rattle.text.proofs.Laws.Read.{same-true}
+use Rattle.text.proofs.Offered.{same-true}
 use Rattle.listing.proofs.Laws.Guess.{guess-small}
 use Rattle.listing.proofs.Laws.Theorems.{is-listing, live-back, read-full}
 

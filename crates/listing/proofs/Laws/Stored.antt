@@ -9,8 +9,8 @@ use lib.Seq.{drop-at, take-suc-set}
 use Rattle.model.specs.declared.Cap.{Cap}
 use Rattle.model.specs.Table.{emptyRow, lentTable}
 use Rattle.table.specs.Words.{rowsIn}
-use Rattle.table.proofs.Laws.Words.{length-in}
-use Rattle.model.proofs.Rows.{lent-new}
+use Rattle.table.proofs.Offered.{length-in}
+use Rattle.model.proofs.Offered.{lent-new}
 use Rattle.listing.specs.First.{firstRows}
 use Rattle.listing.specs.Stored.{newest, Stored}
 use Rattle.listing.proofs.Laws.First.{length-first, set-length}

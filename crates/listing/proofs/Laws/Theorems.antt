@@ -11,10 +11,7 @@ use borrow.Author.Tests.{le-leb, lt-leb}
 use Rattle.model.specs.declared.Cap.{Cap}
 use Rattle.model.specs.Lists.{filter}
 use Rattle.model.specs.Table.{named, liveRows, lentTable, inOrder}
-use Rattle.model.proofs.Lists.{length-filter}
-use Rattle.model.proofs.Lent.{live-lent, length-lent}
-use Rattle.model.proofs.Order.{live-named, liveRowsFirst-lent}
-use Rattle.model.proofs.Rows.{lent-live}
+use Rattle.model.proofs.Offered.{length-filter, live-lent, length-lent, live-named, liveRowsFirst-lent, lent-live}
 use Rattle.text.specs.Result.{Result, value, refused}
 use Rattle.text.specs.Read.{same}
 use Rattle.text.specs.Write.{stored}
@@ -25,8 +22,7 @@ use Rattle.listing.specs.ReadListing.{isListing, guessTable, Listed, rea
 use Rattle.listing.specs.WriteListing.{listingWritten, listingStored}
 use Rattle.listing.specs.ReadInto.{readTable}
 use Rattle.listing.specs.Listable.{Listable}
-use Rattle.text.proofs.Laws.Read.{same-refl, same-true}
-use Rattle.text.proofs.Laws.Write.{Wrote, wrote}
+use Rattle.text.proofs.Offered.{same-refl, same-true, Wrote, wrote}
 use Rattle.listing.proofs.Laws.Sorted.{preorder, InOrder, sorted-preorder, length-sorted}
 use Rattle.listing.proofs.Laws.Live.{live-order}
 use Rattle.listing.proofs.Laws.Front.{Order, order, order-live}

@@ -7,7 +7,7 @@ use native.Mathlib.Omega.{arith}
 use lib.ListN.{length, set, length-append, length-set}
 use lib.Seq.{sets}
 use Rattle.text.specs.Put.{Put, Room}
-use Rattle.text.proofs.Laws.Put.{sets-first, put-next, put-length}
+use Rattle.text.proofs.Offered.{sets-first, put-next, put-length}
 
 -- s is being written into out at a position: the writer stands at here in now, and rest is left
 pub record Writing (out : List ℕ) (at : ℕ) (s now : List ℕ) (here : ℕ) (rest : List ℕ) : Type 0 where

@@ -23,15 +23,8 @@ use Rattle.model.specs.Table.{emptyRow, span, derivation, derivations, named, p
 use Rattle.model.specs.Effects.{inSubtrees}
 use Rattle.table.specs.Rows.{nameAt, parentAt, before, Rise, Found, LiveRows}
 use Rattle.rules.specs.Engine.{OnAncestry, weight, own, ownOfAccess, ownOfNames, Owned, mark, Marked, Spread, Downward}
-use Rattle.model.proofs.Lists.{test, clash, or-neither}
-use Rattle.model.proofs.Ancestries.{below-differs, ancestry-here, ancestry-past}
-use Rattle.model.proofs.Lent.{Named}
-use Rattle.model.proofs.Order.{place, parentInOrder-rowFitsParent}
-use Rattle.model.proofs.Together.{group-none}
-use Rattle.model.proofs.Order.{group-step}
-use Rattle.model.proofs.Rows.{struck-step, no-ancestry}
-use Rattle.table.proofs.Laws.Prefix.{last, all-before, at-before, none-named, named-none, place-of}
-use Rattle.table.proofs.Laws.Ordered.{rise-sub, rowsInOrder-rise, rowsInOrder-at}
+use Rattle.model.proofs.Offered.{test, clash, or-neither, below-differs, ancestry-here, ancestry-past, Named, place, parentInOrder-rowFitsParent, group-none, group-step, struck-step, no-ancestry}
+use Rattle.table.proofs.Offered.{last, all-before, at-before, none-named, named-none, place-of, rise-sub, rowsInOrder-rise, rowsInOrder-at}
 
 -- ---- places and names
 

@@ -20,13 +20,12 @@ use Rattle.model.specs.Requests.{Request}
 use Rattle.model.specs.Step.{State, after}
 use Rattle.model.specs.Step
 use Rattle.model.specs.Answers.{verdictOf}
-use Rattle.model.proofs.Lists.{test}
+use Rattle.model.proofs.Offered.{test}
 use Rattle.table.specs.Words.{capOf, wordsOf, rowsIn}
-use Rattle.table.proofs.Laws.Words.{length-in}
+use Rattle.table.proofs.Offered.{length-in, too-many}
 use Rattle.rules.specs.declared.Outcome.{Outcome}
 use Rattle.rules.specs.Steps.{lends, Stepped}
 use Rattle.rules.specs.Records.{held, Requested}
-use Rattle.table.proofs.Laws.Ordered.{too-many}
 use Rattle.rules.proofs.Laws.Steps.{stepped-disordered}
 
 map-append : {A B : Type 0} (f : A → B) (xs ys : List A) → map f (xs ++ ys) ≡ map f xs ++ map f ys

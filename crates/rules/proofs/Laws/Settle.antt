@@ -18,10 +18,8 @@ use Rattle.model.specs.Table.{emptyRow, named, lentTable}
 use Rattle.model.specs.Effects.{lowered, revoke}
 use Rattle.table.specs.Rows.{nameAt, parentAt, before, Filled, Found, Places}
 use Rattle.rules.specs.Engine.{mark, Marked, Downward, kept, Closes, Clears, Lowers, Settled}
-use Rattle.model.proofs.Lists.{All, test, or-neither}
-use Rattle.table.proofs.Laws.Prefix.{last, before-suc, before-same, length-before, at-before}
-use Rattle.table.proofs.Laws.Places.{Alike, places-same, places-none, places-more, places-past}
-use Rattle.table.proofs.Laws.Ordered.{before-reverse}
+use Rattle.model.proofs.Offered.{All, test, or-neither}
+use Rattle.table.proofs.Offered.{last, before-suc, before-same, length-before, at-before, Alike, places-same, places-none, places-more, places-past, before-reverse}
 
 -- ---- closing up
 

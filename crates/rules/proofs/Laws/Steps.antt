@@ -41,16 +41,9 @@ use Rattle.table.specs.Words.{rowsIn}
 use Rattle.table.specs.Rows.{nameAt, before, Filled, Front, Found, Places, Orderly}
 use Rattle.rules.specs.Engine.{Marked, kept, Ready, Settled}
 use Rattle.rules.specs.Steps.{lends, Stepped}
-use Rattle.model.proofs.Lists.{test, and-both}
-use Rattle.model.proofs.Judged.{allowed, ordered-not-1, access-fits}
-use Rattle.table.proofs.Laws.Words.{length-in}
-use Rattle.table.proofs.Laws.Prefix.{before-suc, before-same, length-before, extend}
-use Rattle.model.proofs.Lent.{Named, live-lent}
-use Rattle.model.proofs.Order.{Ordered, ordered, live-named, access-inOrder, access-named, order-after}
-use Rattle.table.proofs.Laws.Places.{Alike, places-more}
-use Rattle.table.proofs.Laws.Find.{found-zero}
+use Rattle.model.proofs.Offered.{test, and-both, allowed, ordered-not-1, access-fits, Named, live-lent, Ordered, ordered, live-named, access-inOrder, access-named, order-after}
+use Rattle.table.proofs.Offered.{length-in, before-suc, before-same, length-before, extend, Alike, places-more, found-zero, numbered, orderly-live, orderly-rise, orderly-standing, orderly-judge, orderly-zeros}
 use Rattle.rules.proofs.Laws.Settle.{before-lent, kept-revoke}
-use Rattle.table.proofs.Laws.Judge.{numbered, orderly-live, orderly-rise, orderly-standing, orderly-judge, orderly-zeros}
 
 -- a new row after the live ones
 appended : (T : List Cap) (n k : ℕ) (c : Cap) → k < n → length T ≡ n → ((j : ℕ) → k ≤ j → j < n → getD T j emptyRow ≡ emptyRow) → set T k c ≡ lentTable n (c ∷ before T k)

@@ -12,7 +12,7 @@ use Rattle.model.specs.declared.Cap.{Cap}
 use Rattle.model.specs.Lists.{any}
 use Rattle.model.specs.Table.{named}
 use Rattle.table.specs.Rows.{nameAt, before, Rise, Found}
-use Rattle.model.proofs.Lists.{test, clash}
+use Rattle.model.proofs.Offered.{test, clash}
 use Rattle.table.proofs.Laws.Prefix.{none-named}
 
 -- the name x, if it is there, is at one of `size` places from `base` on

@@ -14,8 +14,7 @@ use Rattle.model.specs.declared.Cap.{Cap}
 use Rattle.model.specs.Lists.{first}
 use Rattle.model.specs.Refusals.{standing, judge, refusals, standings, viewOf}
 use Rattle.model.specs.Requests.{Group, isGroup, risesAbove, risesStrictly}
-use Rattle.model.proofs.Lists.{clash}
-use Rattle.model.proofs.Together.{name-refused, name-passed}
+use Rattle.model.proofs.Offered.{clash, name-refused, name-passed}
 use Rattle.table.specs.Rows.{before, Orderly}
 use Rattle.table.proofs.Laws.Judge.{orderly-live}
 

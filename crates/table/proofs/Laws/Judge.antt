@@ -30,9 +30,7 @@ use Rattle.model.specs.Answers.{number}
 use Rattle.model.specs.Requests.{Request, Single}
 use Rattle.table.specs.Rows.{before, Rise, LiveRows, Orderly}
 use Rattle.table.specs.Stands.{Passes, saidOf, roomFor}
-use Rattle.model.proofs.Lists.{test, and-both, first-none}
-use Rattle.model.proofs.Rows.{emptyRow-empty}
-use Rattle.model.proofs.Order.{Ordered, ordered, place, right-positive}
+use Rattle.model.proofs.Offered.{test, and-both, first-none, emptyRow-empty, Ordered, ordered, place, right-positive}
 use Rattle.table.proofs.Laws.Prefix.{length-before, place-of}
 use Rattle.table.proofs.Laws.Ordered.{rowsInOrder-rise, rowsInOrder-at, lookup-place, liveRowsFirst-front, live-front}
 

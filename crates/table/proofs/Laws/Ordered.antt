@@ -17,10 +17,7 @@ use Rattle.model.specs.Lists.{filter, any, all}
 use Rattle.model.specs.Table.{emptyRow, named, liveRows, lookup, isEmptyRow, liveRowsFirst, rowInOrder, rowsInOrder, inOrder}
 use Rattle.table.specs.Words.{rowsIn}
 use Rattle.table.specs.Rows.{nameAt, before, Filled, Rise, Front}
-use Rattle.model.proofs.Lists.{test, clash, unless, and-both}
-use Rattle.model.proofs.Ancestries.{below-differs}
-use Rattle.model.proofs.Rows.{emptyRow-empty}
-use Rattle.model.proofs.Order.{Rises, rises, risen, rowsInOrder-wider}
+use Rattle.model.proofs.Offered.{test, clash, unless, and-both, below-differs, emptyRow-empty, Rises, rises, risen, rowsInOrder-wider}
 use Rattle.table.proofs.Laws.Prefix.{last, before-suc}
 use Rattle.table.proofs.Laws.Words.{length-in}
 

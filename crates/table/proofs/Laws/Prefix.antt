@@ -15,7 +15,7 @@ use Rattle.model.specs.declared.Cap.{Cap}
 use Rattle.model.specs.Lists.{any}
 use Rattle.model.specs.Table.{emptyRow, named}
 use Rattle.table.specs.Rows.{nameAt, before}
-use Rattle.model.proofs.Lists.{All, test, clash, or-neither}
+use Rattle.model.proofs.Offered.{All, test, clash, or-neither}
 
 -- one more than those below m
 pub last : (i m : ℕ) → i < m + 1 → (i < m) ⊎ (i ≡ m)

@@ -12,7 +12,7 @@ use Rattle.model.specs.declared.Cap.{Cap}
 use Rattle.model.specs.Table.{emptyRow}
 use Rattle.table.specs.Words.{capOf, wordsOf, rowsIn}
 use Rattle.table.specs.Rows.{nameAt, Filled, Rise}
-use Rattle.model.proofs.Lists.{test}
+use Rattle.model.proofs.Offered.{test}
 use borrow.Author.Tests.{leb-true, leb-false}
 use lib.Dec.{leb}
 

@@ -12,7 +12,7 @@ use lib.Dec.{leb}
 use lib.ListN.{length, take, drop, set, length-drop, drop-of-length-le}
 use lib.Seq.{drop-drop, append-snoc, take-suc-set, sets-eq}
 use borrow.Author.Tests.{leb-true, le-leb}
-use Rattle.model.proofs.Lists.{and-both}
+use Rattle.model.proofs.Offered.{and-both}
 use Rattle.model.specs.declared.Refusal.{Refusal}
 use Rattle.model.specs.Requests.{isGroup, risesStrictly}
 use Rattle.text.specs.Result.{value, refused}

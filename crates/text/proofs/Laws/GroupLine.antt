@@ -11,7 +11,7 @@ use borrow.Author.Tests.{eqb-false}
 use Rattle.model.specs.declared.Name.{Name}
 use Rattle.model.specs.declared.Event.the-variants.{Drop}
 use Rattle.model.specs.Requests.{isGroup, risesAbove, risesStrictly}
-use Rattle.model.proofs.Lists.{clash}
+use Rattle.model.proofs.Offered.{clash}
 use Rattle.text.specs.Result.{value, refused}
 use Rattle.text.specs.Class.{classOf}
 use Rattle.text.specs.Line.{through, afterSpace, push, linesOf}

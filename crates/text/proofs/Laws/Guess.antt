@@ -11,7 +11,7 @@ use Rattle.text.specs.Class.{classOf}
 use Rattle.text.specs.Line.{through, afterSpace}
 use Rattle.text.specs.Decimal.{decimal, numberFrom}
 use Rattle.model.specs.Table.{isRight}
-use Rattle.model.proofs.Lists.{clash}
+use Rattle.model.proofs.Offered.{clash}
 use Rattle.text.specs.Event.{bytes, spaced, ending, spanNumbers, spell, writesName, hasSpelling, Below32, InRange}
 use Rattle.text.specs.Read.{nameOf, spanOf, rightOf, newNameOf, createOf, borrowOf, guess}
 use Rattle.text.specs.declared.spelling.Spelling.{Spelling}

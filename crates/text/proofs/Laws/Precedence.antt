@@ -12,8 +12,7 @@ use lib.ListN.{length}
 use borrow.Author.Tests.{leb-true, leb-false, lt-ltb, le-ltb}
 use Rattle.model.specs.Lists.{first}
 use Rattle.model.specs.Refusals.{place}
-use Rattle.model.proofs.Lists.{test, listed}
-use Rattle.model.proofs.Precedence.{risesFrom, first-holds, first-lowest}
+use Rattle.model.proofs.Offered.{test, listed, risesFrom, first-holds, first-lowest}
 use Rattle.model.specs.declared.Event.{Event}
 use Rattle.model.specs.Requests.{isGroup}
 use Rattle.text.specs.Result.{refusalOf}

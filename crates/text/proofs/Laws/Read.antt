@@ -7,7 +7,7 @@ use Prim.Native.Nat.{ℕ}
 use lib.Dec.{eqb}
 use lib.ListN.{getD}
 use borrow.Author.Tests.{eqb-true, eq-eqb, ne-eqb}
-use Rattle.model.proofs.Lists.{clash, and-both}
+use Rattle.model.proofs.Offered.{clash, and-both}
 use Rattle.text.specs.Line.{afterSpace}
 use Rattle.text.specs.Read.{same, nameOf, spanOf, fromName, createOf, borrowOf, guess}
 use Rattle.text.specs.declared.spelling.Spelling.{Spelling}

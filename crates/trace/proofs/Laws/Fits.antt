@@ -16,7 +16,7 @@ use Rattle.model.specs.Table.{liveRows, inOrder}
 use Rattle.model.specs.Requests.{Request, Single, Group}
 use Rattle.model.specs.Refusals.{viewOf, standings, refusals, judge}
 use Rattle.model.specs.Step.{State, initial, answer}
-use Rattle.model.proofs.Lists.{and-both}
+use Rattle.model.proofs.Offered.{and-both}
 use Rattle.text.specs.Event.{spaced}
 use Rattle.text.specs.Line.{linesOf}
 use Rattle.text.specs.Result.{Result, value, refused}
@@ -26,10 +26,9 @@ use Rattle.text.specs.Write.{stored, Writes}
 use Rattle.text.specs.declared.write.Written.{Written}
 use Rattle.text.specs.declared.spelling.Spelling.{Spelling}
 use Rattle.text.specs.declared.spelling.Spelling.the-variants.{Plain, Named}
-use Rattle.text.proofs.Laws.Digits.{decimal-under}
-use Rattle.text.proofs.Laws.GroupLine.{refused-group-is-2}
+use Rattle.text.proofs.Offered.{decimal-under, refused-group-is-2}
 use Rattle.listing.specs.Listing.{listing}
-use Rattle.listing.proofs.Laws.Fits.{listing-fits}
+use Rattle.listing.proofs.Offered.{listing-fits}
 use Rattle.text.specs.Request.{groupOf, orGroup}
 use Rattle.trace.specs.Run.{Ran, takeRead, takeLine, runLines, runTrace, runFrom, lent, run}
 use Rattle.trace.specs.Check.{answerLine, noCounts, checkText}

@@ -10,15 +10,14 @@ use lib.Seq.{length-take-le}
 use Rattle.model.specs.declared.Tally.{Tally}
 use Rattle.model.specs.Step.{State}
 use Rattle.model.specs.Table.{inOrder}
-use Rattle.model.proofs.Lists.{clash}
+use Rattle.model.proofs.Offered.{clash}
 use Rattle.table.specs.Words.{rowsIn}
 use Rattle.rules.specs.Steps.{lends}
 use Rattle.text.specs.Class.{newline}
 use Rattle.text.specs.Line.{through, nextLine, linesOf}
 use Rattle.text.specs.Read.{same}
 use Rattle.text.specs.declared.spelling.Spelling.the-variants.{Plain, Named}
-use Rattle.text.proofs.Laws.Line.{lines-next, through-le}
-use Rattle.text.proofs.Laws.Read.{same-refl, same-true}
+use Rattle.text.proofs.Offered.{lines-next, through-le, same-refl, same-true}
 use Rattle.trace.specs.declared.run.RunOutcome.{RunOutcome}
 use Rattle.trace.specs.Run.{header, Checker, runLines, runTrace, runFrom, lent, run, Runs, RunsLines}
 

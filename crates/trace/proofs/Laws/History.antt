@@ -13,8 +13,7 @@ use Rattle.model.specs.Step.{Verdict, State, initial}
 use Rattle.model.specs.Step
 use Rattle.model.specs.History.{History, emptyHistory}
 use Rattle.model.specs.History
-use Rattle.model.proofs.Match.{Match, at-first}
-use Rattle.model.proofs.Match
+use Rattle.model.proofs.Offered.{Match, at-first, match-answer, match-after}
 use Rattle.text.specs.Result.{Result, value, refused}
 use Rattle.text.specs.Line.{linesOf}
 use Rattle.text.specs.Read.{same}
@@ -40,7 +39,7 @@ module _ (n : ℕ) where
     where
       go : (r : Result Request) → SameLine (takeRead lent h r) (takeRead (noted n) H r)
       go (value q) =
-          record { refusals = ap (λ (v : Verdict). v .refusal) (Match.same-answer n h H m q); match = Match.match-after n h H m q }
+          record { refusals = ap (λ (v : Verdict). v .refusal) (match-answer n h H m q); match = match-after n h H m q }
       go (refused x) = record { refusals = refl; match = record { same-table = m .same-table; same-issued = m .same-issued; kept = m .kept } }
 
   same-lines : (k : Spelling) (before : ℕ) (h : State) (H : History) → Match n h H → (ls : List (List ℕ)) → Same (runLines lent k before h ls) (runLines (noted n) k before H ls)

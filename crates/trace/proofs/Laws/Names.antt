@@ -8,8 +8,7 @@ use lib.ListN.{length, replicate, take, drop, length-append, length-replicate}
 use lib.Seq.{take-append-seam}
 use Rattle.text.specs.Result.{Result, value, refused}
 use Rattle.text.specs.Group.{readGroup, countOf, namesAfter}
-use Rattle.text.proofs.Laws.Group.{names-after, group-few}
-use Rattle.text.proofs.Laws.GroupLine.{read-group-is-spelling, refused-group-is-2}
+use Rattle.text.proofs.Offered.{names-after, group-few, read-group-is-spelling, refused-group-is-2}
 
 -- the line reads as names, of which there are n, and the first n of the array are these
 pub record Got (line : List ℕ) (n : ℕ) (after : List ℕ) : Type 0 where

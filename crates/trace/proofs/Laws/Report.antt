@@ -15,7 +15,7 @@ use Rattle.model.specs.declared.Refusal.{Refusal}
 use Rattle.model.specs.Answers.{number}
 use Rattle.model.specs.Table.{emptyRow, inOrder}
 use Rattle.model.specs.Step.{State, initial}
-use Rattle.model.proofs.Order.{order-fresh}
+use Rattle.model.proofs.Offered.{order-fresh}
 use Rattle.table.specs.Words.{capOf, rowsIn}
 use Rattle.rules.specs.Steps.{lends}
 use Rattle.text.specs.Event.{bytes, line}

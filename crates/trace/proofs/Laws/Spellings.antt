@@ -16,9 +16,7 @@ use Rattle.model.specs.Effects.{issuedAfter}
 use Rattle.model.specs.Step.{State, initial, answer, after}
 use Rattle.model.specs.Table.{inOrder}
 use Rattle.model.specs.Named.{unnamed, rightlyNamed, allRightlyNamed}
-use Rattle.model.proofs.Lists.{test}
-use Rattle.model.proofs.Named.{same-answer, same-after, issued-allowed}
-use Rattle.model.proofs.Order.{ordered, order-after}
+use Rattle.model.proofs.Offered.{test, same-answer, same-after, issued-allowed, ordered, order-after}
 use Rattle.text.specs.Class.{classOf, newline}
 use Rattle.text.specs.Line.{through, nextLine, linesOf}
 use Rattle.text.specs.Decimal.{numeral, decimal, numberFrom}
@@ -28,11 +26,7 @@ use Rattle.text.specs.Read.{same, guess, readEvent}
 use Rattle.text.specs.Result.{value, refused}
 use Rattle.text.specs.declared.spelling.Spelling.{Spelling}
 use Rattle.text.specs.declared.spelling.Spelling.the-variants.{Plain, Named}
-use Rattle.text.proofs.Laws.Line.{lines-next, next-some}
-use Rattle.text.proofs.Laws.OneLine.{spell-is-line, header-is-no-event}
-use Rattle.text.proofs.Laws.GroupLine.{group-reads-back, group-is-line, group-is-no-event}
-use Rattle.text.proofs.Laws.Read.{same-true}
-use Rattle.text.proofs.Laws.OneSpelling.{spelling-reads-back}
+use Rattle.text.proofs.Offered.{lines-next, next-some, spell-is-line, header-is-no-event, group-reads-back, group-is-line, group-is-no-event, same-true, spelling-reads-back}
 use Rattle.text.specs.Request.{readRequest}
 use Rattle.trace.specs.Run.{header, Ran, runLines, runFrom, lent, run}
 use Rattle.trace.specs.Check.{report, noCounts, checkText}

@@ -14,9 +14,7 @@ use Rattle.model.specs.declared.Event.{Event}
 use Rattle.model.specs.Table.{inOrder}
 use Rattle.model.specs.Step.{State, answer}
 use Rattle.model.specs.Requests.{Request}
-use Rattle.model.proofs.Lists.{test, clash}
-use Rattle.model.proofs.Judged.{ordered-not-1}
-use Rattle.model.proofs.Frame.{refused-table, refused-tally}
+use Rattle.model.proofs.Offered.{test, clash, ordered-not-1, refused-table, refused-tally}
 use Rattle.text.specs.Class.{classOf, newline}
 use Rattle.text.specs.Line.{push, linesOf}
 use Rattle.text.specs.Event.{bytes}
@@ -25,7 +23,7 @@ use Rattle.text.specs.Group.{readGroup}
 use Rattle.text.specs.Result.{Result, value, refused}
 use Rattle.text.specs.declared.spelling.Spelling.{Spelling}
 use Rattle.text.specs.declared.spelling.Spelling.the-variants.{Plain, Named}
-use Rattle.text.proofs.Laws.GroupLine.{refused-group-is-2}
+use Rattle.text.proofs.Offered.{refused-group-is-2}
 use Rattle.text.specs.Request.{orGroup, readRequest}
 use Rattle.trace.specs.Run.{header, Taken, Ran, takeRead, takeLine, runLines, runTrace, runFrom, lent, run}
 use Rattle.trace.specs.Stops.{firstLines, runBefore, LineZero, RefusedLine, Stops}

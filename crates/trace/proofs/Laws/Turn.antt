@@ -15,7 +15,7 @@ use Rattle.text.specs.Group.{readGroup}
 use Rattle.model.specs.Requests.{Request, Single, Group}
 use Rattle.text.specs.declared.spelling.Spelling.{Spelling}
 use Rattle.text.specs.Result.{Result, value, refused}
-use Rattle.text.proofs.Laws.Line.{lines-next, next-some, through-le}
+use Rattle.text.proofs.Offered.{lines-next, next-some, through-le}
 use Rattle.model.specs.declared.Cap.{Cap}
 use Rattle.model.specs.declared.Event.{Event}
 use Rattle.model.specs.declared.Tally.{Tally}
@@ -28,11 +28,11 @@ use Rattle.model.specs.Answers.{number, verdictOf}
 use Rattle.model.specs.Counts.{countRefused}
 use Rattle.model.specs.Step.{Verdict, State}
 use Rattle.model.specs.Table.{inOrder}
-use Rattle.model.proofs.Order.{order-after}
+use Rattle.model.proofs.Offered.{order-after}
 use Rattle.rules.specs.declared.Outcome.{Outcome}
 use Rattle.table.specs.Words.{rowsIn}
 use Rattle.rules.specs.Steps.{lends, Stepped}
-use Rattle.table.proofs.Laws.Judge.{numbered}
+use Rattle.table.proofs.Offered.{numbered}
 use Rattle.trace.specs.declared.run.RunAnswer.the-variants.{Refused as RunRefused}
 use Rattle.text.specs.Request.{readRequest}
 use Rattle.trace.specs.Run.{takeRead, takeLine, runLines, lent, ranOf, TakesGroup, Takes}

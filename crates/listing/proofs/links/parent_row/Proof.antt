@@ -15,7 +15,7 @@ use Rattle.table.specs.Words.{rowsIn}
 use Rattle.listing.specs.First.{firstRows}
 use Rattle.table.specs.Rows.{nameAt, parentAt, Found}
 use Rattle.listing.proofs.Laws.First.{length-first, first-at}
-use Rattle.table.proofs.Laws.Prefix.{named-none}
+use Rattle.table.proofs.Offered.{named-none}
 use Rattle.listing.proofs.Laws.Sorted.{InOrder}
 use Rattle.listing.proofs.Laws.Live.{live-order, rise-in, parent-earlier}
 use Rattle.listing.proofs.links.parent_row.Statement.{statement}

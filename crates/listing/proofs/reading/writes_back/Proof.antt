@@ -8,11 +8,10 @@ use Prim.Native.Nat.{ℕ, _≤_}
 use native.Mathlib.Omega.{arith}
 use lib.ListN.{length}
 use lib.Seq.{length-take-le}
-use Rattle.model.proofs.Lists.{clash}
+use Rattle.model.proofs.Offered.{clash}
 use Rattle.listing.specs.First.{firstRows}
 use Rattle.listing.specs.Listing.{listed}
-use Rattle.text.proofs.Laws.Write.{wrote, wrote-none}
-use Rattle.text.proofs.Laws.Read.{same-is}
+use Rattle.text.proofs.Offered.{wrote, wrote-none, same-is}
 use borrow.Author.Needs.{needs}
 use Rattle.listing.proofs.reading.writes_back.Statement.{statement}
 use Rattle.listing.proofs.reading.writes_back.Tie as tie

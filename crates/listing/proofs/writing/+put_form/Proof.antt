@@ -15,7 +15,7 @@ use Rattle.listing.proofs.Laws.First.{first-at}
 use Rattle.model.specs.Table.{emptyRow}
 use Rattle.text.specs.Put.{Put, Room}
 use Rattle.listing.specs.Listing.{pieces}
-use Rattle.text.proofs.Laws.Put.{put-length}
+use Rattle.text.proofs.Offered.{put-length}
 use Rattle.listing.proofs.Laws.Listing.{within, beyond}
 use Rattle.listing.proofs.Laws.Forms.{Inside, bracket-room, pieces-fit, entered, space-fits, child-fits, passed, bracket-fits, closed, formed}
 use Rattle.listing.proofs.writing.put_form.Reads as put-form

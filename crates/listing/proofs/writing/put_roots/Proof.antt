@@ -7,7 +7,7 @@ use lib.ListN.{getD}
 use borrow.Author.Needs.{needs}
 use Rattle.listing.specs.First.{firstRows}
 use Rattle.listing.proofs.Laws.First.{length-first}
-use Rattle.text.proofs.Laws.Put.{put-length}
+use Rattle.text.proofs.Offered.{put-length}
 use Rattle.listing.proofs.Laws.Listing.{within, beyond}
 use Rattle.listing.proofs.Laws.Forms.{Lines, first-line, line-fits, newline-fits, next-line, all-lines}
 use Rattle.listing.proofs.writing.put_roots.Statement.{statement}

@@ -15,7 +15,7 @@ use Rattle.listing.specs.Listing.{listed, listing}
 use Rattle.text.specs.Write.{Writes, written, stored}
 use Rattle.listing.specs.WriteListing.{listingWritten, listingStored, WritesListing}
 use Rattle.text.specs.declared.write.Written.{Written}
-use Rattle.table.proofs.Laws.Ordered.{too-many}
+use Rattle.table.proofs.Offered.{too-many}
 use Rattle.listing.proofs.Laws.Lent.{not-written}
 use Rattle.listing.proofs.Laws.Front.{front-live, front-listing}
 use borrow.Author.Needs.{needs}

@@ -3,7 +3,7 @@
 use native.Mathlib.Omega.{arith}
 use Rattle.listing.specs.First.{firstRows}
 use Rattle.listing.specs.Listing.{listed}
-use Rattle.text.proofs.Laws.Write.{writes-none, writes-put}
+use Rattle.text.proofs.Offered.{writes-none, writes-put}
 use borrow.Author.Needs.{needs}
 use Rattle.listing.proofs.writing.write_rows.Statement.{statement}
 use Rattle.listing.proofs.writing.write_rows.Tie as tie

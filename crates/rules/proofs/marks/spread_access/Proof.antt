@@ -7,7 +7,7 @@ use native.Mathlib.Omega.{arith}
 use lib.Dec.{eqb, ltb}
 use lib.ListN.{getD, length-replicate}
 use Rattle.model.specs.Table.{span}
-use Rattle.table.proofs.Laws.Words.{rise-fits}
+use Rattle.table.proofs.Offered.{rise-fits}
 use Rattle.table.specs.Words.{rowsIn}
 use Rattle.rules.specs.Engine.{own, ownOfAccess}
 use Rattle.rules.proofs.Laws.Marks.{Spreading, spread-none, spread-more}

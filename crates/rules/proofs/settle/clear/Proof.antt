@@ -6,7 +6,7 @@ use native.Mathlib.Omega.{arith}
 use lib.ListN.{length, set}
 use Rattle.table.specs.Words.{rowsIn}
 use Rattle.rules.specs.Engine.{Clears}
-use Rattle.table.proofs.Laws.Words.{length-in}
+use Rattle.table.proofs.Offered.{length-in}
 use Rattle.rules.proofs.Laws.Settle.{clears-none, clears-more}
 use Rattle.rules.proofs.settle.clear.Statement.{statement}
 use Rattle.rules.proofs.settle.clear.Tie as tie

@@ -6,7 +6,7 @@ use native.Mathlib.Omega.{arith}
 use lib.ListN.{length}
 use Rattle.table.specs.Words.{rowsIn}
 use Rattle.rules.specs.Engine.{Lowers}
-use Rattle.table.proofs.Laws.Words.{length-in}
+use Rattle.table.proofs.Offered.{length-in}
 use Rattle.rules.proofs.Laws.Settle.{lowers-none, lowers-more}
 use Rattle.rules.proofs.settle.lower.Statement.{statement}
 use Rattle.rules.proofs.settle.lower.Tie as tie

@@ -4,7 +4,7 @@ use native.Mathlib.Omega.{arith}
 use lib.ListN.{length}
 use borrow.Author.Needs.{needs}
 use Rattle.table.specs.Words.{rowsIn}
-use Rattle.table.proofs.Laws.Words.{length-in}
+use Rattle.table.proofs.Offered.{length-in}
 use Rattle.rules.proofs.Laws.Steps.{appended-settled}
 use Rattle.rules.proofs.steps.append.Statement.{statement}
 use Rattle.rules.proofs.steps.append.Tie as tie

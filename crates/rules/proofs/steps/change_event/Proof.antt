@@ -17,8 +17,7 @@ use Rattle.model.specs.Refusals.{viewOf, judge}
 use Rattle.model.specs.Effects.{afterAccess, rowsWithout, rowsAfter}
 use Rattle.table.specs.Words.{rowsIn}
 use Rattle.table.specs.Rows.{before, Found}
-use Rattle.table.proofs.Laws.Words.{length-in}
-use Rattle.table.proofs.Laws.Judge.{orderly-issued, orderly-few, orderly-rise}
+use Rattle.table.proofs.Offered.{length-in, orderly-issued, orderly-few, orderly-rise}
 use Rattle.rules.proofs.Laws.Steps.{ready, access-rows, access-few, access-ready, access-root, room-create, room-borrow, there-borrow, depth-borrow, next-create, next-borrow, next-read, next-write, next-drop}
 use Rattle.rules.proofs.steps.change_event.Statement.{statement}
 use Rattle.rules.proofs.steps.change_event.Tie as tie

@@ -3,10 +3,8 @@
 use mathlib.Core.Path.{sym, ap, _∙_}
 use native.Mathlib.Omega.{arith}
 use Rattle.model.specs.declared.Cap.{Cap}
-use Rattle.table.proofs.Laws.Words.{rise-fits}
+use Rattle.table.proofs.Offered.{rise-fits, found-there, lookup-place}
 use Rattle.table.specs.Words.{rowsIn}
-use Rattle.table.proofs.Laws.Find.{found-there}
-use Rattle.table.proofs.Laws.Ordered.{lookup-place}
 use Rattle.rules.proofs.steps.depth_at.Statement.{statement}
 use Rattle.rules.proofs.steps.depth_at.Tie as tie
 

@@ -9,7 +9,7 @@ use Rattle.model.specs.Effects.{afterAccess}
 use Rattle.table.specs.Words.{rowsIn}
 use Rattle.table.specs.Rows.{before}
 use Rattle.rules.specs.Engine.{kept}
-use Rattle.table.proofs.Laws.Words.{length-in}
+use Rattle.table.proofs.Offered.{length-in}
 use Rattle.rules.proofs.Laws.Settle.{lowered-settled}
 use Rattle.rules.proofs.Laws.Steps.{read-marks, kept-used}
 use Rattle.rules.proofs.steps.read_rows.Statement.{statement}

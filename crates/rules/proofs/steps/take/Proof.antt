@@ -11,7 +11,7 @@ use Rattle.model.specs.Effects.{newName}
 use Rattle.model.specs.Step.{Verdict, verdict}
 use Rattle.model.specs.Answers.{verdictOf}
 use Rattle.table.specs.Words.{rowsIn}
-use Rattle.table.proofs.Laws.Judge.{orderly-issued}
+use Rattle.table.proofs.Offered.{orderly-issued}
 use Rattle.rules.proofs.Laws.Steps.{allowed-zero, stepped-allowed, stepped-refused, orderly-after, counted}
 use Rattle.rules.proofs.steps.take.Statement.{statement}
 use Rattle.rules.proofs.steps.take.Tie as tie

@@ -8,7 +8,7 @@ use lib.ListN.{length}
 use borrow.Author.Needs.{needs}
 use borrow.Author.Tests.{not-true, not-false}
 use Rattle.model.specs.Step.{verdict}
-use Rattle.model.proofs.Together.{misgrouped-next}
+use Rattle.model.proofs.Offered.{misgrouped-next}
 use Rattle.table.specs.Words.{rowsIn}
 use Rattle.table.proofs.Laws.Judge.{orderly-few, orderly-rise}
 use Rattle.table.proofs.Laws.Groups.{group-judged}

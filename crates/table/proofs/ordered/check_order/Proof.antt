@@ -6,7 +6,7 @@ use native.Mathlib.Omega.{arith}
 use lib.ListN.{length}
 use borrow.Author.Tests.{not-true, not-false}
 use Rattle.table.specs.Words.{rowsIn}
-use Rattle.model.proofs.Lists.{clash}
+use Rattle.model.proofs.Offered.{clash}
 use Rattle.table.proofs.Laws.Words.{length-in}
 use Rattle.table.proofs.Laws.Ordered.{order-names, order-zeros, order-rest}
 use Rattle.table.proofs.ordered.check_order.Statement.{statement}

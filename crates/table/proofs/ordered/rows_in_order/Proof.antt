@@ -10,7 +10,7 @@ use Rattle.model.specs.Table.{rowInOrder}
 use Rattle.table.proofs.Laws.Words.{filled-fits}
 use Rattle.table.specs.Words.{rowsIn}
 use Rattle.table.specs.Rows.{nameAt, parentAt, before, Found, Places}
-use Rattle.model.proofs.Lists.{clash}
+use Rattle.model.proofs.Offered.{clash}
 use Rattle.table.proofs.Laws.Places.{places-none, places-more}
 use Rattle.table.proofs.Laws.Ordered.{Checked, checked-none, checked-more, checked-all, fails-name, fails-place, rowsInOrder-rise}
 use Rattle.table.proofs.ordered.rows_in_order.Statement.{statement}

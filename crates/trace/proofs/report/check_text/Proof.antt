@@ -3,8 +3,8 @@
 use borrow.Author.Needs.{needs}
 use mathlib.Core.Path.{refl}
 use native.Mathlib.Omega.{arith}
-use Rattle.model.proofs.Lists.{clash}
-use Rattle.text.proofs.Laws.Write.{wrote, wrote-none}
+use Rattle.model.proofs.Offered.{clash}
+use Rattle.text.proofs.Offered.{wrote, wrote-none}
 use Rattle.trace.proofs.Laws.Fits.{check-fits, room, kept}
 use Rattle.trace.proofs.report.check_text.Statement.{statement}
 use Rattle.trace.proofs.report.check_text.Tie as tie

@@ -6,7 +6,7 @@ use mathlib.Core.List.{List, [], _++_}
 use Prim.Native.Nat.{ℕ}
 use Rattle.text.specs.Event.{bytes, spaced}
 use Rattle.text.specs.Put.{Put}
-use Rattle.listing.proofs.Laws.Writing.{Writing, begin, piece, fits, finish}
+use Rattle.listing.proofs.Offered.{Writing, begin, piece, fits, finish}
 use Rattle.trace.proofs.report.put_line.Statement.{statement}
 use Rattle.trace.proofs.report.put_line.Tie as tie
 

@@ -3,7 +3,7 @@
 use borrow.Author.Needs.{needs}
 use native.Mathlib.Omega.{arith}
 use Rattle.text.specs.Event.{bytes}
-use Rattle.text.proofs.Laws.Write.{writes-none, writes-put}
+use Rattle.text.proofs.Offered.{writes-none, writes-put}
 use Rattle.trace.proofs.report.write_long.Statement.{statement}
 use Rattle.trace.proofs.report.write_long.Tie as tie
 

@@ -6,7 +6,7 @@ use mathlib.Core.List.{_++_}
 use lib.ListN.{length-append}
 use Rattle.table.specs.Words.{rowsIn}
 use Rattle.listing.specs.Listing.{listing}
-use Rattle.text.proofs.Laws.Write.{writes-none}
+use Rattle.text.proofs.Offered.{writes-none}
 use Rattle.trace.specs.Check.{answerLine}
 use Rattle.trace.proofs.Laws.Report.{listing-writes, behind-room, behind-fits, behind-none, behind-all}
 use Rattle.trace.proofs.report.write_report.Statement.{statement}

@@ -3,7 +3,7 @@
 use mathlib.Core.Path.{sym, _∙_}
 use borrow.Author.Needs.{needs}
 use Rattle.text.specs.Line.{nextLine}
-use Rattle.text.proofs.Laws.Read.{same-is}
+use Rattle.text.proofs.Offered.{same-is}
 use Rattle.trace.specs.Run.{header}
 use Rattle.trace.proofs.run.is_named.Statement.{statement}
 use Rattle.trace.proofs.run.is_named.Tie as tie

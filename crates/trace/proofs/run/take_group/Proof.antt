@@ -9,7 +9,7 @@ use Rattle.model.specs.declared.Tally.{Tally}
 use Rattle.model.specs.Answers.{number}
 use Rattle.text.specs.Result.{Result, value, refused}
 use Rattle.text.specs.Group.{readGroup, groupAnswer, countOf}
-use Rattle.text.proofs.Laws.GroupLine.{refused-group-is-2}
+use Rattle.text.proofs.Offered.{refused-group-is-2}
 use Rattle.trace.proofs.Laws.Turn.{taken-group, taken-misspelt}
 use Rattle.trace.proofs.Laws.Names.{Got, got, none-got}
 use borrow.Author.Needs.{needs}

@@ -1,0 +1,14 @@
+-- What the crates above may cite of this one: its definitions in specs/, and these laws.
+-- Assumes nothing.
+pub use Rattle.text.proofs.Laws.Digits.{decimal-under, decimal-width, digitAt}
+unfoldable pub use Rattle.text.proofs.Laws.Digits.{digits}
+pub use Rattle.text.proofs.Laws.Group.{group-few, names-after}
+pub use Rattle.text.proofs.Laws.GroupLine.{group-is-line, group-is-no-event, group-reads-back, read-group-is-spelling, refused-group-is-2}
+pub use Rattle.text.proofs.Laws.Line.{lines-next, next-some, through-le}
+pub use Rattle.text.proofs.Laws.Number.{Stops, digit-class, digit-small, number-of-small}
+pub use Rattle.text.proofs.Laws.OneLine.{header-is-no-event, spell-is-line}
+pub use Rattle.text.proofs.Laws.OneSpelling.{spelling-reads-back}
+pub use Rattle.text.proofs.Laws.Put.{put-length, put-next, sets-first}
+pub use Rattle.text.proofs.Laws.Read.{same-is, same-refl, same-true}
+pub use Rattle.text.proofs.Laws.Words.{next, number-is, plain-decimal, rights}
+pub use Rattle.text.proofs.Laws.Write.{Wrote, writes-none, writes-put, wrote, wrote-none}
