@@ -5,6 +5,7 @@
 //! `bench [rows] [shapes] [many]`: with words only those tables are made.
 
 mod batch;
+mod clock;
 mod print;
 mod random;
 mod shape;
@@ -105,15 +106,15 @@ const MANY_EVENTS: usize = 1_000;
 const MANY_SIZES: [usize; 4] = [16, 64, 256, 1_000];
 
 const NOTES: &str = "\
-Times are medians for one call, both implementations taking turns; 'growth' is the time over the
-time at a quarter of the rows. All rows are live: two trees of borrows, their rows in turn. Each
-timed apply and run has a fresh copy of the table, made outside the timed part. 'apply create' makes
-a root beside the trees and ends nothing; 'apply reuse' is a create over one tree's whole span and
-ends its rows, half of all. The read, write and drop go through one tree's root over its whole span
-and so meet half of the rows; 'apply refused' is a read through it outside of its span. A listing is
-written into and read from the same buffers each time. A run takes up to 65,536 bytes of lines, all
-allowed and in the same proportions at every size, that keep the table nearly full; its creates are
-beside the trees and end nothing.";
+Times are medians of the processor time of one call, both implementations taking turns; 'growth' is
+the time over the time at a quarter of the rows. All rows are live: two trees of borrows, their rows
+in turn. Each timed apply and run has a fresh copy of the table, made outside the timed part. 'apply
+create' makes a root beside the trees and ends nothing; 'apply reuse' is a create over one tree's
+whole span and ends its rows, half of all. The read, write and drop go through one tree's root over
+its whole span and so meet half of the rows; 'apply refused' is a read through it outside of its
+span. A listing is written into and read from the same buffers each time. A run takes up to 65,536
+bytes of lines, all allowed and in the same proportions at every size, that keep the table nearly
+full; its creates are beside the trees and end nothing.";
 
 const SHAPE_NOTES: &str = "\
 The same calls by shape, through the first row over its whole span: the library's time over the

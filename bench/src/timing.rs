@@ -1,8 +1,10 @@
 //! Medians over batches.
 
-use std::time::{Duration, Instant};
+use std::time::Duration;
 
 use interface::Interface;
+
+use crate::clock;
 
 /// The implementations that are timed side by side.
 pub type Contenders = [&'static dyn Interface];
@@ -40,9 +42,9 @@ pub fn median_times(contenders: &Contenders, batch: &mut dyn Batch) -> Vec<f64> 
 
 fn time(implementation: &dyn Interface, batch: &mut dyn Batch) -> Duration {
     batch.prepare();
-    let start = Instant::now();
+    let start = clock::now();
     batch.call(implementation);
-    start.elapsed()
+    clock::now() - start
 }
 
 fn median(mut times: Vec<Duration>) -> Duration {
