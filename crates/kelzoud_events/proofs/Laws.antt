@@ -1,13 +1,22 @@
--- The numbers of answers: no refusal's is above 13, and a refusal and a value that are packed into one number are found again in it.
+-- The numbers of answers: no refusal's is above 13, and a refusal and a value that are packed into one number are found again in it. And the
+-- words of a request stand for it.
 -- Assumes nothing.
 use mathlib.Core.Path.{_≡_, refl, ap, _∙_}
-use Prim.Native.Nat.{ℕ, _+_, _*_, _/_, _%_, _≤_}
+use mathlib.Core.List.{List, _++_}
+use Prim.Native.Nat.{ℕ, _+_, _*_, _/_, _%_, _<_, _≤_}
 use native.Mathlib.Nat.{min-eq-left, min-eq-right, div-eq-of-lt, mod-eq-of-lt, mul-add-div-right, mul-add-mod-self-right, add-zero}
 use native.Mathlib.Omega.{arith}
+use lib.ListN.{length, length-append}
+use lib.Seq.{take-append-seam}
+use borrow.Author.Tests.{lt-ltb, le-leb}
+use Rattle.model.specs.declared.NewName.the-variants.{Unwritten, Written}
+use Rattle.model.specs.declared.Event.{Event}
+use Rattle.model.specs.declared.Event.the-variants.{Create, Borrow, Read, Write, Drop}
+use Rattle.model.specs.Requests.{Single, Group}
 use Rattle.model.specs.declared.Refusal.{Refusal}
 use Rattle.model.specs.declared.Refusal.the-variants.{Disordered, Misspelt, IllegalSpan, Unissued, Ended, OutsideSpan, ReadOnly, TooDeep, NamesSpent, TableFull, BufferTooShort, Misnamed, Misgrouped}
 use Rattle.model.specs.Answers.{number}
-use Rattle.kelzoud_events.specs.Interface.{packed}
+use Rattle.kelzoud_events.specs.Interface.{packed, eventWith, eventIn, askedIn, part, requestIn, wordsOf}
 
 pub number-small : (r : Refusal) → number r ≤ 13
 number-small Disordered = omega arith
@@ -58,3 +67,28 @@ module _ (k n : ℕ) (h : n ≤ 4294967295) where
 pub packed-large : (k n : ℕ) → 4294967295 ≤ n → packed k n ≡ packed k 4294967295
 unfolding packed
 packed-large k n h = rw (min-eq-right h)
+
+-- ---- the words of a request stand for it
+
+-- a right is a byte
+abbrev pub RightFits : Event → Type 0
+RightFits (Create w s r) = r < 256
+RightFits (Borrow w n s r) = r < 256
+RightFits (Read n s) = Unit {0}
+RightFits (Write n s) = Unit {0}
+RightFits (Drop n) = Unit {0}
+
+pub event-back : (e : Event) (names : List ℕ) → RightFits e → requestIn (wordsOf (Single e)) names ≡ Single e
+unfolding wordsOf askedIn eventIn eventWith
+event-back (Create Unwritten s r) names h = rw (lt-ltb r 256 h)
+event-back (Create (Written x) s r) names h = rw (lt-ltb r 256 h)
+event-back (Borrow Unwritten n s r) names h = rw (lt-ltb r 256 h)
+event-back (Borrow (Written x) n s r) names h = rw (lt-ltb r 256 h)
+event-back (Read n s) names h = refl
+event-back (Write n s) names h = refl
+event-back (Drop n) names h = refl
+
+-- the names of a group stand first in their list
+pub group-back : (names rest : List ℕ) → requestIn (wordsOf (Group names)) (names ++ rest) ≡ Group names
+unfolding wordsOf askedIn part
+group-back names rest = rw (le-leb (0 + length names) (length (names ++ rest)) (omega (arith, length-append names rest)), take-append-seam names rest)

@@ -2,6 +2,7 @@
 use crate::answers::answer_words;
 use crate::events::asked_in;
 use crate::events::names_in;
+use model::Answer;
 use model::Tally;
 use rules::steps::take;
 use table::Row;
@@ -11,18 +12,36 @@ use table::ordered::Look;
 use table::ordered::look_at;
 ghost use mathlib.Core.Path.{_≡_};
 ghost use mathlib.Core.List.{[], _∷_, _++_};
-ghost use Prim.Native.Nat.{_≤_, min};
-ghost use lib.ListN.{length, drop, replicate};
+ghost use Prim.Native.Nat.{_<_, _≤_, min};
+ghost use lib.ListN.{length, getD, set, drop, replicate};
+ghost use Rattle.model.specs.Answers.{verdictOf};
 ghost use Rattle.table.specs.Words.{rowsIn};
 ghost use Rattle.table.specs.Lent.{tallyIn, lent};
 ghost use Rattle.table.specs.Known.{Known};
 ghost use Rattle.rules.specs.Steps.{lends};
+ghost use Rattle.kelzoud_events.specs.Interface.{answerWords};
 ghost use Rattle.kelzoud_events.specs.Batch.{taken, afterAll, answersAll, Ran};
 
 fn fewer(a: usize, b: usize) -> usize
     ensures { λ r. ⌜ r ≡ min a b ⌝ }
 {
     if a < b { a } else { b }
+}
+
+// The words of an event. Internal: the caller keeps i within the events.
+fn words_at(events: &[[u32; 7]], i: usize) -> [u32; 7]
+    requires { ⌜ i < length (now events) ⌝ }
+    ensures { λ r. ⌜ r ≡ getD (now (events .entry)) i [] ⌝ }
+{
+    events[i]
+}
+
+// Puts an answer there. Internal, in the same way.
+fn put_answer(answers: &mut [[u32; 2]], i: usize, answer: Answer)
+    requires { ⌜ i < length (now answers) ⌝ }
+    ensures { λ _. ⌜ now (answers .exit) ≡ set (now (answers .entry)) i (answerWords (verdictOf answer)) ⌝ }
+{
+    answers[i] = answer_words(answer);
 }
 
 // The first m events on a table in order, refused ones too; the answer is the tally after them.
@@ -43,14 +62,14 @@ fn take_turns(
     let mut alive = live;
     let mut i: usize = 0;
     while i < m {
-        let words = events[i];
+        let words = words_at(events, i);
         let asked = asked_in(words);
         let part = names_in(words, names);
         let p = take(table, alive, places, tally, asked, part);
         let outcome = p.outcome;
         let after = outcome.tally;
         let answer = outcome.answer;
-        answers[i] = answer_words(answer);
+        put_answer(answers, i, answer);
         tally = after;
         alive = p.live;
         i += 1;

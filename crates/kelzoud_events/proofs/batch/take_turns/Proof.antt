@@ -4,7 +4,7 @@ use mathlib.Core.Path.{_≡_, refl, ap, ap₂, _∙_}
 use mathlib.Core.List.{List}
 use Prim.Native.Nat.{ℕ, _-_, _≤_}
 use native.Mathlib.Omega.{arith}
-use lib.ListN.{length, length-set}
+use lib.ListN.{length}
 use borrow.Author.Needs.{needs}
 use Rattle.model.specs.declared.Asked.{Asked}
 use Rattle.model.specs.declared.Cap.{Cap}
@@ -13,10 +13,9 @@ use Rattle.model.specs.Requests.{requestOf}
 use Rattle.table.specs.Words.{rowsIn}
 use Rattle.table.specs.Known.{Known}
 use Rattle.rules.specs.Steps.{lends}
-use Rattle.kelzoud_events.specs.Interface.{answerWords}
+use Rattle.kelzoud_events.specs.Interface.{answerWords, requestIn}
 use Rattle.kelzoud_events.specs.Batch.{Ran}
 use Rattle.kelzoud_events.proofs.Turns.{ran-none, ran-more}
-use borrow.Author.Needs.{needs}
 use Rattle.kelzoud_events.proofs.batch.take_turns.Statement.{statement}
 use Rattle.kelzoud_events.proofs.batch.take_turns.Tie as tie
 
@@ -31,30 +30,24 @@ abbrev μ-loop : tie.MeasureT-loop
 loop-holds : tie.Need-loop-holds Inv-loop μ-loop
 loop-holds c = (omega arith, refl, refl, c .before .pre .0, ran-none _ _ _ _)
 
-mul-words : tie.Need-mul-words Inv-loop μ-loop
-mul-words c = omega (arith, c .before .before .before .pre .1, c .loop-test .taken)
-
-shared-slice-copy-out-words : tie.Need-shared-slice-copy-out-words Inv-loop μ-loop
-shared-slice-copy-out-words c = omega (arith, c .before .before .before .pre .1, c .loop-test .taken)
+words-at-requires : tie.Need-words-at-requires Inv-loop μ-loop
+words-at-requires c κs = omega (arith, c .before .before .before .pre .1, c .loop-test .taken)
 
 take-requires : tie.Need-take-requires Inv-loop μ-loop
 take-requires c κs = c .before .before .before .before .before .before .loop .inv .3
 
-mul-t20 : tie.Need-mul-t20 Inv-loop μ-loop
-mul-t20 c = omega (arith, c .before .before .before .before .before .before .before .before .before .before .before .before .before .good, c .before .before .before .before .before .before .before .before .before .before .before .before .before .pre .2, c .before .before .before .before .before .before .before .before .before .before .before .loop .inv .2, c .before .before .before .before .before .before .before .before .before .before .loop-test .taken)
-
-slice-set-from-answers : tie.Need-slice-set-from-answers Inv-loop μ-loop
-slice-set-from-answers c = omega (arith, c .before .before .before .before .before .before .before .before .before .before .before .before .before .pre .2, c .before .before .before .before .before .before .before .before .before .before .before .loop .inv .2, c .before .before .before .before .before .before .before .before .before .before .loop-test .taken)
+put-answer-requires : tie.Need-put-answer-requires Inv-loop μ-loop
+put-answer-requires c κs = omega (arith, c .before .before .before .before .before .before .before .before .before .before .before .before .before .pre .2, c .before .before .before .before .before .before .before .before .before .before .before .loop .inv .2, c .before .before .before .before .before .before .before .before .before .before .loop-test .taken)
 
 loop-again : tie.Need-loop-again Inv-loop μ-loop
 loop-again c =
-    let s = c .before .before .before .before .before .before .before .before .before .before .before .before .before in let l = c .before .before .before .before .before .before .before .before .before .before .before .loop in let p = c .before .before .before .before .take in let st = p .ensures .0 in
-    let q = ap₂ (λ (x : Asked) (y : List ℕ). requestOf x y) (c .before .before .before .before .before .before .before .before .asked-in .ensures) (c .before .before .before .before .before .before .before .names-in .ensures) in (
-      omega (arith, c .before .before .before .before .before .before .before .before .before .before .loop-test .taken),
-      c .before .before .before .table .given ∙ l .inv .1,
-      simp length-set (l .inv .2),
+    let s = c .before .before .before .before .before .before .before .before .before .before .before .before .before .before .before in let l = c .before .before .before .before .before .before .before .before .before .before .before .before .before .loop in let p = c .before .before .before .before .before .before .take in let st = p .ensures .0 in
+    let q = ap₂ (λ (x : Asked) (y : List ℕ). requestOf x y) (c .before .before .before .before .before .before .before .before .before .before .asked-in .ensures) (c .before .before .before .before .before .before .before .before .before .names-in .ensures) ∙ ap (λ (w : List ℕ). requestIn w (s .args .names .now)) (c .before .before .before .before .before .before .before .before .before .before .before .words-at .ensures) in (
+      omega (arith, c .before .before .before .before .before .before .before .before .before .before .before .before .loop-test .taken),
+      c .before .before .before .before .before .table .given ∙ l .inv .1,
+      c .answers .given ∙ l .inv .2,
       p .ensures .1,
-      ran-more (s .args .names .now) _ (s .args .events .now) (l .i) (s .args .answers .now) (lends (rowsIn (l .table)) (l .tally)) (l .answers) _ (lends (rowsIn (p .last .0)) (p .result .outcome .tally)) (c .answer-words .result) (l .inv .4) (omega (arith, s .pre .1, c .before .before .before .before .before .before .before .before .before .before .loop-test .taken)) (omega (arith, s .pre .2, c .before .before .before .before .before .before .before .before .before .before .loop-test .taken)) q (ap₂ (λ (x : List Cap) (y : Tally). lends x y) (st .table) (st .tally)) (c .answer-words .ensures ∙ ap answerWords (st .answer)),
+      rw (c .before .put-answer .ensures) (ran-more (s .args .names .now) _ (s .args .events .now) (l .i) (s .args .answers .now) (lends (rowsIn (l .table)) (l .tally)) (l .answers) _ (lends (rowsIn (p .last .0)) (p .result .outcome .tally)) _ (l .inv .4) (omega (arith, s .pre .1, c .before .before .before .before .before .before .before .before .before .before .before .before .loop-test .taken)) (omega (arith, s .pre .2, c .before .before .before .before .before .before .before .before .before .before .before .before .loop-test .taken)) q (ap₂ (λ (x : List Cap) (y : Tally). lends x y) (st .table) (st .tally)) (ap answerWords (st .answer))),
     )
 
 same-length : tie.Need-same-length Inv-loop μ-loop
@@ -73,14 +66,11 @@ take-turns-spec =
     Inv-loop
     μ-loop
     loop-holds
-    mul-words
-    shared-slice-copy-out-words
+    words-at-requires
     (λ c κs. search needs)
     (λ c κs. search needs)
     take-requires
-    (λ c κs. search needs)
-    mul-t20
-    slice-set-from-answers
+    put-answer-requires
     (λ c. search needs)
     (λ c. search needs)
     loop-again

@@ -1,0 +1,55 @@
+-- Examples of lines read and written as the C interface does, computed by the definitions.
+-- Assumes nothing.
+use mathlib.Core.Path.{_≡_, refl}
+use mathlib.Core.List.{List, [], _∷_, _++_}
+use Prim.Native.Nat.{ℕ, _*_}
+use Prim.Native.String.{String}
+use lib.ListN.{replicate}
+use Rattle.model.specs.Requests.{risesAbove, risesStrictly, isGroup}
+use Rattle.text.specs.Class.{classOf}
+use Rattle.text.specs.Line.{through}
+use Rattle.text.specs.Decimal.{numeral, decimal, numberFrom}
+use Rattle.text.specs.Event.{bytes, spaced, spell, writesName, hasSpelling}
+use Rattle.text.specs.Write.{written, stored, writeEvent}
+use Rattle.text.specs.Read.{same, guess, readEvent}
+use Rattle.text.specs.Group.{spellGroup, namesFrom, guessNames, readGroup, writeGroup}
+use Rattle.text.specs.Request.{readRequest, writeRequest}
+use Rattle.kelzoud_events.specs.Interface.{packed, eventWith, eventIn, askedIn, part, requestIn, wordsOf}
+use Rattle.kelzoud.specs.Interface.{packedResult, packedRead, spellingIn, eventAfter, groupAfter}
+
+-- what a line leaves: the answer, the event where seven words of 5 stood, and the names where there were four of 5
+abbrev reading : ℕ → String → ℕ × List ℕ × List ℕ
+reading named s = let r = readRequest (spellingIn named) (bytes s) in (packedRead r, eventAfter r (replicate 7 5), groupAfter r (replicate 4 5))
+
+-- a create in each form of lines
+read-create : (reading 0 "(create 16 64 rw)\n" ≡ (0, 1 ∷ 0 ∷ 16 ∷ 64 ∷ 2 ∷ 0 ∷ 0 ∷ [], replicate 4 5))
+    × (reading 9 "(create 3 16 64 rw)\n" ≡ (0, 1 ∷ 0 ∷ 16 ∷ 64 ∷ 2 ∷ 1 ∷ 3 ∷ [], replicate 4 5))
+    × (reading 1 "(create 16 64 rw)\n" ≡ (2 * 4294967296, replicate 7 5, replicate 4 5))
+unfolding packed wordsOf readEvent guess through classOf numberFrom same hasSpelling writesName spell spaced decimal numeral risesAbove risesStrictly isGroup spellGroup namesFrom guessNames readGroup
+read-create = (refl, refl, refl)
+
+-- one name is a drop, two are dropped together; names that do not rise are refused, and leave all
+read-drop : (reading 0 "(drop 8)\n" ≡ (0, 5 ∷ 8 ∷ 0 ∷ 0 ∷ 0 ∷ 0 ∷ 0 ∷ [], replicate 4 5))
+    × (reading 1 "(drop 8 9)\n" ≡ (0, 6 ∷ 0 ∷ 0 ∷ 2 ∷ 0 ∷ 0 ∷ 0 ∷ [], 8 ∷ 9 ∷ 5 ∷ 5 ∷ []))
+    × (reading 0 "(drop 9 8)\n" ≡ (2 * 4294967296, replicate 7 5, replicate 4 5))
+unfolding packed wordsOf readEvent guess through classOf numberFrom same hasSpelling writesName spell spaced decimal numeral risesAbove risesStrictly isGroup spellGroup namesFrom guessNames readGroup
+read-drop = (refl, refl, refl)
+
+-- what the words of an event write into twenty bytes: the answer, and the buffer
+abbrev writing : List ℕ → ℕ × List ℕ
+writing w = let o = writeRequest (requestIn w (8 ∷ 9 ∷ [])) (bytes "....................") in (packedResult (o .answer), o .buffer)
+
+-- a create whose name is written and one whose is not, and names dropped together
+written-lines : (writing (1 ∷ 0 ∷ 16 ∷ 64 ∷ 2 ∷ 0 ∷ 3 ∷ []) ≡ (18, bytes "(create 16 64 rw)\n.."))
+    × (writing (1 ∷ 0 ∷ 16 ∷ 64 ∷ 2 ∷ 1 ∷ 3 ∷ []) ≡ (20, bytes "(create 3 16 64 rw)\n"))
+    × (writing (6 ∷ 0 ∷ 0 ∷ 2 ∷ 0 ∷ 0 ∷ 0 ∷ []) ≡ (11, bytes "(drop 8 9)\n........."))
+unfolding packed askedIn eventIn eventWith part writeEvent writeGroup written stored hasSpelling writesName spell spaced decimal numeral risesAbove risesStrictly isGroup spellGroup
+written-lines = (refl, refl, refl)
+
+-- 2 for an unknown kind and an unknown right, 13 for names past the end of their list, and 11 where the line is too long; the buffer stays
+refused-lines : (writing (7 ∷ 0 ∷ 16 ∷ 64 ∷ 2 ∷ 0 ∷ 0 ∷ []) ≡ (2 * 4294967296, bytes "...................."))
+    × (writing (1 ∷ 0 ∷ 16 ∷ 64 ∷ 258 ∷ 1 ∷ 3 ∷ []) ≡ (2 * 4294967296, bytes "...................."))
+    × (writing (6 ∷ 0 ∷ 1 ∷ 2 ∷ 0 ∷ 0 ∷ 0 ∷ []) ≡ (13 * 4294967296, bytes "...................."))
+    × (writing (1 ∷ 0 ∷ 16 ∷ 64 ∷ 2 ∷ 1 ∷ 33 ∷ []) ≡ (11 * 4294967296, bytes "...................."))
+unfolding packed askedIn eventIn eventWith part writeEvent writeGroup written stored hasSpelling writesName spell spaced decimal numeral risesAbove risesStrictly isGroup spellGroup
+refused-lines = (refl, refl, refl, refl)
