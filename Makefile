@@ -1,8 +1,12 @@
-# make                the library and the program capcheck, both proved
+# make                the two archives and the program capcheck, all proved
+# make library        the archives alone: libkelzoud.a and libkelzoud-events.a, in target/lib
+# make program        the program alone, in target/bin
 # make install        into PREFIX, below DESTDIR where that is set
 # make install-built  the same, of what is built, up to date or not
+# make uninstall      takes away what was installed there
 # make test           the gate
 # make bench          each call's time beside the Rust baseline's
+# make clean          takes away what was built
 
 PREFIX ?= /usr/local
 VERSION := $(shell sed -n 's/^version=//p' capcheck)
