@@ -94,13 +94,7 @@ fn child_follows(text: &[u8], count: usize, depth: u32) -> bool
 }
 
 // Reads a form: its row, its run of children, and its closing bracket.
-fn read_form(
-    text: &[u8],
-    table: &mut [Row; 1024],
-    count: usize,
-    parent: u32,
-    depth: u32,
-) -> Place
+fn read_form(text: &[u8], table: &mut [Row; 1024], count: usize, parent: u32, depth: u32) -> Place
     requires { ⌜ Stored (now table) count × (count < 1024) ⌝ }
     ensures { λ r. ⌜ (count < r .count) × Stored (now (table .exit)) (r .count)
         × Reads (λ (k : ℕ). readForm k parent depth (record { rest = now (text .entry); rows = newest (now (table .entry)) count })) (2 * length (now (text .entry)) + 1) (now (text .entry)) (r .left) (newest (now (table .exit)) (r .count)) ⌝ }
@@ -121,13 +115,7 @@ fn read_form(
 }
 
 // Reads a run of forms, each behind a space: a turn for each sibling, a call for each depth.
-fn read_run(
-    text: &[u8],
-    table: &mut [Row; 1024],
-    count: usize,
-    parent: u32,
-    depth: u32,
-) -> Place
+fn read_run(text: &[u8], table: &mut [Row; 1024], count: usize, parent: u32, depth: u32) -> Place
     requires { ⌜ Stored (now table) count ⌝ }
     ensures { λ r. ⌜ (count ≤ r .count) × Stored (now (table .exit)) (r .count)
         × Reads (λ (k : ℕ). readRun k parent depth (record { rest = now (text .entry); rows = newest (now (table .entry)) count })) (2 * length (now (text .entry))) (now (text .entry)) (r .left) (newest (now (table .exit)) (r .count)) ⌝ }

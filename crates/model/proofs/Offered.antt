@@ -8,7 +8,6 @@ pub use Rattle.model.proofs.Given.{given-in-order}
 pub use Rattle.model.proofs.OneTable.{one-table}
 pub use Rattle.model.proofs.Lost.{never-lives-again, never-rw-again}
 pub use Rattle.model.proofs.Traces.{traces-hold}
-
 -- ---- laws
 pub use Rattle.model.proofs.Ancestries.{ancestry-here, ancestry-past, below-differs}
 pub use Rattle.model.proofs.Frame.{disordered-keeps, refused-table, refused-tally}

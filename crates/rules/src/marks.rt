@@ -128,12 +128,7 @@ fn own_of_names(table: &[Row], k: usize, names: &[u32]) -> [u8; 1025]
 }
 
 // The marks of a drop of all rows that have 2: their subtrees go, in one pass.
-fn spread_names(
-    table: &[Row],
-    k: usize,
-    places: &[u16; 1024],
-    owned: &[u8; 1025],
-) -> [u8; 1024]
+fn spread_names(table: &[Row], k: usize, places: &[u16; 1024], owned: &[u8; 1025]) -> [u8; 1024]
     requires { ⌜ (k ≤ 1024) × Rise (rowsIn (now table)) k × Places (rowsIn (now table)) k (now places) ⌝ }
     ensures { λ r. ⌜ Spread (rowsIn (now (table .entry))) k (λ i. getD (now (owned .entry)) i 0) r ⌝ }
 {

@@ -86,13 +86,7 @@ fn request_first(rows: &mut [Row], n: usize, t: Tally, asked: Asked, names: &[u3
 }
 
 // The same, on a whole array.
-fn request_held(
-    rows: &mut [Row; 1024],
-    n: usize,
-    t: Tally,
-    asked: Asked,
-    names: &[u32],
-) -> Outcome
+fn request_held(rows: &mut [Row; 1024], n: usize, t: Tally, asked: Asked, names: &[u32]) -> Outcome
     requires { ⌜ length (now rows) ≡ 1024 ⌝ }
     ensures { λ r. ⌜ Requested (now (rows .entry)) n t (requestOf asked (now (names .entry))) (now (rows .exit)) r ⌝ }
 {

@@ -56,13 +56,7 @@ fn new_row(name: u32, parent: u32, s: Span, right: u32, depth: u32) -> Cap
 }
 
 // The first empty row gets it, where q is its parent's place; the answer is how many rows live then.
-fn append(
-    table: &mut [Row],
-    k: usize,
-    places: &mut [u16; 1024],
-    c: Cap,
-    q: usize,
-) -> usize
+fn append(table: &mut [Row], k: usize, places: &mut [u16; 1024], c: Cap, q: usize) -> usize
     requires { ⌜ (k < length (now table)) × Ready (now table) k × Places (rowsIn (now table)) k (now places)
         × Found (rowsIn (now table)) k (c .parent .0) q × (0 < c .name .0) ⌝ }
     ensures { λ r. ⌜ Settled (rowsIn (now (table .exit))) (length (now (table .entry))) r (c ∷ before (rowsIn (now (table .entry))) k) (now (places .exit)) ⌝ }
@@ -91,13 +85,7 @@ fn read_rows(table: &mut [Row], k: usize, places: &[u16; 1024], u: u32, s: Span)
 }
 
 // A write through the name u.
-fn write_rows(
-    table: &mut [Row],
-    k: usize,
-    places: &mut [u16; 1024],
-    u: u32,
-    s: Span,
-) -> usize
+fn write_rows(table: &mut [Row], k: usize, places: &mut [u16; 1024], u: u32, s: Span) -> usize
     requires { ⌜ Ready (now table) k × Places (rowsIn (now table)) k (now places) ⌝ }
     ensures { λ r. ⌜ Settled (rowsIn (now (table .exit))) (length (now (table .entry))) r (afterAccess Access.Writing u s (before (rowsIn (now (table .entry))) k)) (now (places .exit)) ⌝ }
 {
@@ -106,12 +94,7 @@ fn write_rows(
 }
 
 // Names dropped together.
-fn drop_names(
-    table: &mut [Row],
-    k: usize,
-    places: &mut [u16; 1024],
-    names: &[u32],
-) -> usize
+fn drop_names(table: &mut [Row], k: usize, places: &mut [u16; 1024], names: &[u32]) -> usize
     requires { ⌜ Ready (now table) k × Places (rowsIn (now table)) k (now places) ⌝ }
     ensures { λ r. ⌜ Settled (rowsIn (now (table .exit))) (length (now (table .entry))) r (rowsWithout (now (names .entry)) (before (rowsIn (now (table .entry))) k)) (now (places .exit)) ⌝ }
 {

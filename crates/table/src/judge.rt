@@ -128,15 +128,7 @@ fn judge_create(n: usize, k: usize, issued: u32, w: NewName, s: Span, r: u8) -> 
     room_answer(n, k, issued, w)
 }
 
-fn judge_borrow(
-    table: &[Row],
-    k: usize,
-    issued: u32,
-    w: NewName,
-    u: Name,
-    s: Span,
-    r: u8,
-) -> Answer
+fn judge_borrow(table: &[Row], k: usize, issued: u32, w: NewName, u: Name, s: Span, r: u8) -> Answer
     requires { ⌜ (k ≤ 1024) × Rise (rowsIn (now table)) k × (issued ≤ 1000000) ⌝ }
     ensures { λ a. ⌜ verdictOf a ≡ verdict (first (checks (before (rowsIn (now (table .entry))) k) issued (length (now (table .entry))) (Single (Event.Borrow w u s r)))) (suc issued) ⌝ }
 {

@@ -152,15 +152,7 @@ fn run_text(
     ensures { λ r. ⌜ Runs (now (table .entry)) tally (now (text .entry)) (now (table .exit)) r ⌝ }
 {
     if is_named(text) {
-        run_ordered(
-            table,
-            live,
-            places,
-            tally,
-            Spelling::Named,
-            1,
-            &text[10..],
-        )
+        run_ordered(table, live, places, tally, Spelling::Named, 1, &text[10..])
     } else {
         run_ordered(table, live, places, tally, Spelling::Plain, 0, text)
     }

@@ -74,7 +74,11 @@ fn last_name() {
     let mut table = [[0u32; WIDTH]; 1024];
     let mut tally = [0u32; 7];
     reading::read_listing(b"(issued 999999)\n", &mut table, &mut tally);
-    let answer = run::run(&mut table, &mut tally, b"(create 0 8 rw)\n(create 0 8 rw)\n");
+    let answer = run::run(
+        &mut table,
+        &mut tally,
+        b"(create 0 8 rw)\n(create 0 8 rw)\n",
+    );
     print_answer(answer);
 }
 
