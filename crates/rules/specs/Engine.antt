@@ -65,6 +65,21 @@ pub record Spread (T : List Cap) (k : ℕ) (owned : ℕ → ℕ) (marks : List �
   pub child : (i q : ℕ) → i < k → q < i → nameAt T q ≡ parentAt T i → getD marks i 0 ≡ max (owned i) (getD marks q 0)
   pub root : (i : ℕ) → i < k → any (named (parentAt T i)) (before T i) ≡ false → getD marks i 0 ≡ owned i
 
+-- the rows in front of r, of the first k, are not struck by an access to s, where those on the user's ancestry have 1
+pub record Spared (T : List Cap) (k : ℕ) (onLine : List ℕ) (s : Span) (r : ℕ) : Type 0 where
+  pub fits : r ≤ k
+  pub none : (i : ℕ) → i < r → (touches s (span (getD T i emptyRow)) && not (eqb (getD onLine i 0) 1)) ≡ false
+
+-- the rows in front of `first`, of the first k, have no mark
+pub record Quiet (k first : ℕ) (marks : List ℕ) : Type 0 where
+  pub fits : first ≤ k
+  pub zero : (j : ℕ) → j < first → getD marks j 0 ≡ 0
+
+-- the rows in front of `first` stay where they are
+pub record Stays (first : ℕ) (places : List ℕ) : Type 0 where
+  pub long : length places ≡ 1024
+  pub each : (j : ℕ) → j < first → getD places j 0 ≡ j
+
 -- no mark is below the parent's
 pub record Downward (T : List Cap) (k : ℕ) (marks : List ℕ) : Type 0 where
   pub child : (i q : ℕ) → i < k → q < i → nameAt T q ≡ parentAt T i → getD marks q 0 ≤ getD marks i 0

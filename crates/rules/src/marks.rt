@@ -8,7 +8,8 @@ use table::spans::do_touch;
 use table::spans::span_of;
 use table::words::row_at;
 ghost use mathlib.Core.Path.{_≡_};
-ghost use mathlib.Core.Bool.{false, cond};
+ghost use mathlib.Core.Bool.{false, not, cond, _&&_};
+ghost use Rattle.model.specs.Values.{touches};
 ghost use Prim.Native.Nat.{_≤_, max};
 ghost use lib.Dec.{ltb};
 ghost use lib.ListN.{getD};
@@ -18,7 +19,13 @@ ghost use Rattle.model.specs.Derivation.{ancestry};
 ghost use Rattle.table.specs.Words.{rowsIn};
 ghost use Rattle.table.specs.Rows.{before, Rise, Places, LiveRows};
 ghost use Rattle.model.specs.Effects.{inSubtrees};
-ghost use Rattle.rules.specs.Engine.{OnAncestry, weight, own, ownOfAccess, Owned, Marked, Spread, Downward};
+ghost use Rattle.rules.specs.Engine.{OnAncestry, weight, own, ownOfAccess, Owned, Marked, Spread, Spared, Quiet, Downward};
+
+// A mark for each row, and how many rows stand in front of the first that may have one.
+pub struct Marks {
+    pub each: [u8; 1024],
+    pub first: usize,
+}
 
 fn effect_mark(a: Access) -> u8
     ensures { λ r. ⌜ r ≡ weight (Rattle.model.specs.Strike.effectOf a) ⌝ }
@@ -69,20 +76,44 @@ fn mark_below(marks: &[u8; 1024], q: usize, i: usize) -> u8
     if q < i { marks[q] } else { 0 }
 }
 
-// Each row's mark is the greater of its own and its parent's: an access to s.
+// Whether an access to s strikes a holder, where `on` says that it is on the user's ancestry.
+fn is_struck(s: Span, t: Span, on: bool) -> bool
+    ensures { λ r. ⌜ r ≡ (touches s t && not on) ⌝ }
+{
+    if do_touch(s, t) { !on } else { false }
+}
+
+// How many rows stand in front of the first that an access to s strikes.
+fn first_struck(table: &[Row], k: usize, ancestry: &[u8; 1024], s: Span) -> usize
+    requires { ⌜ (k ≤ 1024) × Rise (rowsIn (now table)) k ⌝ }
+    ensures { λ r. ⌜ Spared (rowsIn (now (table .entry))) k (now (ancestry .entry)) s r ⌝ }
+{
+    let mut i: usize = 0;
+    while i < k {
+        let c = row_at(table, i);
+        if is_struck(s, span_of(c), ancestry[i] == 1) {
+            return i;
+        }
+        i += 1;
+    }
+    i
+}
+
+// Each row's mark is the greater of its own and its parent's: an access to s. Those in front of the first that is struck have none.
 fn spread_access(
     table: &[Row],
+    first: usize,
     k: usize,
     places: &[u16; 1024],
     ancestry: &[u8; 1024],
     a: Access,
     s: Span,
 ) -> [u8; 1024]
-    requires { ⌜ (k ≤ 1024) × Rise (rowsIn (now table)) k × Places (rowsIn (now table)) k (now places) ⌝ }
-    ensures { λ r. ⌜ Spread (rowsIn (now (table .entry))) k (ownOfAccess (rowsIn (now (table .entry))) (now (ancestry .entry)) a s) r ⌝ }
+    requires { ⌜ (k ≤ 1024) × Rise (rowsIn (now table)) k × Places (rowsIn (now table)) k (now places) × Spared (rowsIn (now table)) k (now ancestry) s first ⌝ }
+    ensures { λ r. ⌜ Spread (rowsIn (now (table .entry))) k (ownOfAccess (rowsIn (now (table .entry))) (now (ancestry .entry)) a s) r × Quiet k first r ⌝ }
 {
     let mut marks = [0u8; 1024];
-    let mut i: usize = 0;
+    let mut i = first;
     while i < k {
         let c = row_at(table, i);
         let owned = own_mark(a, s, span_of(c), ancestry[i] == 1);
@@ -101,15 +132,18 @@ pub(crate) fn marks_of_access(
     u: u32,
     a: Access,
     s: Span,
-) -> [u8; 1024]
+) -> Marks
     requires { ⌜ LiveRows (rowsIn (now table)) k × Places (rowsIn (now table)) k (now places) ⌝ }
-    ensures { λ r. ⌜ Marked (rowsIn (now (table .entry))) k r
+    ensures { λ r. ⌜ Marked (rowsIn (now (table .entry))) k (r .each)
         (struck isEnd a (derivations (before (rowsIn (now (table .entry))) k)) u s)
         (struck isLower a (derivations (before (rowsIn (now (table .entry))) k)) u s)
-        × Downward (rowsIn (now (table .entry))) k r ⌝ }
+        × Downward (rowsIn (now (table .entry))) k (r .each)
+        × Quiet k (r .first) (r .each) ⌝ }
 {
     let ancestry = ancestry_of(table, k, places, u);
-    spread_access(table, k, places, &ancestry, a, s)
+    let first = first_struck(table, k, &ancestry, s);
+    let each = spread_access(table, first, k, places, &ancestry, a, s);
+    Marks { each, first }
 }
 
 // The rows of names have 2. A name that is not there is noted behind the rows.
@@ -127,13 +161,34 @@ fn own_of_names(table: &[Row], k: usize, names: &[u32]) -> [u8; 1025]
     owned
 }
 
-// The marks of a drop of all rows that have 2: their subtrees go, in one pass.
-fn spread_names(table: &[Row], k: usize, places: &[u16; 1024], owned: &[u8; 1025]) -> [u8; 1024]
-    requires { ⌜ (k ≤ 1024) × Rise (rowsIn (now table)) k × Places (rowsIn (now table)) k (now places) ⌝ }
-    ensures { λ r. ⌜ Spread (rowsIn (now (table .entry))) k (λ i. getD (now (owned .entry)) i 0) r ⌝ }
+// How many of the first k rows stand in front of the first that has 2.
+fn first_owned(owned: &[u8; 1025], k: usize) -> usize
+    requires { ⌜ k ≤ 1024 ⌝ }
+    ensures { λ r. ⌜ Quiet k r (now (owned .entry)) ⌝ }
+{
+    let mut i: usize = 0;
+    while i < k {
+        if owned[i] != 0 {
+            return i;
+        }
+        i += 1;
+    }
+    i
+}
+
+// The marks of a drop of all rows that have 2: their subtrees go, in one pass from the first of them on.
+fn spread_names(
+    table: &[Row],
+    first: usize,
+    k: usize,
+    places: &[u16; 1024],
+    owned: &[u8; 1025],
+) -> [u8; 1024]
+    requires { ⌜ (k ≤ 1024) × Rise (rowsIn (now table)) k × Places (rowsIn (now table)) k (now places) × Quiet k first (now owned) ⌝ }
+    ensures { λ r. ⌜ Spread (rowsIn (now (table .entry))) k (λ i. getD (now (owned .entry)) i 0) r × Quiet k first r ⌝ }
 {
     let mut marks = [0u8; 1024];
-    let mut i: usize = 0;
+    let mut i = first;
     while i < k {
         let up = mark_below(&marks, wide(places[i]), i);
         marks[i] = larger(owned[i], up);
@@ -148,12 +203,15 @@ pub(crate) fn marks_of_names(
     k: usize,
     places: &[u16; 1024],
     names: &[u32],
-) -> [u8; 1024]
+) -> Marks
     requires { ⌜ LiveRows (rowsIn (now table)) k × Places (rowsIn (now table)) k (now places) ⌝ }
-    ensures { λ r. ⌜ Marked (rowsIn (now (table .entry))) k r
+    ensures { λ r. ⌜ Marked (rowsIn (now (table .entry))) k (r .each)
         (λ x. inSubtrees (now (names .entry)) (ancestry (derivations (before (rowsIn (now (table .entry))) k)) x)) (λ x. false)
-        × Downward (rowsIn (now (table .entry))) k r ⌝ }
+        × Downward (rowsIn (now (table .entry))) k (r .each)
+        × Quiet k (r .first) (r .each) ⌝ }
 {
     let owned = own_of_names(table, k, names);
-    spread_names(table, k, places, &owned)
+    let first = first_owned(&owned, k);
+    let each = spread_names(table, first, k, places, &owned);
+    Marks { each, first }
 }

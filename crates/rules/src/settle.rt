@@ -14,7 +14,7 @@ ghost use Rattle.model.specs.Table.{emptyRow};
 ghost use Rattle.model.specs.Effects.{lowered};
 ghost use Rattle.table.specs.Words.{rowsIn};
 ghost use Rattle.table.specs.Rows.{Places};
-ghost use Rattle.rules.specs.Engine.{Ready, Downward, kept, Closes, Clears, Lowers, Settled};
+ghost use Rattle.rules.specs.Engine.{Ready, Downward, Quiet, Stays, kept, Closes, Clears, Lowers, Settled};
 
 // A row with `ro`, if its mark is 1.
 fn marked_row(c: Cap, mark: u8) -> Cap
@@ -49,12 +49,12 @@ fn lower_row(table: &mut [Row], i: usize, mark: u8)
     set_row(table, i, marked_row(c, mark));
 }
 
-// Where no row ends: of the first k rows, those marked 1 get `ro`.
-pub(crate) fn lower(table: &mut [Row], k: usize, marks: &[u8; 1024])
-    requires { ⌜ (k ≤ 1024) × (k ≤ length (now table)) ⌝ }
+// Where no row ends: of the first k rows, those marked 1 get `ro`. Those in front of `first` have no mark.
+pub(crate) fn lower(table: &mut [Row], first: usize, k: usize, marks: &[u8; 1024])
+    requires { ⌜ (k ≤ 1024) × (k ≤ length (now table)) × Quiet k first (now marks) ⌝ }
     ensures { λ _. ⌜ Lowers (now (marks .entry)) (rowsIn (now (table .entry))) (rowsIn (now (table .exit))) k ⌝ }
 {
-    let mut i: usize = 0;
+    let mut i = first;
     while i < k {
         lower_row(table, i, marks[i]);
         i += 1;
@@ -81,16 +81,30 @@ fn move_row(table: &mut [Row], i: usize, left: usize, mark: u8) -> usize
     left + 1
 }
 
-// The first k rows close up, and the places of their parents with them; the answer is how many are left.
-fn close(table: &mut [Row], k: usize, marks: &[u8; 1024], places: &mut [u16; 1024]) -> usize
-    requires { ⌜ (k ≤ 1024) × (k ≤ length (now table)) × Places (rowsIn (now table)) k (now places) × Downward (rowsIn (now table)) k (now marks) ⌝ }
+// Places where rows stand already: each of the first is its own.
+fn stay_put(first: usize) -> [u16; 1024]
+    requires { ⌜ first ≤ 1024 ⌝ }
+    ensures { λ r. ⌜ Stays first r ⌝ }
+{
+    let mut moved = [0u16; 1024];
+    let mut i: usize = 0;
+    while i < first {
+        moved[i] = i as u16;
+        i += 1;
+    }
+    moved
+}
+
+// The first k rows close up, and the places of their parents with them; the answer is how many are left. Those in front of `first` stay.
+fn close(table: &mut [Row], first: usize, k: usize, marks: &[u8; 1024], places: &mut [u16; 1024]) -> usize
+    requires { ⌜ (k ≤ 1024) × (k ≤ length (now table)) × Places (rowsIn (now table)) k (now places) × Downward (rowsIn (now table)) k (now marks) × Quiet k first (now marks) ⌝ }
     ensures { λ r. ⌜ Closes (now (marks .entry)) (rowsIn (now (table .entry))) (rowsIn (now (table .exit))) k r
         × Places (rowsIn (now (table .exit))) r (now (places .exit)) ⌝ }
 {
     // Where each row goes. A root has its own place, and a parent stays where a child of it does.
-    let mut moved = [0u16; 1024];
-    let mut left: usize = 0;
-    let mut i: usize = 0;
+    let mut moved = stay_put(first);
+    let mut left = first;
+    let mut i = first;
     while i < k {
         moved[i] = left as u16;
         let q = wide(places[i]);
@@ -116,14 +130,15 @@ fn clear(table: &mut [Row], from: usize, to: usize)
 // The first k rows after their marks; the answer is how many are left.
 pub(crate) fn settle(
     table: &mut [Row],
+    first: usize,
     k: usize,
     marks: &[u8; 1024],
     places: &mut [u16; 1024],
 ) -> usize
-    requires { ⌜ Ready (now table) k × Places (rowsIn (now table)) k (now places) × Downward (rowsIn (now table)) k (now marks) ⌝ }
+    requires { ⌜ Ready (now table) k × Places (rowsIn (now table)) k (now places) × Downward (rowsIn (now table)) k (now marks) × Quiet k first (now marks) ⌝ }
     ensures { λ r. ⌜ Settled (rowsIn (now (table .exit))) (length (now (table .entry))) r (kept (now (marks .entry)) (rowsIn (now (table .entry))) k) (now (places .exit)) ⌝ }
 {
-    let left = close(table, k, marks, places);
+    let left = close(table, first, k, marks, places);
     clear(table, left, k);
     left
 }

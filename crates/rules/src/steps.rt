@@ -80,8 +80,9 @@ fn read_rows(table: &mut [Row], k: usize, places: &[u16; 1024], u: u32, s: Span)
     requires { ⌜ Ready (now table) k × Places (rowsIn (now table)) k (now places) ⌝ }
     ensures { λ _. ⌜ Settled (rowsIn (now (table .exit))) (length (now (table .entry))) k (afterAccess Access.Reading u s (before (rowsIn (now (table .entry))) k)) (now (places .entry)) ⌝ }
 {
-    let marks = marks_of_access(table, k, places, u, Access::Reading, s);
-    lower(table, k, &marks);
+    let found = marks_of_access(table, k, places, u, Access::Reading, s);
+    let marks = found.each;
+    lower(table, found.first, k, &marks);
 }
 
 // A write through the name u.
@@ -89,8 +90,9 @@ fn write_rows(table: &mut [Row], k: usize, places: &mut [u16; 1024], u: u32, s: 
     requires { ⌜ Ready (now table) k × Places (rowsIn (now table)) k (now places) ⌝ }
     ensures { λ r. ⌜ Settled (rowsIn (now (table .exit))) (length (now (table .entry))) r (afterAccess Access.Writing u s (before (rowsIn (now (table .entry))) k)) (now (places .exit)) ⌝ }
 {
-    let marks = marks_of_access(table, k, places, u, Access::Writing, s);
-    settle(table, k, &marks, places)
+    let found = marks_of_access(table, k, places, u, Access::Writing, s);
+    let marks = found.each;
+    settle(table, found.first, k, &marks, places)
 }
 
 // Names dropped together.
@@ -98,8 +100,9 @@ fn drop_names(table: &mut [Row], k: usize, places: &mut [u16; 1024], names: &[u3
     requires { ⌜ Ready (now table) k × Places (rowsIn (now table)) k (now places) ⌝ }
     ensures { λ r. ⌜ Settled (rowsIn (now (table .exit))) (length (now (table .entry))) r (rowsWithout (now (names .entry)) (before (rowsIn (now (table .entry))) k)) (now (places .exit)) ⌝ }
 {
-    let marks = marks_of_names(table, k, places, names);
-    settle(table, k, &marks, places)
+    let found = marks_of_names(table, k, places, names);
+    let marks = found.each;
+    settle(table, found.first, k, &marks, places)
 }
 
 // What an allowed event does to the rows; the answer is how many live then. A create is a write through its new name, which has no row

@@ -100,6 +100,13 @@ pub record Spreading (T : List Cap) (i : ℕ) (owned : ℕ → ℕ) (marks : Lis
 pub spread-none : (T : List Cap) (owned : ℕ → ℕ) (marks : List ℕ) → length marks ≡ 1024 → Spreading T 0 owned marks
 spread-none T owned marks h = record { done = record { child = λ i q l. absurd (not-suc-le-zero l); root = λ i l. absurd (not-suc-le-zero l) }; long = h }
 
+-- rows in front that have no mark of their own have none
+pub spread-start : (T : List Cap) (i : ℕ) (owned : ℕ → ℕ) (marks : List ℕ) → length marks ≡ 1024 → ((j : ℕ) → j < i → owned j ≡ 0) → ((j : ℕ) → j < i → getD marks j 0 ≡ 0) → Spreading T i owned marks
+spread-start T i owned marks h o z = record {
+  done = record { child = λ j q l m e. rw (z j l, z q (omega arith), o j l); root = λ j l e. rw (z j l, o j l) };
+  long = h;
+}
+
 -- the mark that goes to row i, where q is its parent's place
 module _ (T : List Cap) (k i q : ℕ) (owned : ℕ → ℕ) (marks : List ℕ) (r : Rise T k) (few : k ≤ 1024) (l : i < k) (f : Found T i (parentAt T i) q) (s : Spreading T i owned marks) where
   abbrev newMark : ℕ

@@ -17,7 +17,7 @@ use Rattle.model.specs.Lists.{any}
 use Rattle.model.specs.Table.{emptyRow, named, lentTable}
 use Rattle.model.specs.Effects.{lowered, revoke}
 use Rattle.table.specs.Rows.{nameAt, parentAt, before, Filled, Found, Places}
-use Rattle.rules.specs.Engine.{mark, Marked, Downward, kept, Closes, Clears, Lowers, Settled}
+use Rattle.rules.specs.Engine.{mark, Marked, Downward, Stays, kept, Closes, Clears, Lowers, Settled}
 use Rattle.model.proofs.Offered.{All, test, or-neither}
 use Rattle.table.proofs.Offered.{last, before-suc, before-same, length-before, at-before, Alike, places-same, places-none, places-more, places-past, before-reverse}
 
@@ -38,6 +38,15 @@ countAllowed marks i left = cond (ltb (getD marks i 0) 2) (left + 1) left
 pub closing-none : (marks : List ℕ) (T : List Cap) → Closing marks T T 0 0
 unfolding before kept
 closing-none marks T = record { fits = omega arith; rows = refl; rest = λ j l. refl }
+
+-- rows that have no mark stay as and where they are
+kept-quiet : (marks : List ℕ) (T : List Cap) (i : ℕ) → ((j : ℕ) → j < i → getD marks j 0 ≡ 0) → before T i ≡ kept marks T i
+unfolding before kept
+kept-quiet marks T zero z = refl
+kept-quiet marks T (suc i) z = rw (z i (omega arith)) (ap {B = List Cap} (λ l. getD T i emptyRow ∷ l) (kept-quiet marks T i (λ j l. z j (omega arith))))
+
+pub closing-start : (marks : List ℕ) (T : List Cap) (i : ℕ) → ((j : ℕ) → j < i → getD marks j 0 ≡ 0) → Closing marks T T i i
+closing-start marks T i z = record { fits = omega arith; rows = kept-quiet marks T i z; rest = λ j l. refl }
 
 pub closing-more : (marks : List ℕ) (T U : List Cap) (i left : ℕ) → i < length U → Closing marks T U i left → Closing marks T (moved marks U i left) (i + 1) (countAllowed marks i left)
 unfolding kept
@@ -115,6 +124,9 @@ before-lent T n r b l z =
 pub lowers-none : (marks : List ℕ) (T : List Cap) → Lowers marks T T 0
 lowers-none marks T = record { low = λ j l. absurd (not-suc-le-zero l); rest = λ j l. refl }
 
+pub lowers-start : (marks : List ℕ) (T : List Cap) (i : ℕ) → ((j : ℕ) → j < i → getD marks j 0 ≡ 0) → Lowers marks T T i
+lowers-start marks T i z = record { low = λ j l. rw (z j l) refl; rest = λ j l. refl }
+
 pub lowers-more : (marks : List ℕ) (T U : List Cap) (i : ℕ) → i < length U → Lowers marks T U i → Lowers marks T (set U i (lowered (eqb (getD marks i 0) 1) (getD U i emptyRow))) (i + 1)
 lowers-more marks T U i l c = record {
   low = λ j m. go j (last j i m);
@@ -173,6 +185,14 @@ pub record Placing (marks first : List ℕ) (T U : List Cap) (places spots : Lis
 
 pub placing-none : (marks first : List ℕ) (T : List Cap) (spots : List ℕ) → length first ≡ 1024 → length spots ≡ 1024 → Placing marks first T T first spots 0 0
 placing-none marks first T spots h l = record { placed = places-none T first h; rest = λ j m. refl; long = l; went = λ j m. absurd (not-suc-le-zero m) }
+
+pub placing-start : (marks first : List ℕ) (T : List Cap) (spots : List ℕ) (i k : ℕ) → i ≤ k → Places T k first → Stays i spots → Placing marks first T T first spots i i
+placing-start marks first T spots i k l p s = record {
+  placed = record { long = p .long; each = λ j m. p .each j (omega arith) };
+  rest = λ j m. refl;
+  long = s .long;
+  went = λ j m h. (rw (s .each j m) m, ap (nameAt T) (s .each j m));
+}
 
 module _ (marks first : List ℕ) (T U : List Cap) (places spots : List ℕ) (i left k : ℕ) (l : i < k) (few : k ≤ 1024) (wide : i < length U) (d : Downward T k marks) (p₀ : Places T k first) (c : Closing marks T U i left)
     (p : Placing marks first T U places spots i left) where

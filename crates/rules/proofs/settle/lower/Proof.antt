@@ -7,18 +7,18 @@ use lib.ListN.{length}
 use Rattle.table.specs.Words.{rowsIn}
 use Rattle.rules.specs.Engine.{Lowers}
 use Rattle.table.proofs.Offered.{length-in}
-use Rattle.rules.proofs.Laws.Settle.{lowers-none, lowers-more}
+use Rattle.rules.proofs.Laws.Settle.{lowers-start, lowers-more}
 use Rattle.rules.proofs.settle.lower.Statement.{statement}
 use Rattle.rules.proofs.settle.lower.Tie as tie
 
 abbrev Inv-loop : tie.InvT-loop
-Inv-loop table₀ k marks i₀ table i = (i ≤ k) × (length table ≡ length table₀) × Lowers marks (rowsIn table₀) (rowsIn table) i
+Inv-loop table₀ first k marks i₀ table i = (i ≤ k) × (length table ≡ length table₀) × Lowers marks (rowsIn table₀) (rowsIn table) i
 
 abbrev μ-loop : tie.MeasureT-loop
-μ-loop table₀ k marks i₀ table i = k - i
+μ-loop table₀ first k marks i₀ table i = k - i
 
 loop-holds : tie.Need-loop-holds Inv-loop μ-loop
-loop-holds c = (omega arith, refl, lowers-none (c .args .marks .now) (rowsIn (c .args .table .now)))
+loop-holds c = (c .pre .2 .fits, refl, lowers-start (c .args .marks .now) (rowsIn (c .args .table .now)) (c .args .first) (c .pre .2 .zero))
 
 element-copy-out-lower-row : tie.Need-element-copy-out-lower-row Inv-loop μ-loop
 element-copy-out-lower-row c = omega (arith, c .before .before .before .pre .0, c .before .loop-test .taken)

@@ -16,9 +16,9 @@ use Rattle.rules.proofs.steps.drop_names.Tie as tie
 returns : tie.Need-returns
 unfolding rowsWithout
 returns c =
-    let s = c .before .before .before .before .before .before .before .before .before in let T = rowsIn (s .args .table .now) in let marks = c .before .before .before .before .before .marks-of-names .result in
+    let s = c .before .before .before .before .before .before .before .before .before .before in let T = rowsIn (s .args .table .now) in let marks = c .before .before .before .before .before .before .marks-of-names .result .each in
     let e : kept marks T (s .args .k) ≡ rowsWithout (s .args .names .now) (before T (s .args .k)) =
-    kept-revoke marks (λ x. inSubtrees (s .args .names .now) (ancestry (derivations (before T (s .args .k))) x)) (λ x. false) T (s .args .k) (c .before .before .before .before .before .marks-of-names .ensures .0) in
+    kept-revoke marks (λ x. inSubtrees (s .args .names .now) (ancestry (derivations (before T (s .args .k))) x)) (λ x. false) T (s .args .k) (c .before .before .before .before .before .before .marks-of-names .ensures .0) in
     rw (← e) (c .before .settle .ensures)
 
 pub drop-names-spec : {M : Type 1} → statement M

@@ -17,7 +17,7 @@ use Rattle.rules.proofs.steps.read_rows.Tie as tie
 
 returns : tie.Need-returns
 returns c =
-    let s = c .before .before .before .before .before .before in let T = rowsIn (s .args .table .now) in let marks = c .before .before .before .before .marks-of-access .result in let m = c .before .before .before .before .marks-of-access .ensures .0 in
+    let s = c .before .before .before .before .before .before .before in let T = rowsIn (s .args .table .now) in let marks = c .before .before .before .before .before .marks-of-access .result .each in let m = c .before .before .before .before .before .marks-of-access .ensures .0 in
     let e : kept marks T (s .args .k) ≡ afterAccess Reading (s .args .u) (s .args .s) (before T (s .args .k)) = kept-used marks T (s .args .k) (s .args .u) Reading (s .args .s) m in
     rw (← e) (lowered-settled marks T (rowsIn (c .before .lower .last .0)) (length (s .args .table .now)) (s .args .k) (s .args .places .now) (s .pre .0 .fits) (length-in (c .before .lower .last .0) ∙ c .table .given) (s .pre .0 .zeros) (s .pre .0 .stands .filled) (c .before .lower .ensures) (read-marks marks T (s .args .k) (s .args .u) (s .args .s) _ m) (s .pre .1))
 

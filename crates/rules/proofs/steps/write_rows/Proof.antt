@@ -13,8 +13,8 @@ use Rattle.rules.proofs.steps.write_rows.Tie as tie
 
 returns : tie.Need-returns
 returns c =
-    let s = c .before .before .before .before .before .before .before .before in let T = rowsIn (s .args .table .now) in let marks = c .before .before .before .before .before .marks-of-access .result in
-    let e : kept marks T (s .args .k) ≡ afterAccess Writing (s .args .u) (s .args .s) (before T (s .args .k)) = kept-used marks T (s .args .k) (s .args .u) Writing (s .args .s) (c .before .before .before .before .before .marks-of-access .ensures .0) in
+    let s = c .before .before .before .before .before .before .before .before .before in let T = rowsIn (s .args .table .now) in let marks = c .before .before .before .before .before .before .marks-of-access .result .each in
+    let e : kept marks T (s .args .k) ≡ afterAccess Writing (s .args .u) (s .args .s) (before T (s .args .k)) = kept-used marks T (s .args .k) (s .args .u) Writing (s .args .s) (c .before .before .before .before .before .before .marks-of-access .ensures .0) in
     rw (← e) (c .before .settle .ensures)
 
 pub write-rows-spec : {M : Type 1} → statement M
