@@ -8,27 +8,18 @@ use table::spans::do_touch;
 use table::spans::span_of;
 use table::words::row_at;
 ghost use mathlib.Core.Path.{_≡_};
-ghost use mathlib.Core.Bool.{false, not, cond, _&&_};
+ghost use mathlib.Core.Bool.{not, cond, _&&_};
+ghost use Rattle.model.specs.Strike.{effectOf};
 ghost use Rattle.model.specs.Values.{touches};
 ghost use Prim.Native.Nat.{_≤_, max};
 ghost use lib.Dec.{ltb};
 ghost use lib.ListN.{getD};
-ghost use Rattle.model.specs.Table.{derivations};
-ghost use Rattle.model.specs.Strike.{isEnd, isLower, struck};
-ghost use Rattle.model.specs.Derivation.{ancestry};
 ghost use Rattle.table.specs.Words.{rowsIn};
-ghost use Rattle.table.specs.Rows.{before, Rise, Places, LiveRows};
-ghost use Rattle.model.specs.Effects.{inSubtrees};
-ghost use Rattle.rules.specs.Engine.{OnAncestry, weight, own, ownOfAccess, Owned, Marked, Spread, Spared, Quiet, Downward};
-
-// A mark for each row, and how many rows stand in front of the first that may have one.
-pub struct Marks {
-    pub each: [u8; 1024],
-    pub first: usize,
-}
+ghost use Rattle.table.specs.Rows.{Rise, Places, LiveRows};
+ghost use Rattle.rules.specs.Engine.{OnAncestry, weight, own, ownOfAccess, Owned, Spread, Spared, Quiet};
 
 fn effect_mark(a: Access) -> u8
-    ensures { λ r. ⌜ r ≡ weight (Rattle.model.specs.Strike.effectOf a) ⌝ }
+    ensures { λ r. ⌜ r ≡ weight (effectOf a) ⌝ }
 {
     match a {
         Access::Reading => 1,
@@ -43,7 +34,7 @@ fn larger(a: u8, b: u8) -> u8
 }
 
 // The rows on the ancestry of the name u have 1.
-fn ancestry_of(table: &[Row], k: usize, places: &[u16; 1024], u: u32) -> [u8; 1024]
+pub(crate) fn ancestry_of(table: &[Row], k: usize, places: &[u16; 1024], u: u32) -> [u8; 1024]
     requires { ⌜ (k ≤ 1024) × Rise (rowsIn (now table)) k × Places (rowsIn (now table)) k (now places) ⌝ }
     ensures { λ r. ⌜ OnAncestry (rowsIn (now (table .entry))) k u r ⌝ }
 {
@@ -84,7 +75,7 @@ fn is_struck(s: Span, t: Span, on: bool) -> bool
 }
 
 // How many rows stand in front of the first that an access to s strikes.
-fn first_struck(table: &[Row], k: usize, ancestry: &[u8; 1024], s: Span) -> usize
+pub(crate) fn first_struck(table: &[Row], k: usize, ancestry: &[u8; 1024], s: Span) -> usize
     requires { ⌜ (k ≤ 1024) × Rise (rowsIn (now table)) k ⌝ }
     ensures { λ r. ⌜ Spared (rowsIn (now (table .entry))) k (now (ancestry .entry)) s r ⌝ }
 {
@@ -100,7 +91,7 @@ fn first_struck(table: &[Row], k: usize, ancestry: &[u8; 1024], s: Span) -> usiz
 }
 
 // Each row's mark is the greater of its own and its parent's: an access to s. Those in front of the first that is struck have none.
-fn spread_access(
+pub(crate) fn spread_access(
     table: &[Row],
     first: usize,
     k: usize,
@@ -124,30 +115,8 @@ fn spread_access(
     marks
 }
 
-// The marks of an access through the name u.
-pub(crate) fn marks_of_access(
-    table: &[Row],
-    k: usize,
-    places: &[u16; 1024],
-    u: u32,
-    a: Access,
-    s: Span,
-) -> Marks
-    requires { ⌜ LiveRows (rowsIn (now table)) k × Places (rowsIn (now table)) k (now places) ⌝ }
-    ensures { λ r. ⌜ Marked (rowsIn (now (table .entry))) k (r .each)
-        (struck isEnd a (derivations (before (rowsIn (now (table .entry))) k)) u s)
-        (struck isLower a (derivations (before (rowsIn (now (table .entry))) k)) u s)
-        × Downward (rowsIn (now (table .entry))) k (r .each)
-        × Quiet k (r .first) (r .each) ⌝ }
-{
-    let ancestry = ancestry_of(table, k, places, u);
-    let first = first_struck(table, k, &ancestry, s);
-    let each = spread_access(table, first, k, places, &ancestry, a, s);
-    Marks { each, first }
-}
-
 // The rows of names have 2. A name that is not there is noted behind the rows.
-fn own_of_names(table: &[Row], k: usize, names: &[u32]) -> [u8; 1025]
+pub(crate) fn own_of_names(table: &[Row], k: usize, names: &[u32]) -> [u8; 1025]
     requires { ⌜ LiveRows (rowsIn (now table)) k ⌝ }
     ensures { λ r. ⌜ Owned (rowsIn (now (table .entry))) k (now (names .entry)) r ⌝ }
 {
@@ -162,7 +131,7 @@ fn own_of_names(table: &[Row], k: usize, names: &[u32]) -> [u8; 1025]
 }
 
 // How many of the first k rows stand in front of the first that has 2.
-fn first_owned(owned: &[u8; 1025], k: usize) -> usize
+pub(crate) fn first_owned(owned: &[u8; 1025], k: usize) -> usize
     requires { ⌜ k ≤ 1024 ⌝ }
     ensures { λ r. ⌜ Quiet k r (now (owned .entry)) ⌝ }
 {
@@ -177,7 +146,7 @@ fn first_owned(owned: &[u8; 1025], k: usize) -> usize
 }
 
 // The marks of a drop of all rows that have 2: their subtrees go, in one pass from the first of them on.
-fn spread_names(
+pub(crate) fn spread_names(
     table: &[Row],
     first: usize,
     k: usize,
@@ -195,23 +164,4 @@ fn spread_names(
         i += 1;
     }
     marks
-}
-
-// The marks of names dropped together.
-pub(crate) fn marks_of_names(
-    table: &[Row],
-    k: usize,
-    places: &[u16; 1024],
-    names: &[u32],
-) -> Marks
-    requires { ⌜ LiveRows (rowsIn (now table)) k × Places (rowsIn (now table)) k (now places) ⌝ }
-    ensures { λ r. ⌜ Marked (rowsIn (now (table .entry))) k (r .each)
-        (λ x. inSubtrees (now (names .entry)) (ancestry (derivations (before (rowsIn (now (table .entry))) k)) x)) (λ x. false)
-        × Downward (rowsIn (now (table .entry))) k (r .each)
-        × Quiet k (r .first) (r .each) ⌝ }
-{
-    let owned = own_of_names(table, k, names);
-    let first = first_owned(&owned, k);
-    let each = spread_names(table, first, k, places, &owned);
-    Marks { each, first }
 }

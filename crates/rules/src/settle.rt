@@ -96,7 +96,13 @@ fn stay_put(first: usize) -> [u16; 1024]
 }
 
 // The first k rows close up, and the places of their parents with them; the answer is how many are left. Those in front of `first` stay.
-fn close(table: &mut [Row], first: usize, k: usize, marks: &[u8; 1024], places: &mut [u16; 1024]) -> usize
+fn close(
+    table: &mut [Row],
+    first: usize,
+    k: usize,
+    marks: &[u8; 1024],
+    places: &mut [u16; 1024],
+) -> usize
     requires { ⌜ (k ≤ 1024) × (k ≤ length (now table)) × Places (rowsIn (now table)) k (now places) × Downward (rowsIn (now table)) k (now marks) × Quiet k first (now marks) ⌝ }
     ensures { λ r. ⌜ Closes (now (marks .entry)) (rowsIn (now (table .entry))) (rowsIn (now (table .exit))) k r
         × Places (rowsIn (now (table .exit))) r (now (places .exit)) ⌝ }

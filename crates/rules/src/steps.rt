@@ -3,8 +3,12 @@ use crate::Outcome;
 use crate::Progress;
 use crate::count::count_allowed;
 use crate::count::count_refused;
-use crate::marks::marks_of_access;
-use crate::marks::marks_of_names;
+use crate::marks::ancestry_of;
+use crate::marks::first_owned;
+use crate::marks::first_struck;
+use crate::marks::own_of_names;
+use crate::marks::spread_access;
+use crate::marks::spread_names;
 use crate::settle::lower;
 use crate::settle::settle;
 use model::Access;
@@ -80,9 +84,10 @@ fn read_rows(table: &mut [Row], k: usize, places: &[u16; 1024], u: u32, s: Span)
     requires { ⌜ Ready (now table) k × Places (rowsIn (now table)) k (now places) ⌝ }
     ensures { λ _. ⌜ Settled (rowsIn (now (table .exit))) (length (now (table .entry))) k (afterAccess Access.Reading u s (before (rowsIn (now (table .entry))) k)) (now (places .entry)) ⌝ }
 {
-    let found = marks_of_access(table, k, places, u, Access::Reading, s);
-    let marks = found.each;
-    lower(table, found.first, k, &marks);
+    let ancestry = ancestry_of(table, k, places, u);
+    let first = first_struck(table, k, &ancestry, s);
+    let marks = spread_access(table, first, k, places, &ancestry, Access::Reading, s);
+    lower(table, first, k, &marks);
 }
 
 // A write through the name u.
@@ -90,9 +95,10 @@ fn write_rows(table: &mut [Row], k: usize, places: &mut [u16; 1024], u: u32, s: 
     requires { ⌜ Ready (now table) k × Places (rowsIn (now table)) k (now places) ⌝ }
     ensures { λ r. ⌜ Settled (rowsIn (now (table .exit))) (length (now (table .entry))) r (afterAccess Access.Writing u s (before (rowsIn (now (table .entry))) k)) (now (places .exit)) ⌝ }
 {
-    let found = marks_of_access(table, k, places, u, Access::Writing, s);
-    let marks = found.each;
-    settle(table, found.first, k, &marks, places)
+    let ancestry = ancestry_of(table, k, places, u);
+    let first = first_struck(table, k, &ancestry, s);
+    let marks = spread_access(table, first, k, places, &ancestry, Access::Writing, s);
+    settle(table, first, k, &marks, places)
 }
 
 // Names dropped together.
@@ -100,9 +106,10 @@ fn drop_names(table: &mut [Row], k: usize, places: &mut [u16; 1024], names: &[u3
     requires { ⌜ Ready (now table) k × Places (rowsIn (now table)) k (now places) ⌝ }
     ensures { λ r. ⌜ Settled (rowsIn (now (table .exit))) (length (now (table .entry))) r (rowsWithout (now (names .entry)) (before (rowsIn (now (table .entry))) k)) (now (places .exit)) ⌝ }
 {
-    let found = marks_of_names(table, k, places, names);
-    let marks = found.each;
-    settle(table, found.first, k, &marks, places)
+    let owned = own_of_names(table, k, names);
+    let first = first_owned(&owned, k);
+    let marks = spread_names(table, first, k, places, &owned);
+    settle(table, first, k, &marks, places)
 }
 
 // What an allowed event does to the rows; the answer is how many live then. A create is a write through its new name, which has no row

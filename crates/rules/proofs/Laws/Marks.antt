@@ -97,9 +97,6 @@ pub record Spreading (T : List Cap) (i : ℕ) (owned : ℕ → ℕ) (marks : Lis
   pub done : Spread T i owned marks
   pub long : length marks ≡ 1024
 
-pub spread-none : (T : List Cap) (owned : ℕ → ℕ) (marks : List ℕ) → length marks ≡ 1024 → Spreading T 0 owned marks
-spread-none T owned marks h = record { done = record { child = λ i q l. absurd (not-suc-le-zero l); root = λ i l. absurd (not-suc-le-zero l) }; long = h }
-
 -- rows in front that have no mark of their own have none
 pub spread-start : (T : List Cap) (i : ℕ) (owned : ℕ → ℕ) (marks : List ℕ) → length marks ≡ 1024 → ((j : ℕ) → j < i → owned j ≡ 0) → ((j : ℕ) → j < i → getD marks j 0 ≡ 0) → Spreading T i owned marks
 spread-start T i owned marks h o z = record {

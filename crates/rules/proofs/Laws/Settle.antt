@@ -35,10 +35,6 @@ moved marks U i left = cond (ltb (getD marks i 0) 2) (set U left (lowered (eqb (
 abbrev pub countAllowed : List ℕ → ℕ → ℕ → ℕ
 countAllowed marks i left = cond (ltb (getD marks i 0) 2) (left + 1) left
 
-pub closing-none : (marks : List ℕ) (T : List Cap) → Closing marks T T 0 0
-unfolding before kept
-closing-none marks T = record { fits = omega arith; rows = refl; rest = λ j l. refl }
-
 -- rows that have no mark stay as and where they are
 kept-quiet : (marks : List ℕ) (T : List Cap) (i : ℕ) → ((j : ℕ) → j < i → getD marks j 0 ≡ 0) → before T i ≡ kept marks T i
 unfolding before kept
@@ -121,9 +117,6 @@ before-lent T n r b l z =
 
 -- ---- no row ends
 
-pub lowers-none : (marks : List ℕ) (T : List Cap) → Lowers marks T T 0
-lowers-none marks T = record { low = λ j l. absurd (not-suc-le-zero l); rest = λ j l. refl }
-
 pub lowers-start : (marks : List ℕ) (T : List Cap) (i : ℕ) → ((j : ℕ) → j < i → getD marks j 0 ≡ 0) → Lowers marks T T i
 lowers-start marks T i z = record { low = λ j l. rw (z j l) refl; rest = λ j l. refl }
 
@@ -182,9 +175,6 @@ pub record Placing (marks first : List ℕ) (T U : List Cap) (places spots : Lis
   pub rest : (j : ℕ) → i ≤ j → getD places j 0 ≡ getD first j 0
   pub long : length spots ≡ 1024
   pub went : (j : ℕ) → j < i → getD marks j 0 < 2 → (getD spots j 0 < left) × (nameAt U (getD spots j 0) ≡ nameAt T j)
-
-pub placing-none : (marks first : List ℕ) (T : List Cap) (spots : List ℕ) → length first ≡ 1024 → length spots ≡ 1024 → Placing marks first T T first spots 0 0
-placing-none marks first T spots h l = record { placed = places-none T first h; rest = λ j m. refl; long = l; went = λ j m. absurd (not-suc-le-zero m) }
 
 pub placing-start : (marks first : List ℕ) (T : List Cap) (spots : List ℕ) (i k : ℕ) → i ≤ k → Places T k first → Stays i spots → Placing marks first T T first spots i i
 placing-start marks first T spots i k l p s = record {

@@ -6,22 +6,43 @@ use Rattle.model.specs.declared.Access.the-variants.{Writing}
 use Rattle.model.specs.Effects.{afterAccess}
 use Rattle.table.specs.Words.{rowsIn}
 use Rattle.table.specs.Rows.{before}
-use Rattle.rules.specs.Engine.{kept}
+use Rattle.rules.specs.Engine.{ownOfAccess, kept}
+use Rattle.rules.proofs.Laws.Marks.{stand-rise, spread-downward, marked-use}
 use Rattle.rules.proofs.Laws.Steps.{kept-used}
 use Rattle.rules.proofs.steps.write_rows.Statement.{statement}
 use Rattle.rules.proofs.steps.write_rows.Tie as tie
 
+ancestry-of-requires : tie.Need-ancestry-of-requires
+ancestry-of-requires c κs = let s = c .before .before in let live = s .pre .0 .stands in (live .few, stand-rise (rowsIn (s .args .table .now)) (s .args .k) live, s .pre .1)
+
+first-struck-requires : tie.Need-first-struck-requires
+first-struck-requires c κs = let s = c .before .before .before .before .before in let live = s .pre .0 .stands in (live .few, stand-rise (rowsIn (s .args .table .now)) (s .args .k) live)
+
+spread-access-requires : tie.Need-spread-access-requires
+spread-access-requires c κs =
+    let s = c .before .before .before .before .before .before .before .before .before in let live = s .pre .0 .stands in
+    (live .few, stand-rise (rowsIn (s .args .table .now)) (s .args .k) live, s .pre .1, c .before .before .before .first-struck .ensures)
+
+settle-requires : tie.Need-settle-requires
+settle-requires c κs =
+    let s = c .before .before .before .before .before .before .before .before .before .before .before .before .before in let T = rowsIn (s .args .table .now) in let each = c .before .before .before .spread-access in
+    (s .pre .0, s .pre .1, spread-downward T (s .args .k) (ownOfAccess T (c .before .before .before .before .before .before .before .before .before .before .ancestry-of .result) Writing (s .args .s)) (each .result) (each .ensures .0), each .ensures .1)
+
 returns : tie.Need-returns
 returns c =
-    let s = c .before .before .before .before .before .before .before .before .before in let T = rowsIn (s .args .table .now) in let marks = c .before .before .before .before .before .before .marks-of-access .result .each in
-    let e : kept marks T (s .args .k) ≡ afterAccess Writing (s .args .u) (s .args .s) (before T (s .args .k)) = kept-used marks T (s .args .k) (s .args .u) Writing (s .args .s) (c .before .before .before .before .before .before .marks-of-access .ensures .0) in
+    let s = c .before .before .before .before .before .before .before .before .before .before .before .before .before .before .before in let T = rowsIn (s .args .table .now) in let k = s .args .k in
+    let line = c .before .before .before .before .before .before .before .before .before .before .before .before .ancestry-of in let each = c .before .before .before .before .before .spread-access in let marks = each .result in
+    let m = marked-use T k (s .pre .0 .stands) Writing (s .args .s) (s .args .u) (line .result) marks (line .ensures) (each .ensures .0) in
+    let e : kept marks T k ≡ afterAccess Writing (s .args .u) (s .args .s) (before T k) = kept-used marks T k (s .args .u) Writing (s .args .s) m in
     rw (← e) (c .before .settle .ensures)
 
 pub write-rows-spec : {M : Type 1} → statement M
 write-rows-spec =
     tie.close
     (tie.spec
-    (λ c κs. search needs)
-    (λ c κs. search needs)
+    ancestry-of-requires
+    first-struck-requires
+    spread-access-requires
+    settle-requires
     (λ c. search needs)
     returns)
