@@ -13,7 +13,7 @@ ghost use Rattle.model.specs.Strike.{effectOf};
 ghost use Rattle.model.specs.Values.{touches};
 ghost use Prim.Native.Nat.{_≤_, max};
 ghost use lib.Dec.{ltb};
-ghost use lib.ListN.{getD};
+ghost use lib.ListN.{getD, replicate};
 ghost use Rattle.table.specs.Words.{rowsIn};
 ghost use Rattle.table.specs.Rows.{Rise, Places, LiveRows};
 ghost use Rattle.rules.specs.Engine.{OnAncestry, weight, own, ownOfAccess, Owned, Spread, Spared, Quiet};
@@ -33,12 +33,17 @@ fn larger(a: u8, b: u8) -> u8
     if a < b { b } else { a }
 }
 
-// The rows on the ancestry of the name u have 1.
-pub(crate) fn ancestry_of(table: &[Row], k: usize, places: &[u16; 1024], u: u32) -> [u8; 1024]
-    requires { ⌜ (k ≤ 1024) × Rise (rowsIn (now table)) k × Places (rowsIn (now table)) k (now places) ⌝ }
-    ensures { λ r. ⌜ OnAncestry (rowsIn (now (table .entry))) k u r ⌝ }
+// The rows on the ancestry of the name u get 1. Arrays of marks are lent, all zeros: one that is returned is copied.
+pub(crate) fn ancestry_of(
+    table: &[Row],
+    k: usize,
+    places: &[u16; 1024],
+    u: u32,
+    ancestry: &mut [u8; 1024],
+)
+    requires { ⌜ (k ≤ 1024) × Rise (rowsIn (now table)) k × Places (rowsIn (now table)) k (now places) × (now ancestry ≡ replicate 1024 0) ⌝ }
+    ensures { λ _. ⌜ OnAncestry (rowsIn (now (table .entry))) k u (now (ancestry .exit)) ⌝ }
 {
-    let mut ancestry = [0u8; 1024];
     let mut top = k;
     let mut at = find(table, k, u);
     while at < top {
@@ -46,7 +51,6 @@ pub(crate) fn ancestry_of(table: &[Row], k: usize, places: &[u16; 1024], u: u32)
         top = at;
         at = wide(places[at]);
     }
-    ancestry
 }
 
 // A holder's own mark: what an access to s gives it, where `on` says that it is on the user's ancestry.
@@ -99,35 +103,32 @@ pub(crate) fn spread_access(
     ancestry: &[u8; 1024],
     a: Access,
     s: Span,
-) -> [u8; 1024]
-    requires { ⌜ (k ≤ 1024) × Rise (rowsIn (now table)) k × Places (rowsIn (now table)) k (now places) × Spared (rowsIn (now table)) k (now ancestry) s first ⌝ }
-    ensures { λ r. ⌜ Spread (rowsIn (now (table .entry))) k (ownOfAccess (rowsIn (now (table .entry))) (now (ancestry .entry)) a s) r × Quiet k first r ⌝ }
+    marks: &mut [u8; 1024],
+)
+    requires { ⌜ (k ≤ 1024) × Rise (rowsIn (now table)) k × Places (rowsIn (now table)) k (now places) × Spared (rowsIn (now table)) k (now ancestry) s first × (now marks ≡ replicate 1024 0) ⌝ }
+    ensures { λ _. ⌜ Spread (rowsIn (now (table .entry))) k (ownOfAccess (rowsIn (now (table .entry))) (now (ancestry .entry)) a s) (now (marks .exit)) × Quiet k first (now (marks .exit)) ⌝ }
 {
-    let mut marks = [0u8; 1024];
     let mut i = first;
     while i < k {
         let c = row_at(table, i);
         let owned = own_mark(a, s, span_of(c), ancestry[i] == 1);
-        let up = mark_below(&marks, wide(places[i]), i);
+        let up = mark_below(marks, wide(places[i]), i);
         marks[i] = larger(owned, up);
         i += 1;
     }
-    marks
 }
 
 // The rows of names have 2. A name that is not there is noted behind the rows.
-pub(crate) fn own_of_names(table: &[Row], k: usize, names: &[u32]) -> [u8; 1025]
-    requires { ⌜ LiveRows (rowsIn (now table)) k ⌝ }
-    ensures { λ r. ⌜ Owned (rowsIn (now (table .entry))) k (now (names .entry)) r ⌝ }
+pub(crate) fn own_of_names(table: &[Row], k: usize, names: &[u32], owned: &mut [u8; 1025])
+    requires { ⌜ LiveRows (rowsIn (now table)) k × (now owned ≡ replicate 1025 0) ⌝ }
+    ensures { λ _. ⌜ Owned (rowsIn (now (table .entry))) k (now (names .entry)) (now (owned .exit)) ⌝ }
 {
-    let mut owned = [0u8; 1025];
     let mut i = names.len();
     while 0 < i {
         i -= 1;
         let q = find(table, k, names[i]);
         owned[q] = 2;
     }
-    owned
 }
 
 // How many of the first k rows stand in front of the first that has 2.
@@ -152,16 +153,15 @@ pub(crate) fn spread_names(
     k: usize,
     places: &[u16; 1024],
     owned: &[u8; 1025],
-) -> [u8; 1024]
-    requires { ⌜ (k ≤ 1024) × Rise (rowsIn (now table)) k × Places (rowsIn (now table)) k (now places) × Quiet k first (now owned) ⌝ }
-    ensures { λ r. ⌜ Spread (rowsIn (now (table .entry))) k (λ i. getD (now (owned .entry)) i 0) r × Quiet k first r ⌝ }
+    marks: &mut [u8; 1024],
+)
+    requires { ⌜ (k ≤ 1024) × Rise (rowsIn (now table)) k × Places (rowsIn (now table)) k (now places) × Quiet k first (now owned) × (now marks ≡ replicate 1024 0) ⌝ }
+    ensures { λ _. ⌜ Spread (rowsIn (now (table .entry))) k (λ i. getD (now (owned .entry)) i 0) (now (marks .exit)) × Quiet k first (now (marks .exit)) ⌝ }
 {
-    let mut marks = [0u8; 1024];
     let mut i = first;
     while i < k {
-        let up = mark_below(&marks, wide(places[i]), i);
+        let up = mark_below(marks, wide(places[i]), i);
         marks[i] = larger(owned[i], up);
         i += 1;
     }
-    marks
 }

@@ -84,9 +84,20 @@ fn read_rows(table: &mut [Row], k: usize, places: &[u16; 1024], u: u32, s: Span)
     requires { ⌜ Ready (now table) k × Places (rowsIn (now table)) k (now places) ⌝ }
     ensures { λ _. ⌜ Settled (rowsIn (now (table .exit))) (length (now (table .entry))) k (afterAccess Access.Reading u s (before (rowsIn (now (table .entry))) k)) (now (places .entry)) ⌝ }
 {
-    let ancestry = ancestry_of(table, k, places, u);
+    let mut ancestry = [0u8; 1024];
+    ancestry_of(table, k, places, u, &mut ancestry);
     let first = first_struck(table, k, &ancestry, s);
-    let marks = spread_access(table, first, k, places, &ancestry, Access::Reading, s);
+    let mut marks = [0u8; 1024];
+    spread_access(
+        table,
+        first,
+        k,
+        places,
+        &ancestry,
+        Access::Reading,
+        s,
+        &mut marks,
+    );
     lower(table, first, k, &marks);
 }
 
@@ -95,9 +106,20 @@ fn write_rows(table: &mut [Row], k: usize, places: &mut [u16; 1024], u: u32, s: 
     requires { ⌜ Ready (now table) k × Places (rowsIn (now table)) k (now places) ⌝ }
     ensures { λ r. ⌜ Settled (rowsIn (now (table .exit))) (length (now (table .entry))) r (afterAccess Access.Writing u s (before (rowsIn (now (table .entry))) k)) (now (places .exit)) ⌝ }
 {
-    let ancestry = ancestry_of(table, k, places, u);
+    let mut ancestry = [0u8; 1024];
+    ancestry_of(table, k, places, u, &mut ancestry);
     let first = first_struck(table, k, &ancestry, s);
-    let marks = spread_access(table, first, k, places, &ancestry, Access::Writing, s);
+    let mut marks = [0u8; 1024];
+    spread_access(
+        table,
+        first,
+        k,
+        places,
+        &ancestry,
+        Access::Writing,
+        s,
+        &mut marks,
+    );
     settle(table, first, k, &marks, places)
 }
 
@@ -106,9 +128,11 @@ fn drop_names(table: &mut [Row], k: usize, places: &mut [u16; 1024], names: &[u3
     requires { ⌜ Ready (now table) k × Places (rowsIn (now table)) k (now places) ⌝ }
     ensures { λ r. ⌜ Settled (rowsIn (now (table .exit))) (length (now (table .entry))) r (rowsWithout (now (names .entry)) (before (rowsIn (now (table .entry))) k)) (now (places .exit)) ⌝ }
 {
-    let owned = own_of_names(table, k, names);
+    let mut owned = [0u8; 1025];
+    own_of_names(table, k, names, &mut owned);
     let first = first_owned(&owned, k);
-    let marks = spread_names(table, first, k, places, &owned);
+    let mut marks = [0u8; 1024];
+    spread_names(table, first, k, places, &owned, &mut marks);
     settle(table, first, k, &marks, places)
 }
 

@@ -18,10 +18,10 @@ find-requires : tie.Need-find-requires Inv-loop μ-loop
 find-requires c κs = (c .pre .0, c .pre .1)
 
 loop-holds : tie.Need-loop-holds Inv-loop μ-loop
-loop-holds c = walk-first (rowsIn (c .before .args .table .now)) (c .before .args .k) (c .before .args .u) (c .find .result) (c .before .pre .0) (c .find .ensures)
+loop-holds c = rw (c .before .pre .3) (walk-first (rowsIn (c .before .args .table .now)) (c .before .args .k) (c .before .args .u) (c .find .result) (c .before .pre .0) (c .find .ensures))
 
-array-write-ancestry : tie.Need-array-write-ancestry Inv-loop μ-loop
-array-write-ancestry c = omega (arith, c .before .before .before .pre .0, c .before .loop .inv .fits, c .before .loop .inv .long, c .loop-test .taken)
+element-write-ancestry : tie.Need-element-write-ancestry Inv-loop μ-loop
+element-write-ancestry c = omega (arith, c .before .before .before .pre .0, c .before .loop .inv .fits, c .before .loop .inv .long, c .loop-test .taken)
 
 mul-wide : tie.Need-mul-wide Inv-loop μ-loop
 mul-wide c = omega (arith, c .before .before .before .pre .0, c .before .loop .inv .fits, c .before .loop .inv .long, c .loop-test .taken)
@@ -48,7 +48,7 @@ ancestry-of-spec =
     μ-loop
     find-requires
     loop-holds
-    array-write-ancestry
+    element-write-ancestry
     mul-wide
     element-copy-out-wide
     (λ c κs. tt)

@@ -21,22 +21,22 @@ abbrev μ-loop : tie.MeasureT-loop
 loop-holds : tie.Need-loop-holds Inv-loop μ-loop
 loop-holds c =
     let s = c .before in
-    (omega arith, owned-none (rowsIn (s .args .table .now)) (s .args .k) (s .pre) (s .args .names .now) (length (s .args .names .now)) (omega arith))
+    rw (s .pre .1) (omega arith, owned-none (rowsIn (s .args .table .now)) (s .args .k) (s .pre .0) (s .args .names .now) (length (s .args .names .now)) (omega arith))
 
 find-requires : tie.Need-find-requires Inv-loop μ-loop
 find-requires c κs =
     let s = c .before .before .before .before in
-    (s .pre .few, stand-rise (rowsIn (s .args .table .now)) (s .args .k) (s .pre))
+    (s .pre .0 .few, stand-rise (rowsIn (s .args .table .now)) (s .args .k) (s .pre .0))
 
-array-write-owned : tie.Need-array-write-owned Inv-loop μ-loop
-array-write-owned c = let s = c .before .before .before .before .before in omega (arith, s .pre .few, c .find .ensures .fits, c .before .before .before .loop .inv .1 .long)
+element-write-owned : tie.Need-element-write-owned Inv-loop μ-loop
+element-write-owned c = let s = c .before .before .before .before .before in omega (arith, s .pre .0 .few, c .find .ensures .fits, c .before .before .before .loop .inv .1 .long)
 
 loop-again : tie.Need-loop-again Inv-loop μ-loop
 loop-again c =
     let l = c .before .before .before in
     let s = l .before .before in
     let back : l .loop .i - 1 + 1 ≡ l .loop .i = omega (arith, c .before .before .loop-test .taken) in
-    (omega (arith, l .loop .inv .0), owned-more (rowsIn (s .args .table .now)) (s .args .k) (s .pre) (s .args .names .now) (l .loop .i - 1) (c .find .result) (l .loop .owned) (omega (arith, l .loop .inv .0, c .before .before .loop-test .taken)) (c .find .ensures) (rw back (l .loop .inv .1)))
+    (omega (arith, l .loop .inv .0), owned-more (rowsIn (s .args .table .now)) (s .args .k) (s .pre .0) (s .args .names .now) (l .loop .i - 1) (c .find .result) (l .loop .owned) (omega (arith, l .loop .inv .0, c .before .before .loop-test .taken)) (c .find .ensures) (rw back (l .loop .inv .1)))
 
 returns : tie.Need-returns Inv-loop μ-loop
 returns c = let z : c .before .loop .i ≡ 0 = omega (arith, c .loop-test .left) in rw z at (c .before .loop .inv .1)
@@ -52,7 +52,7 @@ own-of-names-spec =
     (λ c. omega arith)
     (λ c. omega (arith, c .before .before .loop .inv .0, c .before .loop-test .taken))
     find-requires
-    array-write-owned
+    element-write-owned
     (λ c. omega (arith, c .before .before .loop-test .taken))
     loop-again
     returns)

@@ -25,7 +25,7 @@ loop-holds : tie.Need-loop-holds Inv-loop μ-loop
 loop-holds c =
     let T = rowsIn (c .args .table .now) in
     let none : (j : ℕ) → j < c .args .first → getD (replicate {A = ℕ} 1024 0) j 0 ≡ 0 = λ j l. getD-replicate {A = ℕ} 1024 j 0 0 (omega (arith, l, c .pre .3 .fits, c .pre .0)) in
-    (c .pre .3 .fits, omega arith, none, spread-start T (c .args .first) (ownOfAccess T (c .args .ancestry .now) (c .args .a) (c .args .s)) (replicate {A = ℕ} 1024 0) (length-replicate {A = ℕ} 1024 0) (λ j l. rw (c .pre .3 .none j l)) none)
+    rw (c .pre .4) (c .pre .3 .fits, omega arith, none, spread-start T (c .args .first) (ownOfAccess T (c .args .ancestry .now) (c .args .a) (c .args .s)) (replicate {A = ℕ} 1024 0) (length-replicate {A = ℕ} 1024 0) (λ j l. rw (c .pre .3 .none j l)) none)
 
 row-at-requires : tie.Need-row-at-requires Inv-loop μ-loop
 row-at-requires c κs = let s = c .before .before in omega (arith, rise-fits (s .args .table .now) (s .args .k) (s .pre .1), c .loop-test .taken)
@@ -51,8 +51,8 @@ mark-below-requires c κs = omega (arith, c .before .before .before .before .bef
 larger-requires : tie.Need-larger-requires Inv-loop μ-loop
 larger-requires c κs = tt
 
-array-write-marks : tie.Need-array-write-marks Inv-loop μ-loop
-array-write-marks c = omega (arith, c .before .before .before .before .before .before .before .before .before .before .before .pre .0, c .before .before .before .before .before .before .before .before .before .loop-test .taken, c .before .before .before .before .before .before .before .before .before .before .loop .inv .3 .long)
+element-write-marks : tie.Need-element-write-marks Inv-loop μ-loop
+element-write-marks c = omega (arith, c .before .before .before .before .before .before .before .before .before .before .before .pre .0, c .before .before .before .before .before .before .before .before .before .loop-test .taken, c .before .before .before .before .before .before .before .before .before .before .loop .inv .3 .long)
 
 add-i : tie.Need-add-i Inv-loop μ-loop
 add-i c = omega (arith, c .before .before .before .before .before .before .before .before .before .before .before .pre .0, c .before .before .before .before .before .before .before .before .before .loop-test .taken)
@@ -89,7 +89,7 @@ spread-access-spec =
     (λ c κs. tt)
     mark-below-requires
     larger-requires
-    array-write-marks
+    element-write-marks
     add-i
     loop-less
     loop-again

@@ -21,7 +21,7 @@ abbrev μ-loop : tie.MeasureT-loop
 loop-holds : tie.Need-loop-holds Inv-loop μ-loop
 loop-holds c =
     let none : (j : ℕ) → j < c .args .first → getD (replicate {A = ℕ} 1024 0) j 0 ≡ 0 = λ j l. getD-replicate {A = ℕ} 1024 j 0 0 (omega (arith, l, c .pre .3 .fits, c .pre .0)) in
-    (c .pre .3 .fits, omega arith, none, spread-start (rowsIn (c .args .table .now)) (c .args .first) (λ j. getD (c .args .owned .now) j 0) (replicate {A = ℕ} 1024 0) (length-replicate {A = ℕ} 1024 0) (c .pre .3 .zero) none)
+    rw (c .pre .4) (c .pre .3 .fits, omega arith, none, spread-start (rowsIn (c .args .table .now)) (c .args .first) (λ j. getD (c .args .owned .now) j 0) (replicate {A = ℕ} 1024 0) (length-replicate {A = ℕ} 1024 0) (c .pre .3 .zero) none)
 
 mul-wide : tie.Need-mul-wide Inv-loop μ-loop
 mul-wide c = omega (arith, c .before .before .before .pre .0, c .before .loop-test .taken)
@@ -38,8 +38,8 @@ element-copy-out-larger c = omega (arith, c .before .before .before .before .bef
 larger-requires : tie.Need-larger-requires Inv-loop μ-loop
 larger-requires c κs = tt
 
-array-write-marks : tie.Need-array-write-marks Inv-loop μ-loop
-array-write-marks c = omega (arith, c .before .before .before .before .before .before .before .before .pre .0, c .before .before .before .before .before .before .loop-test .taken, c .before .before .before .before .before .before .before .loop .inv .3 .long)
+element-write-marks : tie.Need-element-write-marks Inv-loop μ-loop
+element-write-marks c = omega (arith, c .before .before .before .before .before .before .before .before .pre .0, c .before .before .before .before .before .before .loop-test .taken, c .before .before .before .before .before .before .before .loop .inv .3 .long)
 
 add-i : tie.Need-add-i Inv-loop μ-loop
 add-i c = omega (arith, c .before .before .before .before .before .before .before .before .pre .0, c .before .before .before .before .before .before .loop-test .taken)
@@ -73,7 +73,7 @@ spread-names-spec =
     mark-below-requires
     element-copy-out-larger
     larger-requires
-    array-write-marks
+    element-write-marks
     add-i
     loop-less
     loop-again

@@ -1,6 +1,6 @@
 -- `read_rows` meets its contract.
 -- Assumes nothing.
-use mathlib.Core.Path.{_≡_, _∙_}
+use mathlib.Core.Path.{_≡_, refl, _∙_}
 use native.Mathlib.Omega.{arith}
 use lib.ListN.{length}
 use borrow.Author.Needs.{needs}
@@ -17,24 +17,24 @@ use Rattle.rules.proofs.steps.read_rows.Statement.{statement}
 use Rattle.rules.proofs.steps.read_rows.Tie as tie
 
 ancestry-of-requires : tie.Need-ancestry-of-requires
-ancestry-of-requires c κs = let s = c .before in let live = s .pre .0 .stands in (live .few, stand-rise (rowsIn (s .args .table .now)) (s .args .k) live, s .pre .1)
+ancestry-of-requires c κs = let s = c .before .before in let live = s .pre .0 .stands in (live .few, stand-rise (rowsIn (s .args .table .now)) (s .args .k) live, s .pre .1, refl)
 
 first-struck-requires : tie.Need-first-struck-requires
-first-struck-requires c κs = let s = c .before .before .before .before in let live = s .pre .0 .stands in (live .few, stand-rise (rowsIn (s .args .table .now)) (s .args .k) live)
+first-struck-requires c κs = let s = c .before .before .before .before .before in let live = s .pre .0 .stands in (live .few, stand-rise (rowsIn (s .args .table .now)) (s .args .k) live)
 
 spread-access-requires : tie.Need-spread-access-requires
 spread-access-requires c κs =
-    let s = c .before .before .before .before .before .before .before in let live = s .pre .0 .stands in
-    (live .few, stand-rise (rowsIn (s .args .table .now)) (s .args .k) live, s .pre .1, c .before .before .first-struck .ensures)
+    let s = c .before .before .before .before .before .before .before .before .before in let live = s .pre .0 .stands in
+    (live .few, stand-rise (rowsIn (s .args .table .now)) (s .args .k) live, s .pre .1, c .before .before .before .first-struck .ensures, refl)
 
 lower-requires : tie.Need-lower-requires
-lower-requires c κs = let s = c .before .before .before .before .before .before .before .before .before .before in (s .pre .0 .stands .few, s .pre .0 .fits, c .before .before .spread-access .ensures .1)
+lower-requires c κs = let s = c .before .before .before .before .before .before .before .before .before .before .before .before in (s .pre .0 .stands .few, s .pre .0 .fits, c .before .before .spread-access .ensures .1)
 
 returns : tie.Need-returns
 returns c =
-    let s = c .before .before .before .before .before .before .before .before .before .before .before .before in let T = rowsIn (s .args .table .now) in let k = s .args .k in
-    let line = c .before .before .before .before .before .before .before .before .before .before .ancestry-of in let each = c .before .before .before .before .spread-access in let marks = each .result in
-    let m = marked-use T k (s .pre .0 .stands) Reading (s .args .s) (s .args .u) (line .result) marks (line .ensures) (each .ensures .0) in
+    let s = c .before .before .before .before .before .before .before .before .before .before .before .before .before .before in let T = rowsIn (s .args .table .now) in let k = s .args .k in
+    let line = c .before .before .before .before .before .before .before .before .before .before .before .ancestry-of in let each = c .before .before .before .before .spread-access in let marks = each .last .1 .1 .1 .1 .1 .1 .1 .0 in
+    let m = marked-use T k (s .pre .0 .stands) Reading (s .args .s) (s .args .u) (line .last .1 .1 .1 .1 .0) marks (line .ensures) (each .ensures .0) in
     let e : kept marks T k ≡ afterAccess Reading (s .args .u) (s .args .s) (before T k) = kept-used marks T k (s .args .u) Reading (s .args .s) m in
     rw (← e) (lowered-settled marks T (rowsIn (c .before .lower .last .0)) (length (s .args .table .now)) k (s .args .places .now) (s .pre .0 .fits) (length-in (c .before .lower .last .0) ∙ c .table .given) (s .pre .0 .zeros) (s .pre .0 .stands .filled) (c .before .lower .ensures) (read-marks marks T k (s .args .u) (s .args .s) _ m) (s .pre .1))
 

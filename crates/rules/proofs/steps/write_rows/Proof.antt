@@ -1,6 +1,6 @@
 -- `write_rows` meets its contract.
 -- Assumes nothing.
-use mathlib.Core.Path.{_≡_}
+use mathlib.Core.Path.{_≡_, refl}
 use borrow.Author.Needs.{needs}
 use Rattle.model.specs.declared.Access.the-variants.{Writing}
 use Rattle.model.specs.Effects.{afterAccess}
@@ -13,26 +13,26 @@ use Rattle.rules.proofs.steps.write_rows.Statement.{statement}
 use Rattle.rules.proofs.steps.write_rows.Tie as tie
 
 ancestry-of-requires : tie.Need-ancestry-of-requires
-ancestry-of-requires c κs = let s = c .before .before in let live = s .pre .0 .stands in (live .few, stand-rise (rowsIn (s .args .table .now)) (s .args .k) live, s .pre .1)
+ancestry-of-requires c κs = let s = c .before .before .before in let live = s .pre .0 .stands in (live .few, stand-rise (rowsIn (s .args .table .now)) (s .args .k) live, s .pre .1, refl)
 
 first-struck-requires : tie.Need-first-struck-requires
-first-struck-requires c κs = let s = c .before .before .before .before .before in let live = s .pre .0 .stands in (live .few, stand-rise (rowsIn (s .args .table .now)) (s .args .k) live)
+first-struck-requires c κs = let s = c .before .before .before .before .before .before in let live = s .pre .0 .stands in (live .few, stand-rise (rowsIn (s .args .table .now)) (s .args .k) live)
 
 spread-access-requires : tie.Need-spread-access-requires
 spread-access-requires c κs =
-    let s = c .before .before .before .before .before .before .before .before .before in let live = s .pre .0 .stands in
-    (live .few, stand-rise (rowsIn (s .args .table .now)) (s .args .k) live, s .pre .1, c .before .before .before .first-struck .ensures)
+    let s = c .before .before .before .before .before .before .before .before .before .before .before in let live = s .pre .0 .stands in
+    (live .few, stand-rise (rowsIn (s .args .table .now)) (s .args .k) live, s .pre .1, c .before .before .before .before .first-struck .ensures, refl)
 
 settle-requires : tie.Need-settle-requires
 settle-requires c κs =
-    let s = c .before .before .before .before .before .before .before .before .before .before .before .before .before in let T = rowsIn (s .args .table .now) in let each = c .before .before .before .spread-access in
-    (s .pre .0, s .pre .1, spread-downward T (s .args .k) (ownOfAccess T (c .before .before .before .before .before .before .before .before .before .before .ancestry-of .result) Writing (s .args .s)) (each .result) (each .ensures .0), each .ensures .1)
+    let s = c .before .before .before .before .before .before .before .before .before .before .before .before .before .before .before in let T = rowsIn (s .args .table .now) in let each = c .before .before .before .spread-access in
+    (s .pre .0, s .pre .1, spread-downward T (s .args .k) (ownOfAccess T (c .before .before .before .before .before .before .before .before .before .before .before .ancestry-of .last .1 .1 .1 .1 .0) Writing (s .args .s)) (each .last .1 .1 .1 .1 .1 .1 .1 .0) (each .ensures .0), each .ensures .1)
 
 returns : tie.Need-returns
 returns c =
-    let s = c .before .before .before .before .before .before .before .before .before .before .before .before .before .before .before in let T = rowsIn (s .args .table .now) in let k = s .args .k in
-    let line = c .before .before .before .before .before .before .before .before .before .before .before .before .ancestry-of in let each = c .before .before .before .before .before .spread-access in let marks = each .result in
-    let m = marked-use T k (s .pre .0 .stands) Writing (s .args .s) (s .args .u) (line .result) marks (line .ensures) (each .ensures .0) in
+    let s = c .before .before .before .before .before .before .before .before .before .before .before .before .before .before .before .before .before in let T = rowsIn (s .args .table .now) in let k = s .args .k in
+    let line = c .before .before .before .before .before .before .before .before .before .before .before .before .before .ancestry-of in let each = c .before .before .before .before .before .spread-access in let marks = each .last .1 .1 .1 .1 .1 .1 .1 .0 in
+    let m = marked-use T k (s .pre .0 .stands) Writing (s .args .s) (s .args .u) (line .last .1 .1 .1 .1 .0) marks (line .ensures) (each .ensures .0) in
     let e : kept marks T k ≡ afterAccess Writing (s .args .u) (s .args .s) (before T k) = kept-used marks T k (s .args .u) Writing (s .args .s) m in
     rw (← e) (c .before .settle .ensures)
 
