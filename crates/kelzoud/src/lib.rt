@@ -6,6 +6,7 @@ use crate::answers::packed_written;
 use crate::requests::read_request;
 use crate::requests::spelling_in;
 use crate::requests::write_request;
+use kelzoud_events::events::Words;
 use kelzoud_events::events::asked_in;
 use kelzoud_events::events::names_in;
 use listing::reading::read_listing;
@@ -42,7 +43,7 @@ pub extern "C" fn kz_abi_run(table: &mut [Row], tally: &mut [u32; 7], text: &[u8
 
 // Writes the line of a request.
 #[no_mangle]
-pub extern "C" fn kz_abi_write_event(event: &[u32; 7], names: &[u32], out: &mut [u8]) -> u64
+pub extern "C" fn kz_abi_write_event(event: &Words, names: &[u32], out: &mut [u8]) -> u64
     ensures { λ r. ⌜ (r ≡ packedResult (writeRequest (requestIn (now (event .entry)) (now (names .entry))) (now (out .entry)) .answer))
         × (now (out .exit) ≡ writeRequest (requestIn (now (event .entry)) (now (names .entry))) (now (out .entry)) .buffer) ⌝ }
 {
@@ -58,7 +59,7 @@ pub extern "C" fn kz_abi_write_event(event: &[u32; 7], names: &[u32], out: &mut 
 pub extern "C" fn kz_abi_read_event(
     named: u32,
     line: &[u8],
-    event: &mut [u32; 7],
+    event: &mut Words,
     names: &mut [u32; 64],
 ) -> u64
     ensures { λ r. ⌜ (r ≡ packedRead (readRequest (spellingIn named) (now (line .entry))))

@@ -1,6 +1,7 @@
 // The line of a request, written and read.
 use kelzoud_events::answers::pack;
 use kelzoud_events::answers::pack_refusal;
+use kelzoud_events::events::Words;
 use kelzoud_events::events::group_words;
 use kelzoud_events::events::words_of;
 use model::Asked;
@@ -47,7 +48,7 @@ fn spelling_of(event: Event) -> Spelling
 {
     match event {
         Event::Create(new, _, _) => spelling_with(new),
-        Event::Borrow(new, _, _, _) => spelling_with(new),
+        Event::Borrow(new, _, _, _, _) => spelling_with(new),
         Event::Read(_, _) => Spelling::Plain,
         Event::Write(_, _) => Spelling::Plain,
         Event::Drop(_) => Spelling::Plain,
@@ -65,7 +66,7 @@ pub fn write_request(asked: Asked, names: &[u32], out: &mut [u8]) -> Written
 }
 
 // Reads a line that is no event: the names that it drops together.
-fn read_names(line: &[u8], event: &mut [u32; 7], names: &mut [u32; 64]) -> u64
+fn read_names(line: &[u8], event: &mut Words, names: &mut [u32; 64]) -> u64
     ensures { λ r. ⌜ (r ≡ packedRead (groupOf (readGroup (now (line .entry)))))
         × (now (event .exit) ≡ eventAfter (groupOf (readGroup (now (line .entry)))) (now (event .entry)))
         × (now (names .exit) ≡ groupAfter (groupOf (readGroup (now (line .entry)))) (now (names .entry))) ⌝ }
@@ -84,7 +85,7 @@ fn read_names(line: &[u8], event: &mut [u32; 7], names: &mut [u32; 64]) -> u64
 pub fn read_request(
     spelling: Spelling,
     line: &[u8],
-    event: &mut [u32; 7],
+    event: &mut Words,
     names: &mut [u32; 64],
 ) -> u64
     ensures { λ r. ⌜ (r ≡ packedRead (readRequest spelling (now (line .entry))))

@@ -10,7 +10,7 @@ use Rattle.model.specs.declared.Event.the-variants.{Create, Borrow, Read, Write
 use Rattle.model.specs.Requests.{Request, Single, Group}
 use Rattle.model.specs.Counts.{tally}
 use Rattle.model.specs.Derivation.{ancestry, onAncestry}
-use Rattle.model.specs.Strike.{strike, reached, struck}
+use Rattle.model.specs.Strike.{origin, strike, reached, struck}
 use Rattle.model.specs.Table.{emptyRow, liveRows, lentTable, lookup, isEmptyRow, liveRowsFirst, rowFitsParent, parentInOrder, rowInOrder, rowsInOrder, inOrder}
 use Rattle.model.specs.Requests.{risesAbove, risesStrictly, isGroup}
 use Rattle.model.specs.Refusals.{standings, refusals, judge}
@@ -25,19 +25,19 @@ requests names = map (λ w. requestIn w names)
 
 -- each kind; what a kind lacks is not looked at
 kinds : requests (7 ∷ 8 ∷ 9 ∷ []) (
-    (1 ∷ 5 ∷ 16 ∷ 64 ∷ 2 ∷ 0 ∷ 9 ∷ [])
-    ∷ (1 ∷ 5 ∷ 16 ∷ 64 ∷ 2 ∷ 3 ∷ 9 ∷ [])
-    ∷ (2 ∷ 5 ∷ 16 ∷ 8 ∷ 1 ∷ 0 ∷ 0 ∷ [])
-    ∷ (2 ∷ 5 ∷ 16 ∷ 8 ∷ 1 ∷ 1 ∷ 0 ∷ [])
-    ∷ (3 ∷ 5 ∷ 16 ∷ 8 ∷ 2 ∷ 1 ∷ 9 ∷ [])
-    ∷ (4 ∷ 5 ∷ 16 ∷ 8 ∷ 2 ∷ 1 ∷ 9 ∷ [])
-    ∷ (5 ∷ 5 ∷ 16 ∷ 8 ∷ 2 ∷ 1 ∷ 9 ∷ [])
-    ∷ (6 ∷ 5 ∷ 1 ∷ 2 ∷ 2 ∷ 1 ∷ 9 ∷ [])
+    (1 ∷ 5 ∷ 16 ∷ 64 ∷ 2 ∷ 0 ∷ 9 ∷ 2 ∷ [])
+    ∷ (1 ∷ 5 ∷ 16 ∷ 64 ∷ 2 ∷ 3 ∷ 9 ∷ 0 ∷ [])
+    ∷ (2 ∷ 5 ∷ 16 ∷ 8 ∷ 1 ∷ 0 ∷ 0 ∷ 0 ∷ [])
+    ∷ (2 ∷ 5 ∷ 16 ∷ 8 ∷ 1 ∷ 1 ∷ 0 ∷ 2 ∷ [])
+    ∷ (3 ∷ 5 ∷ 16 ∷ 8 ∷ 2 ∷ 1 ∷ 9 ∷ 1 ∷ [])
+    ∷ (4 ∷ 5 ∷ 16 ∷ 8 ∷ 2 ∷ 1 ∷ 9 ∷ 0 ∷ [])
+    ∷ (5 ∷ 5 ∷ 16 ∷ 8 ∷ 2 ∷ 1 ∷ 9 ∷ 0 ∷ [])
+    ∷ (6 ∷ 5 ∷ 1 ∷ 2 ∷ 2 ∷ 1 ∷ 9 ∷ 0 ∷ [])
     ∷ [])
     ≡ Single (Create Unwritten (spanOf 16 64) 2)
     ∷ Single (Create (Written (nameOf 9)) (spanOf 16 64) 2)
-    ∷ Single (Borrow Unwritten (nameOf 5) (spanOf 16 8) 1)
-    ∷ Single (Borrow (Written (nameOf 0)) (nameOf 5) (spanOf 16 8) 1)
+    ∷ Single (Borrow Unwritten (nameOf 5) (spanOf 16 8) 1 0)
+    ∷ Single (Borrow (Written (nameOf 0)) (nameOf 5) (spanOf 16 8) 1 2)
     ∷ Single (Read (nameOf 5) (spanOf 16 8))
     ∷ Single (Write (nameOf 5) (spanOf 16 8))
     ∷ Single (Drop (nameOf 5))
@@ -47,26 +47,32 @@ unfolding askedIn eventIn eventWith part
 kinds = refl
 
 -- an unknown kind, below and above the others, is a create whose right is 0; so is a create whose right is above 255, whatever its lower byte
-unknown : requests [] ((0 ∷ 0 ∷ 16 ∷ 64 ∷ 2 ∷ 0 ∷ 0 ∷ []) ∷ (7 ∷ 0 ∷ 16 ∷ 64 ∷ 2 ∷ 0 ∷ 0 ∷ []) ∷ (4294967295 ∷ 0 ∷ 16 ∷ 64 ∷ 2 ∷ 0 ∷ 0 ∷ []) ∷ (1 ∷ 0 ∷ 16 ∷ 64 ∷ 258 ∷ 0 ∷ 0 ∷ []) ∷ [])
+unknown : requests [] ((0 ∷ 0 ∷ 16 ∷ 64 ∷ 2 ∷ 0 ∷ 0 ∷ 0 ∷ []) ∷ (7 ∷ 0 ∷ 16 ∷ 64 ∷ 2 ∷ 0 ∷ 0 ∷ 0 ∷ []) ∷ (4294967295 ∷ 0 ∷ 16 ∷ 64 ∷ 2 ∷ 0 ∷ 0 ∷ 0 ∷ []) ∷ (1 ∷ 0 ∷ 16 ∷ 64 ∷ 258 ∷ 0 ∷ 0 ∷ 0 ∷ []) ∷ [])
     ≡ replicate 4 (Single (Create Unwritten (spanOf 16 64) 0))
 unfolding askedIn eventIn eventWith
 unknown = refl
 
+-- a kind of capability above 255 is kind 3, whatever its lower byte; only a borrow has one
+capability-kinds : requests [] ((2 ∷ 5 ∷ 16 ∷ 8 ∷ 1 ∷ 0 ∷ 0 ∷ 1 ∷ []) ∷ (2 ∷ 5 ∷ 16 ∷ 8 ∷ 1 ∷ 0 ∷ 0 ∷ 255 ∷ []) ∷ (2 ∷ 5 ∷ 16 ∷ 8 ∷ 1 ∷ 0 ∷ 0 ∷ 256 ∷ []) ∷ (2 ∷ 5 ∷ 16 ∷ 8 ∷ 1 ∷ 0 ∷ 0 ∷ 4294967295 ∷ []) ∷ [])
+    ≡ map (λ kind. Single (Borrow Unwritten (nameOf 5) (spanOf 16 8) 1 kind)) (1 ∷ 255 ∷ 3 ∷ 3 ∷ [])
+unfolding askedIn eventIn eventWith
+capability-kinds = refl
+
 -- names up to the end of the list, from its end, and past it, where they would wrap too
 groups : requests (7 ∷ 8 ∷ 9 ∷ []) (
-    (6 ∷ 0 ∷ 0 ∷ 3 ∷ 0 ∷ 0 ∷ 0 ∷ [])
-    ∷ (6 ∷ 0 ∷ 3 ∷ 0 ∷ 0 ∷ 0 ∷ 0 ∷ [])
-    ∷ (6 ∷ 0 ∷ 2 ∷ 2 ∷ 0 ∷ 0 ∷ 0 ∷ [])
-    ∷ (6 ∷ 0 ∷ 4 ∷ 0 ∷ 0 ∷ 0 ∷ 0 ∷ [])
-    ∷ (6 ∷ 0 ∷ 1 ∷ 4294967295 ∷ 0 ∷ 0 ∷ 0 ∷ [])
+    (6 ∷ 0 ∷ 0 ∷ 3 ∷ 0 ∷ 0 ∷ 0 ∷ 0 ∷ [])
+    ∷ (6 ∷ 0 ∷ 3 ∷ 0 ∷ 0 ∷ 0 ∷ 0 ∷ 0 ∷ [])
+    ∷ (6 ∷ 0 ∷ 2 ∷ 2 ∷ 0 ∷ 0 ∷ 0 ∷ 0 ∷ [])
+    ∷ (6 ∷ 0 ∷ 4 ∷ 0 ∷ 0 ∷ 0 ∷ 0 ∷ 0 ∷ [])
+    ∷ (6 ∷ 0 ∷ 1 ∷ 4294967295 ∷ 0 ∷ 0 ∷ 0 ∷ 0 ∷ [])
     ∷ [])
     ≡ Group (7 ∷ 8 ∷ 9 ∷ []) ∷ Group [] ∷ Group [] ∷ Group [] ∷ Group [] ∷ []
 unfolding askedIn eventIn eventWith part
 groups = refl
 
 -- words of requests
-words : map wordsOf (Single (Create (Written (nameOf 9)) (spanOf 16 64) 2) ∷ Single (Borrow Unwritten (nameOf 5) (spanOf 16 8) 1) ∷ Single (Drop (nameOf 5)) ∷ Group (8 ∷ 9 ∷ []) ∷ [])
-    ≡ (1 ∷ 0 ∷ 16 ∷ 64 ∷ 2 ∷ 1 ∷ 9 ∷ []) ∷ (2 ∷ 5 ∷ 16 ∷ 8 ∷ 1 ∷ 0 ∷ 0 ∷ []) ∷ (5 ∷ 5 ∷ 0 ∷ 0 ∷ 0 ∷ 0 ∷ 0 ∷ []) ∷ (6 ∷ 0 ∷ 0 ∷ 2 ∷ 0 ∷ 0 ∷ 0 ∷ []) ∷ []
+words : map wordsOf (Single (Create (Written (nameOf 9)) (spanOf 16 64) 2) ∷ Single (Borrow Unwritten (nameOf 5) (spanOf 16 8) 1 2) ∷ Single (Drop (nameOf 5)) ∷ Group (8 ∷ 9 ∷ []) ∷ [])
+    ≡ (1 ∷ 0 ∷ 16 ∷ 64 ∷ 2 ∷ 1 ∷ 9 ∷ 0 ∷ []) ∷ (2 ∷ 5 ∷ 16 ∷ 8 ∷ 1 ∷ 0 ∷ 0 ∷ 2 ∷ []) ∷ (5 ∷ 5 ∷ 0 ∷ 0 ∷ 0 ∷ 0 ∷ 0 ∷ 0 ∷ []) ∷ (6 ∷ 0 ∷ 0 ∷ 2 ∷ 0 ∷ 0 ∷ 0 ∷ 0 ∷ []) ∷ []
 unfolding wordsOf
 words = refl
 
@@ -75,10 +81,10 @@ words = refl
 -- a create, a write through a name that is not issued, a read, and one name of the list dropped as a group
 events : List (List ℕ)
 events =
-    (1 ∷ 0 ∷ 16 ∷ 64 ∷ 2 ∷ 0 ∷ 0 ∷ [])
-    ∷ (4 ∷ 2 ∷ 16 ∷ 8 ∷ 0 ∷ 0 ∷ 0 ∷ [])
-    ∷ (3 ∷ 1 ∷ 16 ∷ 8 ∷ 0 ∷ 0 ∷ 0 ∷ [])
-    ∷ (6 ∷ 0 ∷ 1 ∷ 1 ∷ 0 ∷ 0 ∷ 0 ∷ [])
+    (1 ∷ 0 ∷ 16 ∷ 64 ∷ 2 ∷ 0 ∷ 0 ∷ 0 ∷ [])
+    ∷ (4 ∷ 2 ∷ 16 ∷ 8 ∷ 0 ∷ 0 ∷ 0 ∷ 0 ∷ [])
+    ∷ (3 ∷ 1 ∷ 16 ∷ 8 ∷ 0 ∷ 0 ∷ 0 ∷ 0 ∷ [])
+    ∷ (6 ∷ 0 ∷ 1 ∷ 1 ∷ 0 ∷ 0 ∷ 0 ∷ 0 ∷ [])
     ∷ []
 
 two : State
@@ -87,13 +93,13 @@ two = initial 2 (tally 0 0 0 0 0 0 0)
 -- three entries: the refusal in the middle stops nothing, and the fourth event is not taken
 three : (taken events (replicate 3 (7 ∷ 7 ∷ [])) ≡ 3)
     × (answersAll two events (9 ∷ 1 ∷ []) (replicate 3 (7 ∷ 7 ∷ [])) ≡ (0 ∷ 1 ∷ []) ∷ (4 ∷ 0 ∷ []) ∷ (0 ∷ 0 ∷ []) ∷ [])
-    × (afterAll two events (9 ∷ 1 ∷ []) (replicate 3 (7 ∷ 7 ∷ [])) ≡ record { table = capOf (1 ∷ 0 ∷ 16 ∷ 64 ∷ 2 ∷ 1 ∷ []) ∷ emptyRow ∷ []; tally = tally 1 1 0 1 0 0 1 })
-unfolding events two askedIn eventIn eventWith part ancestry onAncestry strike reached struck liveRows lentTable lookup isEmptyRow liveRowsFirst rowFitsParent parentInOrder rowInOrder rowsInOrder inOrder standings refusals judge revoke afterAccess rowsWithout rowsAfter answer after risesAbove risesStrictly isGroup
+    × (afterAll two events (9 ∷ 1 ∷ []) (replicate 3 (7 ∷ 7 ∷ [])) ≡ record { table = capOf (1 ∷ 0 ∷ 16 ∷ 64 ∷ 2 ∷ 1 ∷ 0 ∷ []) ∷ emptyRow ∷ []; tally = tally 1 1 0 1 0 0 1 })
+unfolding events two askedIn eventIn eventWith part ancestry onAncestry origin strike reached struck liveRows lentTable lookup isEmptyRow liveRowsFirst rowFitsParent parentInOrder rowInOrder rowsInOrder inOrder standings refusals judge revoke afterAccess rowsWithout rowsAfter answer after risesAbove risesStrictly isGroup
 three = (refl, refl, refl)
 
 -- six entries: all four are taken, the last drops the name 1, and the entries behind stay
 six : (taken events (replicate 6 (7 ∷ 7 ∷ [])) ≡ 4)
     × (answersAll two events (9 ∷ 1 ∷ []) (replicate 6 (7 ∷ 7 ∷ [])) ≡ (0 ∷ 1 ∷ []) ∷ (4 ∷ 0 ∷ []) ∷ (0 ∷ 0 ∷ []) ∷ (0 ∷ 0 ∷ []) ∷ (7 ∷ 7 ∷ []) ∷ (7 ∷ 7 ∷ []) ∷ [])
     × (afterAll two events (9 ∷ 1 ∷ []) (replicate 6 (7 ∷ 7 ∷ [])) ≡ record { table = replicate 2 emptyRow; tally = tally 1 1 0 1 0 1 1 })
-unfolding events two askedIn eventIn eventWith part ancestry onAncestry strike reached struck liveRows lentTable lookup isEmptyRow liveRowsFirst rowFitsParent parentInOrder rowInOrder rowsInOrder inOrder standings refusals judge revoke afterAccess rowsWithout rowsAfter answer after risesAbove risesStrictly isGroup
+unfolding events two askedIn eventIn eventWith part ancestry onAncestry origin strike reached struck liveRows lentTable lookup isEmptyRow liveRowsFirst rowFitsParent parentInOrder rowInOrder rowsInOrder inOrder standings refusals judge revoke afterAccess rowsWithout rowsAfter answer after risesAbove risesStrictly isGroup
 six = (refl, refl, refl)

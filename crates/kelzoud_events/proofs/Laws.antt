@@ -70,20 +70,20 @@ packed-large k n h = rw (min-eq-right h)
 
 -- ---- the words of a request stand for it
 
--- a right is a byte
-abbrev pub RightFits : Event → Type 0
-RightFits (Create w s r) = r < 256
-RightFits (Borrow w n s r) = r < 256
-RightFits (Read n s) = Unit {0}
-RightFits (Write n s) = Unit {0}
-RightFits (Drop n) = Unit {0}
+-- a right and a kind are bytes
+abbrev pub BytesFit : Event → Type 0
+BytesFit (Create w s r) = r < 256
+BytesFit (Borrow w n s r kind) = (r < 256) × (kind < 256)
+BytesFit (Read n s) = Unit {0}
+BytesFit (Write n s) = Unit {0}
+BytesFit (Drop n) = Unit {0}
 
-pub event-back : (e : Event) (names : List ℕ) → RightFits e → requestIn (wordsOf (Single e)) names ≡ Single e
+pub event-back : (e : Event) (names : List ℕ) → BytesFit e → requestIn (wordsOf (Single e)) names ≡ Single e
 unfolding wordsOf askedIn eventIn eventWith
 event-back (Create Unwritten s r) names h = rw (lt-ltb r 256 h)
 event-back (Create (Written x) s r) names h = rw (lt-ltb r 256 h)
-event-back (Borrow Unwritten n s r) names h = rw (lt-ltb r 256 h)
-event-back (Borrow (Written x) n s r) names h = rw (lt-ltb r 256 h)
+event-back (Borrow Unwritten n s r kind) names h = rw (lt-ltb r 256 (h .0), lt-ltb kind 256 (h .1))
+event-back (Borrow (Written x) n s r kind) names h = rw (lt-ltb r 256 (h .0), lt-ltb kind 256 (h .1))
 event-back (Read n s) names h = refl
 event-back (Write n s) names h = refl
 event-back (Drop n) names h = refl

@@ -6,6 +6,7 @@ use mathlib.Core.List.{List, map, _++_}
 use lib.ListN.{length, take, drop}
 use Rattle.model.specs.Requests.{Request}
 use Rattle.model.specs.Lists.{final, answers}
+use Rattle.model.specs.Sheet6.{sheet6}
 use Rattle.model.specs.Step.{State, after, answer}
 use Rattle.kelzoud_events.specs.Interface.{answerWords, requestIn}
 
@@ -13,13 +14,13 @@ use Rattle.kelzoud_events.specs.Interface.{answerWords, requestIn}
 abbrev pub requestsIn : List (List ℕ) → List ℕ → ℕ → List Request
 requestsIn events names m = take m (map (λ w. requestIn w names) events)
 
--- the state after them: one that is refused stops nothing
+-- the state after them, by card 6's sheet: one that is refused stops nothing
 abbrev pub afterFirst : State → List (List ℕ) → List ℕ → ℕ → State
-afterFirst h events names m = final after h (requestsIn events names m)
+afterFirst h events names m = final (after sheet6) h (requestsIn events names m)
 
 -- the list that is lent for answers: theirs first, and the entries behind as they were
 abbrev pub answersFirst : State → List (List ℕ) → List ℕ → ℕ → List (List ℕ) → List (List ℕ)
-answersFirst h events names m out = map answerWords (answers after answer h (requestsIn events names m)) ++ drop m out
+answersFirst h events names m out = map answerWords (answers (after sheet6) answer h (requestsIn events names m)) ++ drop m out
 
 -- a batch takes as many events as there are entries for answers
 abbrev pub taken : List (List ℕ) → List (List ℕ) → ℕ

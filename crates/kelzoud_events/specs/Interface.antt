@@ -1,5 +1,5 @@
--- Events and answers as the numbers that pass between this library and C. An event is seven words of 32 bits: its kind, name, start, length and
--- right, whether its new name is written out, and that name.
+-- Events and answers as the numbers that pass between this library and C. An event is eight words of 32 bits: its kind, name, start, length and
+-- right, whether its new name is written out, that name, and the kind of capability that a borrow makes.
 -- Assumes nothing.
 use Prim.Native.Nat.{ℕ, _+_, _*_, min}
 use mathlib.Core.Bool.{cond}
@@ -41,10 +41,10 @@ spanOf start length = record { start = record { 0 = start }; length = length }
 
 -- "An event is one of five kinds": create, borrow, read, write and drop are 1 to 5. The values that a kind lacks are not looked at.
 -- Another kind stands for an event that is refused 2 in itself, a create whose right is 0.
-unfoldable pub eventWith : NewName → ℕ → ℕ → ℕ → ℕ → ℕ → Event
-eventWith new kind name start length right =
+unfoldable pub eventWith : NewName → ℕ → ℕ → ℕ → ℕ → ℕ → ℕ → Event
+eventWith new kind name start length right capKind =
     cond (eqb kind 1) (Create new (spanOf start length) right)
-    (cond (eqb kind 2) (Borrow new (nameOf name) (spanOf start length) right)
+    (cond (eqb kind 2) (Borrow new (nameOf name) (spanOf start length) right capKind)
     (cond (eqb kind 3) (Read (nameOf name) (spanOf start length))
     (cond (eqb kind 4) (Write (nameOf name) (spanOf start length))
     (cond (eqb kind 5) (Drop (nameOf name))
@@ -54,13 +54,17 @@ eventWith new kind name start length right =
 abbrev pub rightIn : ℕ → ℕ
 rightIn right = cond (ltb right 256) right 0
 
+-- a kind of capability above 255 is none, as 3 is none
+abbrev pub kindIn : ℕ → ℕ
+kindIn kind = cond (ltb kind 256) kind 3
+
 -- the new name is written out where `named` is not 0
 abbrev pub newIn : ℕ → ℕ → NewName
 newIn named written = cond (eqb named 0) Unwritten (Written (nameOf written))
 
--- the event that seven words are
+-- the event that its words are
 unfoldable pub eventIn : List ℕ → Event
-eventIn w = eventWith (newIn (getD w 5 0) (getD w 6 0)) (getD w 0 0) (getD w 1 0) (getD w 2 0) (getD w 3 0) (rightIn (getD w 4 0))
+eventIn w = eventWith (newIn (getD w 5 0) (getD w 6 0)) (getD w 0 0) (getD w 1 0) (getD w 2 0) (getD w 3 0) (rightIn (getD w 4 0)) (kindIn (getD w 7 0))
 
 -- kind 6 asks that names are dropped together
 unfoldable pub askedIn : List ℕ → Asked
@@ -70,11 +74,11 @@ askedIn w = cond (eqb (getD w 0 0) 6) asked.Group (asked.Single (eventIn w))
 unfoldable pub part : ℕ → ℕ → List ℕ → List ℕ
 part start size names = cond (leb (start + size) (length names)) (take size (drop start names)) []
 
--- the names that seven words point to, in the list that is lent beside them
+-- the names that its words point to, in the list that is lent beside them
 abbrev pub namesIn : List ℕ → List ℕ → List ℕ
 namesIn w names = part (getD w 2 0) (getD w 3 0) names
 
--- the request that seven words are. An event has no use for the names
+-- the request that words are. An event has no use for the names
 abbrev pub requestIn : List ℕ → List ℕ → Request
 requestIn w names = requestOf (askedIn w) (namesIn w names)
 
@@ -90,13 +94,13 @@ writtenOf (Written x) = x .0
 
 -- the words of so many names dropped together, which are the first in a list of their own
 abbrev pub groupWords : ℕ → List ℕ
-groupWords count = 6 ∷ 0 ∷ 0 ∷ count ∷ 0 ∷ 0 ∷ 0 ∷ []
+groupWords count = 6 ∷ 0 ∷ 0 ∷ count ∷ 0 ∷ 0 ∷ 0 ∷ 0 ∷ []
 
--- the seven words of a request, with 0 where its kind has no such value
+-- the words of a request, with 0 where its kind has no such value
 unfoldable pub wordsOf : Request → List ℕ
-wordsOf (Single (Create w s r)) = 1 ∷ 0 ∷ s .start .0 ∷ s .length ∷ r ∷ namedOf w ∷ writtenOf w ∷ []
-wordsOf (Single (Borrow w n s r)) = 2 ∷ n .0 ∷ s .start .0 ∷ s .length ∷ r ∷ namedOf w ∷ writtenOf w ∷ []
-wordsOf (Single (Read n s)) = 3 ∷ n .0 ∷ s .start .0 ∷ s .length ∷ 0 ∷ 0 ∷ 0 ∷ []
-wordsOf (Single (Write n s)) = 4 ∷ n .0 ∷ s .start .0 ∷ s .length ∷ 0 ∷ 0 ∷ 0 ∷ []
-wordsOf (Single (Drop n)) = 5 ∷ n .0 ∷ 0 ∷ 0 ∷ 0 ∷ 0 ∷ 0 ∷ []
+wordsOf (Single (Create w s r)) = 1 ∷ 0 ∷ s .start .0 ∷ s .length ∷ r ∷ namedOf w ∷ writtenOf w ∷ 0 ∷ []
+wordsOf (Single (Borrow w n s r kind)) = 2 ∷ n .0 ∷ s .start .0 ∷ s .length ∷ r ∷ namedOf w ∷ writtenOf w ∷ kind ∷ []
+wordsOf (Single (Read n s)) = 3 ∷ n .0 ∷ s .start .0 ∷ s .length ∷ 0 ∷ 0 ∷ 0 ∷ 0 ∷ []
+wordsOf (Single (Write n s)) = 4 ∷ n .0 ∷ s .start .0 ∷ s .length ∷ 0 ∷ 0 ∷ 0 ∷ 0 ∷ []
+wordsOf (Single (Drop n)) = 5 ∷ n .0 ∷ 0 ∷ 0 ∷ 0 ∷ 0 ∷ 0 ∷ 0 ∷ []
 wordsOf (Group names) = groupWords (length names)

@@ -1,5 +1,6 @@
 // Events in turn. The table's order is looked at once; what is known of it goes from each event to the next.
 use crate::answers::answer_words;
+use crate::events::Words;
 use crate::events::asked_in;
 use crate::events::names_in;
 use model::Answer;
@@ -29,7 +30,7 @@ fn fewer(a: usize, b: usize) -> usize
 }
 
 // The words of an event. Internal: the caller keeps i within the events.
-fn words_at(events: &[[u32; 7]], i: usize) -> [u32; 7]
+fn words_at(events: &[Words], i: usize) -> Words
     requires { ⌜ i < length (now events) ⌝ }
     ensures { λ r. ⌜ r ≡ getD (now (events .entry)) i [] ⌝ }
 {
@@ -50,7 +51,7 @@ fn take_turns(
     live: usize,
     places: &mut [u16; 1024],
     t: Tally,
-    events: &[[u32; 7]],
+    events: &[Words],
     names: &[u32],
     m: usize,
     answers: &mut [[u32; 2]],
@@ -93,7 +94,7 @@ fn refuse_all(answers: &mut [[u32; 2]], m: usize)
 pub fn apply_all(
     table: &mut [Row],
     tally: &mut [u32; 7],
-    events: &[[u32; 7]],
+    events: &[Words],
     names: &[u32],
     answers: &mut [[u32; 2]],
 ) -> usize

@@ -1,4 +1,4 @@
-// Events as the seven words that C lends, and back. Only these functions know the layout.
+// Events as the words that C lends, and back. Only these functions know the layout.
 use model::Addr;
 use model::Asked;
 use model::Event;
@@ -7,14 +7,28 @@ use model::NewName;
 use model::Span;
 ghost use mathlib.Core.Path.{_≡_};
 ghost use Rattle.model.specs.Requests.{Single};
-ghost use Rattle.kelzoud_events.specs.Interface.{eventWith, rightIn, newIn, eventIn, askedIn, part, namesIn, namedOf, writtenOf, groupWords, wordsOf};
+ghost use Rattle.kelzoud_events.specs.Interface.{eventWith, rightIn, kindIn, newIn, eventIn, askedIn, part, namesIn, namedOf, writtenOf, groupWords, wordsOf};
+
+// How many words an event has.
+const WORDS: usize = 8;
+
+// The words of an event.
+pub type Words = [u32; WORDS];
 
 // The kind that asks for names dropped together.
 const DROP_ALL: u32 = 6;
 
 // The event of a kind, 1 to 5, with a new name that is written or not. Another kind is an event that is refused 2 in itself.
-fn event_with(new: NewName, kind: u32, name: u32, start: u32, length: u32, right: u8) -> Event
-    ensures { λ r. ⌜ r ≡ eventWith new kind name start length right ⌝ }
+fn event_with(
+    new: NewName,
+    kind: u32,
+    name: u32,
+    start: u32,
+    length: u32,
+    right: u8,
+    cap_kind: u8,
+) -> Event
+    ensures { λ r. ⌜ r ≡ eventWith new kind name start length right «cap_kind» ⌝ }
 {
     let span = Span {
         start: Addr(start),
@@ -24,7 +38,7 @@ fn event_with(new: NewName, kind: u32, name: u32, start: u32, length: u32, right
         return Event::Create(new, span, right);
     }
     if kind == 2 {
-        return Event::Borrow(new, Name(name), span, right);
+        return Event::Borrow(new, Name(name), span, right, cap_kind);
     }
     if kind == 3 {
         return Event::Read(Name(name), span);
@@ -44,6 +58,13 @@ fn right_in(right: u32) -> u8
     if right < 256 { right as u8 } else { 0 }
 }
 
+// The kind of what a borrow makes.
+fn kind_in(kind: u32) -> u8
+    ensures { λ r. ⌜ r ≡ kindIn kind ⌝ }
+{
+    if kind < 256 { kind as u8 } else { 3 }
+}
+
 fn new_in(named: u32, written: u32) -> NewName
     ensures { λ r. ⌜ r ≡ newIn named written ⌝ }
 {
@@ -54,8 +75,8 @@ fn new_in(named: u32, written: u32) -> NewName
     }
 }
 
-// What seven words ask for.
-pub fn asked_in(w: [u32; 7]) -> Asked
+// What the words of an event ask for.
+pub fn asked_in(w: Words) -> Asked
     ensures { λ r. ⌜ r ≡ askedIn w ⌝ }
 {
     if w[0] == DROP_ALL {
@@ -63,7 +84,8 @@ pub fn asked_in(w: [u32; 7]) -> Asked
     }
     let new = new_in(w[5], w[6]);
     let right = right_in(w[4]);
-    Asked::Single(event_with(new, w[0], w[1], w[2], w[3], right))
+    let cap_kind = kind_in(w[7]);
+    Asked::Single(event_with(new, w[0], w[1], w[2], w[3], right, cap_kind))
 }
 
 // A part of a list of names: none where it reaches past the end.
@@ -78,8 +100,8 @@ fn part_of(names: &[u32], start: u32, size: u32) -> &[u32]
     &names[..0]
 }
 
-// The names that seven words point to.
-pub fn names_in(w: [u32; 7], names: &[u32]) -> &[u32]
+// The names that they point to.
+pub fn names_in(w: Words, names: &[u32]) -> &[u32]
     ensures { λ r. ⌜ now r ≡ namesIn w (now (names .entry)) ⌝ }
 {
     part_of(names, w[2], w[3])
@@ -104,8 +126,8 @@ fn written_of(new: NewName) -> u32
     }
 }
 
-// The seven words of an event.
-pub fn words_of(event: Event) -> [u32; 7]
+// The words of an event.
+pub fn words_of(event: Event) -> Words
     ensures { λ r. ⌜ r ≡ wordsOf (Single event) ⌝ }
 {
     match event {
@@ -118,9 +140,10 @@ pub fn words_of(event: Event) -> [u32; 7]
                 r as u32,
                 named_of(w),
                 written_of(w),
+                0,
             ]
         }
-        Event::Borrow(w, n, s, r) => {
+        Event::Borrow(w, n, s, r, kind) => {
             [
                 2,
                 n.0,
@@ -129,17 +152,18 @@ pub fn words_of(event: Event) -> [u32; 7]
                 r as u32,
                 named_of(w),
                 written_of(w),
+                kind as u32,
             ]
         }
-        Event::Read(n, s) => [3, n.0, s.start.0, s.length, 0, 0, 0],
-        Event::Write(n, s) => [4, n.0, s.start.0, s.length, 0, 0, 0],
-        Event::Drop(n) => [5, n.0, 0, 0, 0, 0, 0],
+        Event::Read(n, s) => [3, n.0, s.start.0, s.length, 0, 0, 0, 0],
+        Event::Write(n, s) => [4, n.0, s.start.0, s.length, 0, 0, 0, 0],
+        Event::Drop(n) => [5, n.0, 0, 0, 0, 0, 0, 0],
     }
 }
 
 // Those of so many names dropped together, which are first in their list.
-pub fn group_words(count: u32) -> [u32; 7]
+pub fn group_words(count: u32) -> Words
     ensures { λ r. ⌜ r ≡ groupWords count ⌝ }
 {
-    [DROP_ALL, 0, 0, count, 0, 0, 0]
+    [DROP_ALL, 0, 0, count, 0, 0, 0, 0]
 }

@@ -1,10 +1,12 @@
 // The calls of the C interface for events alone, over words that are lent, and nothing else.
 use crate::answers::packed_answer;
+use crate::events::Words;
 use crate::events::asked_in;
 use crate::events::names_in;
 use rules::lent::apply;
 use table::Row;
 ghost use mathlib.Core.Path.{_≡_};
+ghost use Rattle.model.specs.Sheet6.{sheet6};
 ghost use Rattle.model.specs.Step;
 ghost use Rattle.table.specs.Words.{rowsIn};
 ghost use Rattle.table.specs.Lent.{tallyIn, lent};
@@ -20,11 +22,11 @@ pub mod events;
 pub extern "C" fn kz_abi_apply(
     table: &mut [Row],
     tally: &mut [u32; 7],
-    event: &[u32; 7],
+    event: &Words,
     names: &[u32],
 ) -> u64
-    ensures { λ r. ⌜ (rowsIn (now (table .exit)) ≡ Step.after (lent (now (table .entry)) (now (tally .entry))) (requestIn (now (event .entry)) (now (names .entry))) .table)
-        × (tallyIn (now (tally .exit)) ≡ Step.after (lent (now (table .entry)) (now (tally .entry))) (requestIn (now (event .entry)) (now (names .entry))) .tally)
+    ensures { λ r. ⌜ (rowsIn (now (table .exit)) ≡ Step.after sheet6 (lent (now (table .entry)) (now (tally .entry))) (requestIn (now (event .entry)) (now (names .entry))) .table)
+        × (tallyIn (now (tally .exit)) ≡ Step.after sheet6 (lent (now (table .entry)) (now (tally .entry))) (requestIn (now (event .entry)) (now (names .entry))) .tally)
         × (r ≡ packedVerdict (Step.answer (lent (now (table .entry)) (now (tally .entry))) (requestIn (now (event .entry)) (now (names .entry))))) ⌝ }
 {
     let words = *event;
@@ -39,7 +41,7 @@ pub extern "C" fn kz_abi_apply(
 pub extern "C" fn kz_abi_apply_all(
     table: &mut [Row],
     tally: &mut [u32; 7],
-    events: &[[u32; 7]],
+    events: &[Words],
     names: &[u32],
     answers: &mut [[u32; 2]],
 ) -> usize

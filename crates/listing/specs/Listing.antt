@@ -1,5 +1,6 @@
 -- Document 01, "The bracket text": "A listing is `(issued N)`, then one line for each root by rising name: name, start, length, right, then
--- its children by rising name, each in the same form inside its parent's brackets."
+-- its children by rising name, each in the same form inside its parent's brackets." Card 6: the kind is "written by a borrow as a last word
+-- `raw` or `cell`, and in listings after the right".
 -- Assumes nothing.
 use Prim.Native.Nat.{ℕ, suc, _+_}
 use mathlib.Core.Bool.{cond}
@@ -10,15 +11,11 @@ use Rattle.model.specs.declared.Cap.{Cap}
 use Rattle.model.specs.Table.{emptyRow, liveRows}
 use Rattle.table.specs.Rows.{nameAt}
 use Rattle.text.specs.Decimal.{decimal}
-use Rattle.text.specs.Event.{bytes, spaced, line}
+use Rattle.text.specs.Event.{bytes, spaced, line, rightWord, kindWord}
 
--- "Values", right, with a space before it: "1 (`ro`) or 2 (`rw`)"
-abbrev pub right : ℕ → List ℕ
-right r = cond (eqb r 1) (bytes " ro") (bytes " rw")
-
--- "name, start, length, right": a capability's own pieces
+-- "name, start, length, right", and the kind behind it: a capability's own pieces. A reference has no word of a kind.
 unfoldable pub pieces : Cap → List ℕ
-pieces c = decimal (c .name .0) ++ (spaced (c .start .0 ∷ c .length ∷ []) ++ right (c .right))
+pieces c = decimal (c .name .0) ++ (spaced (c .start .0 ∷ c .length ∷ []) ++ (rightWord (c .right) ++ kindWord (c .kind)))
 
 -- a form: a capability's pieces and then its children, inside its brackets
 unfoldable pub form : Cap → List ℕ → List ℕ
@@ -50,7 +47,7 @@ rootsFrom rows i = roots (drop i rows)
 
 -- "`(issued N)`"
 abbrev pub issuedLine : ℕ → List ℕ
-issuedLine issued = line "(issued" (issued ∷ []) ")\n"
+issuedLine issued = line "(issued" (issued ∷ []) (bytes ")\n")
 
 -- the listing of rows by rising name
 unfoldable pub listed : List Cap → ℕ → List ℕ

@@ -6,6 +6,7 @@ use model::Name;
 use table::Row;
 use table::words;
 use text::numbers;
+use text::pieces;
 use text::read;
 ghost use mathlib.Core.Path.{_≡_};
 ghost use mathlib.Core.List.{[], _∷_};
@@ -48,7 +49,7 @@ fn last(text: &[u8], count: usize) -> &[u8]
     past(text, text.len() - count)
 }
 
-// The head of a form: its row, and how many bytes are left behind the two letters of its right.
+// The head of a form: its row, and how many bytes are left behind its right and its kind.
 pub struct Head {
     pub row: Cap,
     pub left: usize,
@@ -66,6 +67,7 @@ fn head_of(text: &[u8], parent: u32, depth: u32) -> Head
     let length_text = past(start_text, start.end);
     let length = numbers::read_word(length_text);
     let right_text = past(length_text, length.end);
+    let kind = read::kind_of(right_text) as u32;
     let row = Cap {
         name: Name(name.value),
         parent: Name(parent),
@@ -73,8 +75,9 @@ fn head_of(text: &[u8], parent: u32, depth: u32) -> Head
         length: length.value,
         right: read::right_of(right_text) as u32,
         depth,
+        kind,
     };
-    let children = past(right_text, 2);
+    let children = past(right_text, 2 + pieces::kind_length(kind));
     Head {
         row,
         left: children.len(),

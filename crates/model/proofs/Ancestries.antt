@@ -101,6 +101,26 @@ ancestry-below n x (b ∷ B) f = go (λ y. ancestry-below (b .name) y B (f .2)) 
     go ih (inl e) = rw (ancestry-here b B x e) (f .0, wider (b .parent) (ih (b .parent)))
     go ih (inr e) = rw (ancestry-past b B x e) (wider x (ih x))
 
+-- on an ancestry too each parent's name is below its child's
+pub ancestry-falls : (n x : ℕ) (B : List Derivation) → Falling n B → All (λ b. b .parent < b .name) (ancestry B x)
+unfolding ancestry
+ancestry-falls n x [] f = tt
+ancestry-falls n x (b ∷ B) f = go (λ y. ancestry-falls (b .name) y B (f .2)) (test (eqb x (b .name)))
+  where
+    go : ((y : ℕ) → All (λ c. c .parent < c .name) (ancestry B y)) → (eqb x (b .name) ≡ true) ⊎ (eqb x (b .name) ≡ false) → All (λ c. c .parent < c .name) (ancestry (b ∷ B) x)
+    go ih (inl e) = rw (ancestry-here b B x e) (f .1, ih (b .parent))
+    go ih (inr e) = rw (ancestry-past b B x e) (ih x)
+
+-- what holds of every derivation holds of those on an ancestry
+pub ancestry-all : (P : Derivation → Type 0) (x : ℕ) (B : List Derivation) → All P B → All P (ancestry B x)
+unfolding ancestry
+ancestry-all P x [] a = tt
+ancestry-all P x (b ∷ B) a = go (λ y. ancestry-all P y B (a .1)) (test (eqb x (b .name)))
+  where
+    go : ((y : ℕ) → All P (ancestry B y)) → (eqb x (b .name) ≡ true) ⊎ (eqb x (b .name) ≡ false) → All P (ancestry (b ∷ B) x)
+    go ih (inl e) = rw (ancestry-here b B x e) (a .0, ih (b .parent))
+    go ih (inr e) = rw (ancestry-past b B x e) (ih x)
+
 -- 0 has no ancestry
 pub ancestry-zero : (n : ℕ) (B : List Derivation) → Falling n B → ancestry B 0 ≡ []
 unfolding ancestry

@@ -9,9 +9,10 @@ use lib.Dec.{eqb}
 use borrow.Author.Tests.{ne-eqb, le-leb}
 use Rattle.model.specs.declared.Event.the-variants.{Create, Borrow, Read, Write, Drop}
 use Rattle.model.specs.Requests.{Request, Single, Group}
+use Rattle.model.specs.declared.Sheet.{Sheet}
 use Rattle.model.specs.Lists.{final}
-use Rattle.model.specs.Refusals.{viewOf, judge}
-use Rattle.model.specs.Step.{State, verdict, answer, outcome, after}
+use Rattle.model.specs.Refusals.{judge}
+use Rattle.model.specs.Step.{State, view, verdict, answer, outcome, after}
 use Rattle.model.specs.Effects.{newName}
 use Rattle.model.specs.Counted.{Counter, Creates, Borrows, Reads, Writes, Drops, Refusals, countIn, countsFor, howMany}
 
@@ -25,11 +26,11 @@ refused : (j : ℕ) → eqb (suc (suc j)) 0 ≡ false
 refused j = ne-eqb (suc (suc j)) 0 (λ (q : suc (suc j) ≡ 0). omega arith)
 
 -- a request that gets the number j
-module _ (h : State) where
+module _ (sheet : Sheet) (h : State) where
   counted : (c : Counter) → countIn c (h .tally) ≤ 4294967295 → (j : ℕ) (q : Request)
-      → countIn c (outcome j h q .tally) ≡ min (countIn c (h .tally) + cond (countsFor c q (verdict j (newName (h .tally .issued) q))) 1 0) 4294967295
+      → countIn c (outcome sheet j h q .tally) ≡ min (countIn c (h .tally) + cond (countsFor c q (verdict j (newName (h .tally .issued) q))) 1 0) 4294967295
   counted Creates l zero (Single (Create w s r)) = goes-up (h .tally .creates)
-  counted Creates l zero (Single (Borrow w u s r)) = stays (h .tally .creates) l
+  counted Creates l zero (Single (Borrow w u s r kind)) = stays (h .tally .creates) l
   counted Creates l zero (Single (Read u s)) = stays (h .tally .creates) l
   counted Creates l zero (Single (Write u s)) = stays (h .tally .creates) l
   counted Creates l zero (Single (Drop u)) = stays (h .tally .creates) l
@@ -37,7 +38,7 @@ module _ (h : State) where
   counted Creates l (suc zero) q = stays (h .tally .creates) l
   counted Creates l (suc (suc j)) q = rw (refused j) (stays (h .tally .creates) l)
   counted Borrows l zero (Single (Create w s r)) = stays (h .tally .borrows) l
-  counted Borrows l zero (Single (Borrow w u s r)) = goes-up (h .tally .borrows)
+  counted Borrows l zero (Single (Borrow w u s r kind)) = goes-up (h .tally .borrows)
   counted Borrows l zero (Single (Read u s)) = stays (h .tally .borrows) l
   counted Borrows l zero (Single (Write u s)) = stays (h .tally .borrows) l
   counted Borrows l zero (Single (Drop u)) = stays (h .tally .borrows) l
@@ -45,7 +46,7 @@ module _ (h : State) where
   counted Borrows l (suc zero) q = stays (h .tally .borrows) l
   counted Borrows l (suc (suc j)) q = rw (refused j) (stays (h .tally .borrows) l)
   counted Reads l zero (Single (Create w s r)) = stays (h .tally .reads) l
-  counted Reads l zero (Single (Borrow w u s r)) = stays (h .tally .reads) l
+  counted Reads l zero (Single (Borrow w u s r kind)) = stays (h .tally .reads) l
   counted Reads l zero (Single (Read u s)) = goes-up (h .tally .reads)
   counted Reads l zero (Single (Write u s)) = stays (h .tally .reads) l
   counted Reads l zero (Single (Drop u)) = stays (h .tally .reads) l
@@ -53,7 +54,7 @@ module _ (h : State) where
   counted Reads l (suc zero) q = stays (h .tally .reads) l
   counted Reads l (suc (suc j)) q = rw (refused j) (stays (h .tally .reads) l)
   counted Writes l zero (Single (Create w s r)) = stays (h .tally .writes) l
-  counted Writes l zero (Single (Borrow w u s r)) = stays (h .tally .writes) l
+  counted Writes l zero (Single (Borrow w u s r kind)) = stays (h .tally .writes) l
   counted Writes l zero (Single (Read u s)) = stays (h .tally .writes) l
   counted Writes l zero (Single (Write u s)) = goes-up (h .tally .writes)
   counted Writes l zero (Single (Drop u)) = stays (h .tally .writes) l
@@ -61,7 +62,7 @@ module _ (h : State) where
   counted Writes l (suc zero) q = stays (h .tally .writes) l
   counted Writes l (suc (suc j)) q = rw (refused j) (stays (h .tally .writes) l)
   counted Drops l zero (Single (Create w s r)) = stays (h .tally .drops) l
-  counted Drops l zero (Single (Borrow w u s r)) = stays (h .tally .drops) l
+  counted Drops l zero (Single (Borrow w u s r kind)) = stays (h .tally .drops) l
   counted Drops l zero (Single (Read u s)) = stays (h .tally .drops) l
   counted Drops l zero (Single (Write u s)) = stays (h .tally .drops) l
   counted Drops l zero (Single (Drop u)) = goes-up (h .tally .drops)
@@ -69,7 +70,7 @@ module _ (h : State) where
   counted Drops l (suc zero) q = stays (h .tally .drops) l
   counted Drops l (suc (suc j)) q = rw (refused j) (stays (h .tally .drops) l)
   counted Refusals l zero (Single (Create w s r)) = stays (h .tally .refused) l
-  counted Refusals l zero (Single (Borrow w u s r)) = stays (h .tally .refused) l
+  counted Refusals l zero (Single (Borrow w u s r kind)) = stays (h .tally .refused) l
   counted Refusals l zero (Single (Read u s)) = stays (h .tally .refused) l
   counted Refusals l zero (Single (Write u s)) = stays (h .tally .refused) l
   counted Refusals l zero (Single (Drop u)) = stays (h .tally .refused) l
@@ -78,9 +79,9 @@ module _ (h : State) where
   counted Refusals l (suc (suc j)) q = rw (le-leb 2 (suc (suc j)) (omega arith)) (goes-up (h .tally .refused))
 
   counted-after : (c : Counter) → countIn c (h .tally) ≤ 4294967295 → (q : Request)
-      → countIn c (after h q .tally) ≡ min (countIn c (h .tally) + cond (countsFor c q (answer h q)) 1 0) 4294967295
+      → countIn c (after sheet h q .tally) ≡ min (countIn c (h .tally) + cond (countsFor c q (answer h q)) 1 0) 4294967295
   unfolding after answer
-  counted-after c l q = counted c l (judge (viewOf (h .table) (h .tally .issued)) q) q
+  counted-after c l q = counted c l (judge (view h) q) q
 
 joined : (a x b y : ℕ) → a ≡ min (x + b) 4294967295 → min (a + y) 4294967295 ≡ min (x + (b + y)) 4294967295
 joined a x b y q = omega arith
@@ -90,11 +91,11 @@ bounded a x q = omega arith
 
 -- The tally after a list of requests: each count has gone up by the requests that count for it, and stays at 4,294,967,295. A group counts once,
 -- whether it is allowed or refused.
-pub tallied : (c : Counter) (qs : List Request) (h : State) → countIn c (h .tally) ≤ 4294967295
-    → countIn c (final after h qs .tally) ≡ min (countIn c (h .tally) + howMany c h qs) 4294967295
+pub tallied : (sheet : Sheet) (c : Counter) (qs : List Request) (h : State) → countIn c (h .tally) ≤ 4294967295
+    → countIn c (final (after sheet) h qs .tally) ≡ min (countIn c (h .tally) + howMany sheet c h qs) 4294967295
 unfolding howMany
-tallied c [] h l = stays (countIn c (h .tally)) l
-tallied c (q ∷ qs) h l =
-    let e = counted-after h c l q in
-    tallied c qs (after h q) (bounded (countIn c (after h q .tally)) (countIn c (h .tally) + cond (countsFor c q (answer h q)) 1 0) e)
-    ∙ joined (countIn c (after h q .tally)) (countIn c (h .tally)) (cond (countsFor c q (answer h q)) 1 0) (howMany c (after h q) qs) e
+tallied sheet c [] h l = stays (countIn c (h .tally)) l
+tallied sheet c (q ∷ qs) h l =
+    let e = counted-after sheet h c l q in
+    tallied sheet c qs (after sheet h q) (bounded (countIn c (after sheet h q .tally)) (countIn c (h .tally) + cond (countsFor c q (answer h q)) 1 0) e)
+    ∙ joined (countIn c (after sheet h q .tally)) (countIn c (h .tally)) (cond (countsFor c q (answer h q)) 1 0) (howMany sheet c (after sheet h q) qs) e

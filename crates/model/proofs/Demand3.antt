@@ -4,6 +4,7 @@ use Prim.Native.Nat.{ℕ}
 use mathlib.Core.Path.{_≡_, refl, sym, ap, _∙_}
 use mathlib.Core.Bool.{true}
 use mathlib.Core.List.{List, [], _∷_, map}
+use Rattle.model.specs.declared.Sheet.{Sheet}
 use Rattle.model.specs.declared.Tally.{Tally}
 use Rattle.model.specs.declared.Event.the-variants.{Create, Borrow, Read, Write, Drop}
 use Rattle.model.specs.Requests.{Request, Single, Group}
@@ -19,7 +20,7 @@ use Rattle.model.proofs.Together.{group-singly, group-table, group-hist
 noted : (i : ℕ) (q : Request) → newName i q ≡ notedName (notesOf i q)
 unfolding notesOf notedName
 noted i (Single (Create w s r)) = refl
-noted i (Single (Borrow w u s r)) = refl
+noted i (Single (Borrow w u s r kind)) = refl
 noted i (Single (Read u s)) = refl
 noted i (Single (Write u s)) = refl
 noted i (Single (Drop u)) = refl
@@ -34,19 +35,19 @@ named : (h : State) (i : ℕ) → h .tally .issued ≡ i → (q : Request) → i
 unfolding answer
 named h i e q a = rw a (ap (λ (k : ℕ). newName k q) e ∙ noted i q)
 
-pub demand3 : (n : ℕ) (t : Tally) → t .issued ≡ 0 → (qs : List Request) → Demand3 n t qs
-demand3 n t z qs =
-    let r = run n qs (initial n t) emptyHistory (at-first n t z) in
+pub demand3 : (sheet : Sheet) (n : ℕ) (t : Tally) → t .issued ≡ 0 → (qs : List Request) → Demand3 sheet n t qs
+demand3 sheet n t z qs =
+    let r = run sheet n qs (initial n t) emptyHistory (at-first sheet n t z) in
     record {
       same-answers = r .0;
       same-table = r .1 .same-table;
       same-issued = r .1 .same-issued;
-      noted-names = named (stateAfter n t qs) (historyAfter n qs .count) (r .1 .same-issued);
-      group-singly = λ names a. group-singly (stateAfter n t qs) names a .each-allowed;
-      group-table = group-table (stateAfter n t qs);
-      group-history = group-history n (stateAfter n t qs) (historyAfter n qs) (r .1);
-      reads = read-allowed n t z qs;
-      writes = write-allowed n t z qs;
-      life-stays-lost = λ x. never-lives-again n x qs;
-      rw-stays-lost = λ x. never-rw-again n x qs;
+      noted-names = named (stateAfter sheet n t qs) (historyAfter sheet n qs .count) (r .1 .same-issued);
+      group-singly = λ names a. group-singly sheet (stateAfter sheet n t qs) names a .each-allowed;
+      group-table = group-table sheet (stateAfter sheet n t qs);
+      group-history = group-history sheet n (stateAfter sheet n t qs) (historyAfter sheet n qs) (r .1);
+      reads = read-allowed sheet n t z qs;
+      writes = write-allowed sheet n t z qs;
+      life-stays-lost = λ x. never-lives-again sheet n x qs;
+      rw-stays-lost = λ x. never-rw-again sheet n x qs;
     }

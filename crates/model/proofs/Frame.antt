@@ -2,30 +2,31 @@
 -- Assumes nothing.
 use mathlib.Core.Path.{_≡_, ap}
 use Prim.Native.Nat.{ℕ, zero, suc}
+use Rattle.model.specs.declared.Sheet.{Sheet}
 use Rattle.model.specs.Requests.{Request}
 use Rattle.model.specs.Refusals.{viewOf, judge}
 use Rattle.model.specs.Counts.{countRefused}
-use Rattle.model.specs.Step.{State, answer, outcome, after}
+use Rattle.model.specs.Step.{State, view, answer, outcome, after}
 
 -- the number of the answer is the verdict on the lent table
-answer-number : (h : State) (q : Request) (k : ℕ) → answer h q .refusal ≡ k → judge (viewOf (h .table) (h .tally .issued)) q ≡ k
+answer-number : (h : State) (q : Request) (k : ℕ) → answer h q .refusal ≡ k → judge (view h) q ≡ k
 unfolding answer
 answer-number h q k e = e
 
-module _ (h : State) (q : Request) where
-  after-number : (k : ℕ) → answer h q .refusal ≡ k → after h q ≡ outcome k h q
+module _ (sheet : Sheet) (h : State) (q : Request) where
+  after-number : (k : ℕ) → answer h q .refusal ≡ k → after sheet h q ≡ outcome sheet k h q
   unfolding after
-  after-number k e = ap (λ (j : ℕ). outcome j h q) (answer-number h q k e)
+  after-number k e = ap (λ (j : ℕ). outcome sheet j h q) (answer-number h q k e)
 
   -- Refusal 1 changes nothing.
-  pub disordered-keeps : answer h q .refusal ≡ 1 → after h q ≡ h
+  pub disordered-keeps : answer h q .refusal ≡ 1 → after sheet h q ≡ h
   disordered-keeps e = after-number 1 e
 
   -- A refused request leaves the table unchanged: of names dropped together "either all are dropped or none".
-  pub refused-table : (k : ℕ) → answer h q .refusal ≡ suc k → after h q .table ≡ h .table
+  pub refused-table : (k : ℕ) → answer h q .refusal ≡ suc k → after sheet h q .table ≡ h .table
   refused-table zero e = ap (λ (s : State). s .table) (after-number 1 e)
   refused-table (suc k) e = ap (λ (s : State). s .table) (after-number (suc (suc k)) e)
 
   -- A refusal other than 1 raises only the refused count, once, short of its ceiling.
-  pub refused-tally : (k : ℕ) → answer h q .refusal ≡ suc (suc k) → after h q .tally ≡ countRefused (h .tally)
+  pub refused-tally : (k : ℕ) → answer h q .refusal ≡ suc (suc k) → after sheet h q .tally ≡ countRefused (h .tally)
   refused-tally k e = ap (λ (s : State). s .tally) (after-number (suc (suc k)) e)

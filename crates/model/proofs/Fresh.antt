@@ -1,9 +1,9 @@
--- Card 4, "reused memory": what an allowed create does to the live rows.
+-- Card 4, "reused memory", and card 7, "a create acts as a stranger's write": what an allowed create does to the live rows, by every sheet.
 -- Assumes nothing.
 use mathlib.Core.Path.{_≡_, refl, sym, ap, ap₂, _∙_}
-use mathlib.Core.Bool.{Bool, true, false, not, cond, _&&_, _||_}
+use mathlib.Core.Bool.{Bool, true, false, not, cond, _&&_, _||_, and-true, and-false}
 use mathlib.Core.List.{List, [], _∷_}
-use Prim.Native.Nat.{ℕ, suc, _<_}
+use Prim.Native.Nat.{ℕ, zero, suc, _<_}
 use native.Mathlib.Omega.{arith}
 use lib.Dec.{eqb}
 use borrow.Author.Tests.{ne-eqb, not-true}
@@ -14,57 +14,55 @@ use Rattle.model.specs.declared.Event.the-variants.{Create}
 use Rattle.model.specs.Requests.{Single}
 use Rattle.model.specs.declared.Access.{Access}
 use Rattle.model.specs.declared.Access.the-variants.{Writing}
+use Rattle.model.specs.declared.Effect.{Effect}
+use Rattle.model.specs.declared.Effect.the-variants.{Keep, End}
+use Rattle.model.specs.declared.Origin.the-variants.{Stranger}
+use Rattle.model.specs.declared.Sheet.{Sheet}
 use Rattle.model.specs.Lists.{filter, any}
 use Rattle.model.specs.Values.{touches}
 use Rattle.model.specs.Derivation.{Derivation, ancestry, onAncestry}
-use Rattle.model.specs.Strike.{Effect, Keep, End, isLower, isEnd, strike, reached, struck, reclaimed}
+use Rattle.model.specs.Strike.{isLower, isEnd, isCell, resultOf, origin, strike, reached, struck, reclaimed}
+use Rattle.model.specs.Sheet6.{sheet6}
 use Rattle.model.specs.Table.{row, derivations, named, lookup, rowsInOrder}
-use Rattle.model.specs.Effects.{revoke, afterAccess, root, rowsAfter}
-use Rattle.model.proofs.Lists.{All, All-map, All-of, clash, passes, any-false, filter-all, map-id}
+use Rattle.model.specs.Effects.{lowered, revoke, afterAccess, root, rowsAfter}
+use Rattle.model.proofs.Lists.{All, All-map, All-of, All-zip, clash, passes, any-false, any-kept, any-map, filter-all, map-id}
 use Rattle.model.proofs.Addresses.{touches-none}
-use Rattle.model.proofs.Ancestries.{same, below-differs, ancestry-here, ancestry-past, ancestry-below}
+use Rattle.model.proofs.Ancestries.{same, below-differs, ancestry-here, ancestry-past, ancestry-below, ancestry-falls}
 use Rattle.model.proofs.Strikes.{user-spared}
 use Rattle.model.proofs.Notes.{taken-cong}
 use Rattle.model.proofs.Lent.{Named}
-use Rattle.model.proofs.Order.{rowsInOrder-falling, lookup-left}
-use Rattle.model.proofs.Rows.{lookup-each, no-ancestry, no-ancestry-above}
+use Rattle.model.proofs.Order.{rowsInOrder-falling, lookup-left, lookup-lower}
+use Rattle.model.proofs.Rows.{lookup-each, found-each, no-ancestry, no-ancestry-above}
 
--- ---- a write from outside every subtree
+-- ---- a stranger's write
 
--- s touches the span of a capability or of an ancestor of it
-abbrev pub touchesAny : Span → List Derivation → Bool
-touchesAny s = any (λ d. touches s (d .span))
+-- a write to s from outside every subtree gives that effect to a capability, or to an ancestor of it, that it touches
+abbrev pub strangerTakes : Sheet → (Effect → Bool) → Span → List Derivation → Bool
+strangerTakes sheet is s = any (λ d. touches s (d .span) && is (resultOf sheet (d .kind) Writing Stranger))
 
--- it ends what it touches, with subtrees
-outside-ends : (s : Span) (x : List Derivation) → reached isEnd Writing s [] x ≡ touchesAny s x
-unfolding reached onAncestry strike
-outside-ends s [] = refl
-outside-ends s (d ∷ above) = ap₂ (λ a b. a || b) (go (touches s (d .span))) (outside-ends s above)
+outside-takes : (sheet : Sheet) (is : Effect → Bool) → is Keep ≡ false → (s : Span) (x : List Derivation) → reached sheet is Writing s [] x ≡ strangerTakes sheet is s x
+unfolding reached onAncestry strike origin
+outside-takes sheet is k s [] = refl
+outside-takes sheet is k s (d ∷ above) = ap₂ (λ a b. a || b) (go (touches s (d .span)) (resultOf sheet (d .kind) Writing Stranger)) (outside-takes sheet is k s above)
   where
-    go : (b : Bool) → isEnd (cond (b && true) End Keep) ≡ b
-    go true = refl
-    go false = refl
+    go : (b : Bool) (e : Effect) → is (cond (b && true) e Keep) ≡ b && is e
+    go true e = refl
+    go false e = k
 
--- and lowers nothing
-outside-lowers : (s : Span) (x : List Derivation) → reached isLower Writing s [] x ≡ false
-unfolding reached onAncestry strike
-outside-lowers s [] = refl
-outside-lowers s (d ∷ above) = ap₂ (λ a b. a || b) (go (touches s (d .span))) (outside-lowers s above)
-  where
-    go : (b : Bool) → isLower (cond (b && true) End Keep) ≡ false
-    go true = refl
-    go false = refl
-
--- A name that is on no holder's ancestry makes no difference to the user's.
-own-alone : (is : Effect → Bool) (a : Access) (s : Span) (d : Derivation) (user x : List Derivation) → All (λ b. b .name < d .name) x → reached is a s (d ∷ user) x ≡ reached is a s user x
-unfolding reached onAncestry strike
-own-alone is a s d user [] h = refl
-own-alone is a s d user (b ∷ above) h = rw (below-differs (h .0)) (ap (λ r. is (strike a s user (b ∷ above)) || r) (own-alone is a s d user above (h .1)))
+-- A name that is no cell, and on no holder's ancestry nor a parent there, makes no difference to the user's.
+own-alone : (sheet : Sheet) (is : Effect → Bool) (a : Access) (s : Span) (d : Derivation) → isCell d ≡ false → (user x : List Derivation) → All (λ b. (b .name < d .name) × (b .parent < b .name)) x
+    → reached sheet is a s (d ∷ user) x ≡ reached sheet is a s user x
+unfolding reached onAncestry strike origin
+own-alone sheet is a s d c user [] h = refl
+own-alone sheet is a s d c user (b ∷ above) h =
+    let l : b .parent < d .name = omega (arith, h .0) in
+    rw (below-differs (h .0 .0), below-differs l, c) (ap (λ r. is (strike sheet a s user (b ∷ above)) || r) (own-alone sheet is a s d c user above (h .1)))
 
 -- The note of a create takes from earlier names what a write through the new name takes, whose ancestry is itself alone.
-pub noted-written : (is : Effect → Bool) (d : Derivation) → eqb (d .parent) 0 ≡ true → (x : List Derivation) → All (λ b. b .name < d .name) x → reclaimed is d [] x ≡ reached is Writing (d .span) (d ∷ []) x
+pub noted-written : (sheet : Sheet) (is : Effect → Bool) (d : Derivation) → eqb (d .parent) 0 ≡ true → isCell d ≡ false → (x : List Derivation) → All (λ b. (b .name < d .name) × (b .parent < b .name)) x
+    → reclaimed sheet is d [] x ≡ reached sheet is Writing (d .span) (d ∷ []) x
 unfolding reclaimed
-noted-written is d z x h = rw z (sym (own-alone is Writing (d .span) d [] x h))
+noted-written sheet is d z c x h = rw z (sym (own-alone sheet is Writing (d .span) d c [] x h))
 
 -- a row from which nothing is taken
 revoke-past : (ends lowers : ℕ → Bool) (c : Cap) (rows : List Cap) → ends (c .name .0) ≡ false → lowers (c .name .0) ≡ false → revoke ends lowers (c ∷ rows) ≡ c ∷ revoke ends lowers rows
@@ -73,25 +71,24 @@ revoke-past ends lowers c rows e l = rw (e, l)
 
 -- ---- a create on rows in order
 
-module _ (issued : ℕ) (rows : List Cap) (n : Named rows) (h : rowsInOrder (suc issued) rows ≡ true) (w : NewName) (s : Span) (r : ℕ) where
-  abbrev hit : ℕ → Bool
-  hit x = touchesAny s (ancestry (derivations rows) x)
+module _ (sheet : Sheet) (issued : ℕ) (rows : List Cap) (n : Named rows) (h : rowsInOrder (suc issued) rows ≡ true) (w : NewName) (s : Span) (r : ℕ) where
+  abbrev taken : (Effect → Bool) → ℕ → Bool
+  taken is x = strangerTakes sheet is s (ancestry (derivations rows) x)
 
-  -- "It ends every live capability its span touches, with subtrees", and leaves the others as they are.
-  pub create-rows : rowsAfter issued rows (Single (Create w s r)) ≡ row (root issued s) r 1 ∷ filter (λ c. not (hit (c .name .0))) rows
+  -- It takes what a stranger's write takes, with subtrees, and leaves the others as they are.
+  pub create-rows : rowsAfter sheet issued rows (Single (Create w s r)) ≡ row (root issued s) r 1 ∷ revoke (taken isEnd) (taken isLower) rows
   unfolding rowsAfter revoke afterAccess struck
   create-rows = ap {B = List Cap} (λ l. row (root issued s) r 1 ∷ l) (
-      taken-cong (struck isEnd Writing (derivations rows) (suc issued) s) (struck isLower Writing (derivations rows) (suc issued) s) hit (λ x. false) rows
-      (All-of _ (λ c. rw (no-ancestry-above (suc issued) rows n h (suc issued) (omega arith)) (outside-ends s (ancestry (derivations rows) (c .name .0)), outside-lowers s (ancestry (derivations rows) (c .name .0)))) rows)
-      ∙ map-id _)
+      taken-cong (struck sheet isEnd Writing (derivations rows) (suc issued) s) (struck sheet isLower Writing (derivations rows) (suc issued) s) (taken isEnd) (taken isLower) rows
+      (All-of _ (λ c. rw (no-ancestry-above (suc issued) rows n h (suc issued) (omega arith)) (outside-takes sheet isEnd refl s (ancestry (derivations rows) (c .name .0)), outside-takes sheet isLower refl s (ancestry (derivations rows) (c .name .0)))) rows))
 
   -- It is a write from outside every subtree but its own: a write through the new row, once it stands, leaves the same.
-  pub create-written : afterAccess Writing (suc issued) s (row (root issued s) r 1 ∷ rows) ≡ rowsAfter issued rows (Single (Create w s r))
+  pub create-written : afterAccess sheet Writing (suc issued) s (row (root issued s) r 1 ∷ rows) ≡ rowsAfter sheet issued rows (Single (Create w s r))
   unfolding rowsAfter revoke afterAccess struck
   create-written =
-      revoke-past (ends isEnd) (ends isLower) (row new r 1) rows (user-spared isEnd refl Writing s user) (user-spared isLower refl Writing s user)
+      revoke-past (takes isEnd) (takes isLower) (row new r 1) rows (user-spared sheet isEnd refl Writing s user) (user-spared sheet isLower refl Writing s user)
       ∙ ap {B = List Cap} (λ l. row new r 1 ∷ l)
-      (taken-cong (ends isEnd) (ends isLower) (struck isEnd Writing (derivations rows) (suc issued) s) (struck isLower Writing (derivations rows) (suc issued) s) rows
+      (taken-cong (takes isEnd) (takes isLower) (struck sheet isEnd Writing (derivations rows) (suc issued) s) (struck sheet isLower Writing (derivations rows) (suc issued) s) rows
       (All-map _ _ (λ c q. (older isEnd (c .name .0) (q .0), older isLower (c .name .0) (q .0))) rows (lookup-each (suc issued) rows h)))
     where
       new : Derivation
@@ -100,33 +97,82 @@ module _ (issued : ℕ) (rows : List Cap) (n : Named rows) (h : rowsInOrder (suc
       user : List Derivation
       user = ancestry (new ∷ derivations rows) (suc issued)
 
-      ends : (Effect → Bool) → ℕ → Bool
-      ends is x = reached is Writing s user (ancestry (new ∷ derivations rows) x)
+      takes : (Effect → Bool) → ℕ → Bool
+      takes is x = reached sheet is Writing s user (ancestry (new ∷ derivations rows) x)
 
       user-alone : user ≡ new ∷ []
       user-alone = ancestry-here new (derivations rows) (suc issued) (same (suc issued)) ∙ ap {B = List Derivation} (λ l. new ∷ l) (no-ancestry (suc issued) rows n h)
 
-      older : (is : Effect → Bool) (x : ℕ) → x < suc issued → ends is x ≡ reached is Writing s (ancestry (derivations rows) (suc issued)) (ancestry (derivations rows) x)
+      older : (is : Effect → Bool) (x : ℕ) → x < suc issued → takes is x ≡ reached sheet is Writing s (ancestry (derivations rows) (suc issued)) (ancestry (derivations rows) x)
       older is x l =
-          ap₂ (reached is Writing s) user-alone (ancestry-past new (derivations rows) x (below-differs l))
-          ∙ own-alone is Writing s new [] (ancestry (derivations rows) x) (ancestry-below (suc issued) x (derivations rows) (rowsInOrder-falling (suc issued) rows n h))
-          ∙ ap (λ (none : List Derivation). reached is Writing s none (ancestry (derivations rows) x)) (sym (no-ancestry-above (suc issued) rows n h (suc issued) (omega arith)))
+          let falls = rowsInOrder-falling (suc issued) rows n h in
+          ap₂ (reached sheet is Writing s) user-alone (ancestry-past new (derivations rows) x (below-differs l))
+          ∙ own-alone sheet is Writing s new refl [] (ancestry (derivations rows) x) (All-zip _ _ (ancestry (derivations rows) x) (ancestry-below (suc issued) x (derivations rows) falls) (ancestry-falls (suc issued) x (derivations rows) falls))
+          ∙ ap (λ (none : List Derivation). reached sheet is Writing s none (ancestry (derivations rows) x)) (sym (no-ancestry-above (suc issued) rows n h (suc issued) (omega arith)))
 
-  -- A capability that is not touched, nor any ancestor of it, stays as it is.
-  pub untouched-stays : All (λ c. hit (c .name .0) ≡ false → lookup (c .name .0) (rowsAfter issued rows (Single (Create w s r))) ≡ c) rows
-  unfolding lookup
-  untouched-stays = All-map _ _ (λ c q e. rw (create-rows, below-differs (q .0)) (lookup-left hit (c .name .0) e rows ∙ q .1)) rows (lookup-each (suc issued) rows h)
-
-  -- One that is, or whose ancestor is, has ended.
-  pub touched-ends : (x : ℕ) → x < suc issued → hit x ≡ true → any (named x) (rowsAfter issued rows (Single (Create w s r))) ≡ false
-  touched-ends x l e = rw (create-rows, below-differs l) (any-false (named x) (filter (λ c. not (hit (c .name .0))) rows) (All-map _ _ apart (filter (λ c. not (hit (c .name .0))) rows) (passes (λ c. not (hit (c .name .0))) rows)))
+  -- A capability whose life is not taken stays as it is, but for its right if that is taken.
+  pub left-stays : All (λ c. taken isEnd (c .name .0) ≡ false → lookup (c .name .0) (rowsAfter sheet issued rows (Single (Create w s r))) ≡ lowered (taken isLower (c .name .0)) c) rows
+  unfolding lookup revoke
+  left-stays = All-map _ _ stays rows (All-zip _ _ rows (lookup-each (suc issued) rows h) (found-each rows))
     where
-      apart : (c : Cap) → not (hit (c .name .0)) ≡ true → named x c ≡ false
-      apart c p = ne-eqb x (c .name .0) (λ (q : x ≡ c .name .0). clash (ap hit (sym q) ∙ e) (not-true (hit (c .name .0)) p))
+      stays : (c : Cap) → ((c .name .0 < suc issued) × (lookup (c .name .0) rows ≡ c)) × (any (named (c .name .0)) rows ≡ true) → taken isEnd (c .name .0) ≡ false
+          → lookup (c .name .0) (rowsAfter sheet issued rows (Single (Create w s r))) ≡ lowered (taken isLower (c .name .0)) c
+      stays c q e =
+          let left : List Cap = filter (λ c. not (taken isEnd (c .name .0))) rows in
+          let found : any (named (c .name .0)) left ≡ true = any-kept (λ c. c .name .0) (λ x. not (taken isEnd x)) (c .name .0) (ap not e) rows ∙ q .1 in
+          rw (create-rows, below-differs (q .0 .0))
+          (lookup-lower (taken isLower) (c .name .0) left found ∙ ap (λ c. lowered (taken isLower (c .name .0)) c) (lookup-left (taken isEnd) (c .name .0) e rows ∙ q .0 .1))
 
-  -- A create of length 0 ends nothing.
-  pub create-nothing : s .length ≡ 0 → rowsAfter issued rows (Single (Create w s r)) ≡ row (root issued s) r 1 ∷ rows
-  create-nothing z = create-rows ∙ ap {B = List Cap} (λ l. row (root issued s) r 1 ∷ l) (filter-all (λ c. not (hit (c .name .0))) rows (All-of _ (λ c. ap not (none (ancestry (derivations rows) (c .name .0)))) rows))
+  -- One whose life is taken has ended.
+  pub taken-ends : (x : ℕ) → x < suc issued → taken isEnd x ≡ true → any (named x) (rowsAfter sheet issued rows (Single (Create w s r))) ≡ false
+  unfolding revoke
+  taken-ends x l e = rw (create-rows, below-differs l, any-map (λ c. lowered (taken isLower (c .name .0)) c) (named x) left) (any-false (named x) left (All-map _ _ apart left (passes (λ c. not (taken isEnd (c .name .0))) rows)))
     where
-      none : (x : List Derivation) → touchesAny s x ≡ false
-      none x = any-false (λ d. touches s (d .span)) x (All-of _ (λ d. touches-none s (d .span) z) x)
+      left : List Cap
+      left = filter (λ c. not (taken isEnd (c .name .0))) rows
+
+      apart : (c : Cap) → not (taken isEnd (c .name .0)) ≡ true → named x c ≡ false
+      apart c p = ne-eqb x (c .name .0) (λ (q : x ≡ c .name .0). clash (ap (taken isEnd) (sym q) ∙ e) (not-true (taken isEnd (c .name .0)) p))
+
+  -- A create of length 0 takes nothing.
+  pub create-nothing : s .length ≡ 0 → rowsAfter sheet issued rows (Single (Create w s r)) ≡ row (root issued s) r 1 ∷ rows
+  unfolding revoke
+  create-nothing z =
+      create-rows
+      ∙ ap {B = List Cap} (λ l. row (root issued s) r 1 ∷ l)
+      (taken-cong (taken isEnd) (taken isLower) (λ x. false) (λ x. false) rows (All-of _ (λ c. (none isEnd (ancestry (derivations rows) (c .name .0)), none isLower (ancestry (derivations rows) (c .name .0)))) rows)
+      ∙ map-id _
+      ∙ filter-all (λ c. true) rows (All-of _ (λ c. refl) rows))
+    where
+      none : (is : Effect → Bool) (x : List Derivation) → strangerTakes sheet is s x ≡ false
+      none is x = any-false (λ d. touches s (d .span) && is (resultOf sheet (d .kind) Writing Stranger)) x (All-of _ (λ d. rw (touches-none s (d .span) z)) x)
+
+-- ---- by card 6's sheet
+
+-- s touches the span of a capability or of an ancestor of it
+abbrev pub touchesAny : Span → List Derivation → Bool
+touchesAny s = any (λ d. touches s (d .span))
+
+stranger-ends : (kind : ℕ) → resultOf sheet6 kind Writing Stranger ≡ End
+stranger-ends zero = refl
+stranger-ends (suc zero) = refl
+stranger-ends (suc (suc k)) = refl
+
+-- Card 4: "it ends every live capability its span touches, with subtrees", of every kind; and lowers nothing.
+pub fresh-ends : (s : Span) (x : List Derivation) → strangerTakes sheet6 isEnd s x ≡ touchesAny s x
+fresh-ends s [] = refl
+fresh-ends s (d ∷ above) = rw (stranger-ends (d .kind), fresh-ends s above) (ap (λ b. b || touchesAny s above) (and-true (touches s (d .span))))
+
+pub fresh-lowers : (s : Span) (x : List Derivation) → strangerTakes sheet6 isLower s x ≡ false
+fresh-lowers s [] = refl
+fresh-lowers s (d ∷ above) = rw (stranger-ends (d .kind), and-false (touches s (d .span))) (fresh-lowers s above)
+
+pub fresh-rows : (issued : ℕ) (rows : List Cap) → Named rows → rowsInOrder (suc issued) rows ≡ true → (w : NewName) (s : Span) (r : ℕ)
+    → rowsAfter sheet6 issued rows (Single (Create w s r)) ≡ row (root issued s) r 1 ∷ filter (λ c. not (touchesAny s (ancestry (derivations rows) (c .name .0)))) rows
+unfolding revoke
+fresh-rows issued rows n h w s r =
+    create-rows sheet6 issued rows n h w s r
+    ∙ ap {B = List Cap} (λ l. row (root issued s) r 1 ∷ l)
+    (taken-cong _ _ (λ x. touchesAny s (ancestry (derivations rows) x)) (λ x. false) rows
+    (All-of _ (λ c. (fresh-ends s (ancestry (derivations rows) (c .name .0)), fresh-lowers s (ancestry (derivations rows) (c .name .0)))) rows)
+    ∙ map-id _)

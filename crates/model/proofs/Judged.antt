@@ -16,29 +16,30 @@ use Rattle.model.specs.declared.Access.{Access}
 use Rattle.model.specs.declared.NewName.{NewName}
 use Rattle.model.specs.declared.Event.the-variants.{Create, Borrow, Read, Write, Drop}
 use Rattle.model.specs.Requests.{Request, Single, Group, risesAbove, risesStrictly, isGroup}
+use Rattle.model.specs.declared.Sheet.{Sheet}
 use Rattle.model.specs.Lists.{any, all, first}
 use Rattle.model.specs.Table.{named, liveRows, inOrder}
-use Rattle.model.specs.Refusals.{viewOf, standings, checks, refusals, judge}
+use Rattle.model.specs.Refusals.{View, standings, checks, refusals, judge}
 use Rattle.model.specs.Effects.{revoke, afterAccess, rowsWithout, rowsAfter}
 use Rattle.model.proofs.Lists.{All, All-map, test, and-both, listed, first-none, first-zero, length-filter}
 
-pub numbered : (t : List Cap) (i : ℕ) (q : Request) → all (λ c. ltb 0 (c .0)) (refusals (viewOf t i) q) ≡ true
+pub numbered : (v : View) (q : Request) → all (λ c. ltb 0 (c .0)) (refusals v q) ≡ true
 unfolding refusals standings
-numbered t i (Single (Create w s r)) = refl
-numbered t i (Single (Borrow w u s r)) = refl
-numbered t i (Single (Read u s)) = refl
-numbered t i (Single (Write u s)) = refl
-numbered t i (Single (Drop u)) = refl
-numbered t i (Group names) = each (liveRows t) names
+numbered v (Single (Create w s r)) = refl
+numbered v (Single (Borrow w u s r kind)) = refl
+numbered v (Single (Read u s)) = refl
+numbered v (Single (Write u s)) = refl
+numbered v (Single (Drop u)) = refl
+numbered v (Group names) = each (liveRows (v .table)) names
   where
-    each : (rows : List Cap) (names : List ℕ) → all (λ c. ltb 0 (c .0)) (standings rows i names) ≡ true
+    each : (rows : List Cap) (names : List ℕ) → all (λ c. ltb 0 (c .0)) (standings rows (v .issued) names) ≡ true
     each rows [] = refl
     each rows (u ∷ names) = each rows names
 
 -- the condition listed under a number does not hold
-pub allowed : (t : List Cap) (i : ℕ) (q : Request) → judge (viewOf t i) q ≡ 0 → (k : ℕ) → listed k (refusals (viewOf t i) q) ≡ false
+pub allowed : (v : View) (q : Request) → judge v q ≡ 0 → (k : ℕ) → listed k (refusals v q) ≡ false
 unfolding judge
-allowed t i q h = first-none (refusals (viewOf t i) q) (numbered t i q) h
+allowed v q h = first-none (refusals v q) (numbered v q) h
 
 -- in a table in order, no refusal is 1
 above-names : (rows : List Cap) (issued : ℕ) (names : List ℕ) → all (λ c. ltb 1 (c .0)) (standings rows issued names) ≡ true
@@ -48,7 +49,7 @@ above-names rows issued (u ∷ names) = above-names rows issued names
 
 above-one : (rows : List Cap) (issued size : ℕ) (q : Request) → all (λ c. ltb 1 (c .0)) (checks rows issued size q) ≡ true
 above-one rows issued size (Single (Create w s r)) = refl
-above-one rows issued size (Single (Borrow w u s r)) = refl
+above-one rows issued size (Single (Borrow w u s r kind)) = refl
 above-one rows issued size (Single (Read u s)) = refl
 above-one rows issued size (Single (Write u s)) = refl
 above-one rows issued size (Single (Drop u)) = refl
@@ -62,9 +63,10 @@ first-above (c ∷ cs) h e = let p = and-both (ltb 1 (c .0)) (all (λ c. ltb 1 (
     go (inl t) l ih = let q : c .0 ≡ 1 = rw t at e in omega arith
     go (inr f) l ih = ih (rw f at e)
 
-pub ordered-not-1 : (t : List Cap) (i : ℕ) (q : Request) → inOrder t i ≡ true → judge (viewOf t i) q ≡ 1 → ⊥
+pub ordered-not-1 : (v : View) (q : Request) → inOrder (v .table) (v .issued) ≡ true → judge v q ≡ 1 → ⊥
 unfolding judge refusals
-ordered-not-1 t i q o e = first-above (checks (liveRows t) i (length t) q) (above-one (liveRows t) i (length t) q) (rw o at e)
+ordered-not-1 v q o e =
+    first-above (checks (liveRows (v .table)) (v .issued) (length (v .table)) q) (above-one (liveRows (v .table)) (v .issued) (length (v .table)) q) (rw o at e)
 
 -- ---- the names of a drop
 
@@ -89,29 +91,29 @@ rising (x ∷ names) h = above x names h
         let r = above y names (p .1) in
         ((l, All-map _ _ (λ u k. omega arith) names (r .0)), r)
 
-pub drop-stands : (t : List Cap) (i : ℕ) (u : Name) → judge (viewOf t i) (Single (Drop u)) ≡ 0 → Stands (liveRows t) i (u .0)
+pub drop-stands : (v : View) (u : Name) → judge v (Single (Drop u)) ≡ 0 → Stands (liveRows (v .table)) (v .issued) (u .0)
 unfolding refusals
-drop-stands t i u h = (allowed t i (Single (Drop u)) h 4, not-false (any (named (u .0)) (liveRows t)) (allowed t i (Single (Drop u)) h 5))
+drop-stands v u h = (allowed v (Single (Drop u)) h 4, not-false (any (named (u .0)) (liveRows (v .table))) (allowed v (Single (Drop u)) h 5))
 
-module _ (t : List Cap) (i : ℕ) (names : List ℕ) (h : judge (viewOf t i) (Group names) ≡ 0) where
+module _ (v : View) (names : List ℕ) (h : judge v (Group names) ≡ 0) where
   pub group-rises : Rising names
   unfolding refusals isGroup
   group-rises =
-      rising names (and-both (leb 1 (length names) && leb (length names) 64) (risesStrictly names) (not-false (isGroup names) (allowed t i (Group names) h 13)) .1)
+      rising names (and-both (leb 1 (length names) && leb (length names) 64) (risesStrictly names) (not-false (isGroup names) (allowed v (Group names) h 13)) .1)
 
-  pub group-stands : All (Stands (liveRows t) i) names
+  pub group-stands : All (Stands (liveRows (v .table)) (v .issued)) names
   unfolding judge refusals standings
   group-stands =
-      let p = sym (first-zero (refusals (viewOf t i) (Group names)) (numbered t i (Group names))) ∙ eq-eqb (judge (viewOf t i) (Group names)) 0 h in
-      let q = and-both (not (not (inOrder t i))) (not (not (isGroup names)) && all (λ c. not (c .1)) (standings (liveRows t) i names)) p in
-      each names (and-both (not (not (isGroup names))) (all (λ c. not (c .1)) (standings (liveRows t) i names)) (q .1) .1)
+      let p = sym (first-zero (refusals v (Group names)) (numbered v (Group names))) ∙ eq-eqb (judge v (Group names)) 0 h in
+      let q = and-both (not (not (inOrder (v .table) (v .issued)))) (not (not (isGroup names)) && all (λ c. not (c .1)) (standings (liveRows (v .table)) (v .issued) names)) p in
+      each names (and-both (not (not (isGroup names))) (all (λ c. not (c .1)) (standings (liveRows (v .table)) (v .issued) names)) (q .1) .1)
     where
-      each : (names : List ℕ) → all (λ c. not (c .1)) (standings (liveRows t) i names) ≡ true → All (Stands (liveRows t) i) names
+      each : (names : List ℕ) → all (λ c. not (c .1)) (standings (liveRows (v .table)) (v .issued) names) ≡ true → All (Stands (liveRows (v .table)) (v .issued)) names
       each [] h = tt
       each (u ∷ names) h =
-          let p = and-both (not (eqb u 0 || ltb i u)) (not (not (any (named u) (liveRows t))) && all (λ c. not (c .1)) (standings (liveRows t) i names)) h in
-          let q = and-both (not (not (any (named u) (liveRows t)))) (all (λ c. not (c .1)) (standings (liveRows t) i names)) (p .1) in
-          ((not-true (eqb u 0 || ltb i u) (p .0), not-false (any (named u) (liveRows t)) (not-true (not (any (named u) (liveRows t))) (q .0))), each names (q .1))
+          let p = and-both (not (eqb u 0 || ltb (v .issued) u)) (not (not (any (named u) (liveRows (v .table)))) && all (λ c. not (c .1)) (standings (liveRows (v .table)) (v .issued) names)) h in
+          let q = and-both (not (not (any (named u) (liveRows (v .table))))) (all (λ c. not (c .1)) (standings (liveRows (v .table)) (v .issued) names)) (p .1) in
+          ((not-true (eqb u 0 || ltb (v .issued) u) (p .0), not-false (any (named u) (liveRows (v .table))) (not-true (not (any (named u) (liveRows (v .table)))) (q .0))), each names (q .1))
 
 -- ---- room
 
@@ -124,23 +126,23 @@ unfolding revoke
 revoke-fits ends lowers rows n h = rw length-map (omega (arith, length-filter (λ c. not (ends (c .name .0))) rows))
 
 -- an access leaves no more rows than there were
-pub access-fits : (a : Access) (u : ℕ) (s : Span) (rows : List Cap) → length (afterAccess a u s rows) ≤ length rows
+pub access-fits : (sheet : Sheet) (a : Access) (u : ℕ) (s : Span) (rows : List Cap) → length (afterAccess sheet a u s rows) ≤ length rows
 unfolding afterAccess
-access-fits a u s rows = revoke-fits _ _ rows (length rows) (omega arith)
+access-fits sheet a u s rows = revoke-fits _ _ rows (length rows) (omega arith)
 
 new-fits : (ends lowers : ℕ → Bool) (rows : List Cap) (n : ℕ) → length rows < n → suc (length (revoke ends lowers rows)) ≤ n
 new-fits ends lowers rows n h = omega (arith, revoke-fits ends lowers rows (length rows) (omega arith))
 
 -- Fullness is judged on the table before the event.
-pub room-before : (t : List Cap) (i : ℕ) (w : NewName) (s : Span) (r : ℕ) → judge (viewOf t i) (Single (Create w s r)) ≡ 0 → length (liveRows t) < length t
+pub room-before : (v : View) (w : NewName) (s : Span) (r : ℕ) → judge v (Single (Create w s r)) ≡ 0 → length (liveRows (v .table)) < length (v .table)
 unfolding refusals
-room-before t i w s r h = leb-false (length t) (length (liveRows t)) (allowed t i (Single (Create w s r)) h 10)
+room-before v w s r h = leb-false (length (v .table)) (length (liveRows (v .table))) (allowed v (Single (Create w s r)) h 10)
 
-pub next-fits : (t : List Cap) (i : ℕ) (q : Request) → judge (viewOf t i) q ≡ 0 → length (rowsAfter i (liveRows t) q) ≤ length t
+pub next-fits : (sheet : Sheet) (v : View) (q : Request) → judge v q ≡ 0 → length (rowsAfter sheet (v .issued) (liveRows (v .table)) q) ≤ length (v .table)
 unfolding rowsAfter afterAccess rowsWithout refusals
-next-fits t i (Single (Create w s r)) h = new-fits _ _ (liveRows t) (length t) (room-before t i w s r h)
-next-fits t i (Single (Borrow w u s r)) h = leb-false (length t) (length (liveRows t)) (allowed t i (Single (Borrow w u s r)) h 10)
-next-fits t i (Single (Read u s)) h = revoke-fits _ _ (liveRows t) (length t) (length-live t)
-next-fits t i (Single (Write u s)) h = revoke-fits _ _ (liveRows t) (length t) (length-live t)
-next-fits t i (Single (Drop u)) h = revoke-fits _ _ (liveRows t) (length t) (length-live t)
-next-fits t i (Group names) h = revoke-fits _ _ (liveRows t) (length t) (length-live t)
+next-fits sheet v (Single (Create w s r)) h = new-fits _ _ (liveRows (v .table)) (length (v .table)) (room-before v w s r h)
+next-fits sheet v (Single (Borrow w u s r kind)) h = leb-false (length (v .table)) (length (liveRows (v .table))) (allowed v (Single (Borrow w u s r kind)) h 10)
+next-fits sheet v (Single (Read u s)) h = revoke-fits _ _ (liveRows (v .table)) (length (v .table)) (length-live (v .table))
+next-fits sheet v (Single (Write u s)) h = revoke-fits _ _ (liveRows (v .table)) (length (v .table)) (length-live (v .table))
+next-fits sheet v (Single (Drop u)) h = revoke-fits _ _ (liveRows (v .table)) (length (v .table)) (length-live (v .table))
+next-fits sheet v (Group names) h = revoke-fits _ _ (liveRows (v .table)) (length (v .table)) (length-live (v .table))

@@ -16,8 +16,10 @@ mod Allowed
 mod Lost
 mod Traces
 mod Rows
+mod Origins
 mod OneTable
 mod Fresh
+mod Sheet6
 mod Together
 mod Demand3
 mod Given

@@ -3,7 +3,7 @@
 use mathlib.Core.Path.{_≡_, refl, sym, ap, _∙_}
 use mathlib.Core.Logic.{_⊎_, inl, inr}
 use mathlib.Core.Bool.{Bool, true, false, not, cond, _&&_, _||_, false≢true, or-true, and-assoc}
-use mathlib.Core.List.{List, [], _∷_, _++_, map, reverse, reverse-cons, append-nil}
+use mathlib.Core.List.{List, [], _∷_, _++_, map, map-append, reverse, reverse-cons, append-nil}
 use Prim.Native.Nat.{ℕ, zero, suc, _≤_, _<_}
 use native.Mathlib.Omega.{arith}
 use lib.Dec.{eqb, ltb}
@@ -82,6 +82,14 @@ module _ {A : Type 0} where
       go true f r = (f refl, r)
       go false f r = r
 
+  pub All-unfilter : (p : A → Bool) (P : A → Type 0) (l : List A) → All P (filter p l) → All (λ x. p x ≡ true → P x) l
+  All-unfilter p P [] h = tt
+  All-unfilter p P (x ∷ l) h = go (p x) (All-unfilter p P l) h
+    where
+      go : (b : Bool) → (All P (filter p l) → All (λ x. p x ≡ true → P x) l) → All P (consIf b x (filter p l)) → (b ≡ true → P x) × All (λ x. p x ≡ true → P x) l
+      go true ih h = (λ e. h .0, ih (h .1))
+      go false ih h = (λ e. clash e refl, ih h)
+
   pub All-sub : (p : A → Bool) (P : A → Type 0) (l : List A) → All P l → All P (filter p l)
   All-sub p P l h = All-filter p P l (All-map P (λ x. p x ≡ true → P x) (λ x q e. q) l h)
 
@@ -133,6 +141,10 @@ module _ {A : Type 0} where
   any-false p [] h = refl
   any-false p (x ∷ l) h = rw (h .0) (any-false p l (h .1))
 
+  pub any-none : (p : A → Bool) (l : List A) → any p l ≡ false → All (λ x. p x ≡ false) l
+  any-none p [] h = tt
+  any-none p (x ∷ l) h = let q = or-neither (p x) (any p l) h in (q .0, any-none p l (q .1))
+
   pub any-or : (p q : A → Bool) (l : List A) → any (λ x. p x || q x) l ≡ any p l || any q l
   any-or p q [] = refl
   any-or p q (x ∷ l) = rw (any-or p q l) (regroup (p x) (q x) (any p l) (any q l))
@@ -173,6 +185,10 @@ module _ {A B : Type 0} where
   pub any-map : (f : A → B) (p : B → Bool) (l : List A) → any p (map f l) ≡ any (λ x. p (f x)) l
   any-map f p [] = refl
   any-map f p (x ∷ l) = ap (λ r. p (f x) || r) (any-map f p l)
+
+pub map-reverse : {A B : Type 0} (f : A → B) (l : List A) → map f (reverse l) ≡ reverse (map f l)
+map-reverse f [] = refl
+map-reverse f (x ∷ l) = rw (reverse-cons x l, map-append f (reverse l) (x ∷ []), map-reverse f l) (sym (reverse-cons (f x) (map f l)))
 
 pub map-id : {A : Type 0} (l : List A) → map (λ (x : A). x) l ≡ l
 map-id [] = refl

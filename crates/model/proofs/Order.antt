@@ -16,15 +16,17 @@ use Rattle.model.specs.declared.Tally.{Tally}
 use Rattle.model.specs.declared.NewName.{NewName}
 use Rattle.model.specs.declared.Event.the-variants.{Create, Borrow, Read, Write, Drop}
 use Rattle.model.specs.Requests.{Request, Single, Group}
+use Rattle.model.specs.declared.Effect.{Effect}
+use Rattle.model.specs.declared.Sheet.{Sheet}
 use Rattle.model.specs.Lists.{consIf, filter, any, all, final}
 use Rattle.model.specs.declared.Access.{Access}
 use Rattle.model.specs.declared.Access.the-variants.{Reading, Writing}
 use Rattle.model.specs.Values.{legal, inside}
 use Rattle.model.specs.Derivation.{ancestry, inSubtree, onAncestry}
-use Rattle.model.specs.Strike.{Effect, isLower, isEnd, strike, reached, struck}
-use Rattle.model.specs.Step.{State}
-use Rattle.model.specs.Table.{row, emptyRow, span, derivation, derivations, named, liveRows, lentTable, lookup, isEmptyRow, liveRowsFirst, isRight, rowFitsParent, parentInOrder, rowInOrder, rowsInOrder, inOrder}
-use Rattle.model.specs.Refusals.{viewOf, refusals, judge}
+use Rattle.model.specs.Strike.{isLower, isEnd, strike, reached, struck}
+use Rattle.model.specs.Step.{State, view}
+use Rattle.model.specs.Table.{row, emptyRow, span, derivation, derivations, named, liveRows, lentTable, lookup, isEmptyRow, liveRowsFirst, isRight, isKind, rowFitsParent, parentInOrder, rowInOrder, rowsInOrder, inOrder}
+use Rattle.model.specs.Refusals.{View, refusals, judge}
 use Rattle.model.specs.Effects.{lowered, revoke, afterAccess, inSubtrees, rowsWithout, root, child, rowsAfter, issuedAfter}
 use Rattle.model.specs.Table
 use Rattle.model.specs.Refusals
@@ -104,14 +106,16 @@ found-below bound (c ∷ rows) x h e = go (test (named x c)) (found-below (c .na
 pub record Place (c : Cap) (earlier : List Cap) : Type 0 where
   pub is-legal : legal (span c) ≡ true
   pub has-right : isRight (c .right) ≡ true
+  pub has-kind : isKind (c .kind) ≡ true
   pub does-hang : parentInOrder c earlier ≡ true
 
 pub place : (c : Cap) (earlier : List Cap) → rowInOrder c earlier ≡ true → Place c earlier
 unfolding rowInOrder
 place c earlier h =
-    let p = and-both (legal (span c) && isRight (c .right)) (parentInOrder c earlier) h in
-    let q = and-both (legal (span c)) (isRight (c .right)) (p .0) in
-    record { is-legal = q .0; has-right = q .1; does-hang = p .1 }
+    let p = and-both (legal (span c) && isRight (c .right) && isKind (c .kind)) (parentInOrder c earlier) h in
+    let q = and-both (legal (span c) && isRight (c .right)) (isKind (c .kind)) (p .0) in
+    let r = and-both (legal (span c)) (isRight (c .right)) (q .0) in
+    record { is-legal = r .0; has-right = r .1; has-kind = q .1; does-hang = p .1 }
 
 -- a row whose parent is not 0
 pub parentInOrder-rowFitsParent : (c : Cap) (earlier : List Cap) → eqb (c .parent .0) 0 ≡ false → parentInOrder c earlier ≡ true → (any (named (c .parent .0)) earlier ≡ true) × (rowFitsParent c (lookup (c .parent .0) earlier) ≡ true)
@@ -144,9 +148,9 @@ module _ (bound : ℕ) (rows : List Cap) (n : Named rows) (h : rowsInOrder bound
   pub steps : All (λ c. ancestry (derivations rows) (c .name .0) ≡ derivation c ∷ ancestry (derivations rows) (c .parent .0)) rows
   steps = All-unmap derivation (λ b. ancestry (derivations rows) (b .name) ≡ b ∷ ancestry (derivations rows) (b .parent)) rows (All-map _ _ (λ b s. s .2) (derivations rows) (ancestry-step bound (derivations rows) (rowsInOrder-falling bound rows n h)))
 
-  struck-spreads : (is : Effect → Bool) (a : Access) (u : ℕ) (s : Span) → Spreads (struck is a (derivations rows) u s) rows
+  struck-spreads : (sheet : Sheet) (is : Effect → Bool) (a : Access) (u : ℕ) (s : Span) → Spreads (struck sheet is a (derivations rows) u s) rows
   unfolding struck reached onAncestry
-  struck-spreads is a u s = All-map _ _ (λ c e t. rw e (rw t (or-true (is (strike a s (ancestry (derivations rows) u) (derivation c ∷ ancestry (derivations rows) (c .parent .0))))))) rows steps
+  struck-spreads sheet is a u s = All-map _ _ (λ c e t. rw e (rw t (or-true (is (strike sheet a s (ancestry (derivations rows) u) (derivation c ∷ ancestry (derivations rows) (c .parent .0))))))) rows steps
 
   -- a row is in the subtree of one of the names when it is one of them, or its parent is in one's
   pub group-step : (names : List ℕ)
@@ -212,7 +216,7 @@ module _ (hit : ℕ → Bool) where
   abbrev lower : Cap → Cap
   lower c = lowered (hit (c .name .0)) c
 
-  lookup-lower : (x : ℕ) (rows : List Cap) → any (named x) rows ≡ true → lookup x (map lower rows) ≡ lower (lookup x rows)
+  pub lookup-lower : (x : ℕ) (rows : List Cap) → any (named x) rows ≡ true → lookup x (map lower rows) ≡ lower (lookup x rows)
   unfolding lookup
   lookup-lower x [] h = clash h refl
   lookup-lower x (c ∷ rows) h = go (test (named x c)) (lookup-lower x rows)
@@ -245,7 +249,7 @@ module _ (hit : ℕ → Bool) where
   unfolding rowInOrder
   rowInOrder-lower c earlier up h =
       let p = place c earlier h in
-      rw (p .is-legal, right-lowered (hit (c .name .0)) (c .right) (p .has-right)) (parentInOrder-lower c earlier up (p .has-right) (p .does-hang))
+      rw (p .is-legal, right-lowered (hit (c .name .0)) (c .right) (p .has-right), p .has-kind) (parentInOrder-lower c earlier up (p .has-right) (p .does-hang))
 
   rowsInOrder-lower : (bound : ℕ) (rows : List Cap) → Spreads hit rows → rowsInOrder bound rows ≡ true → rowsInOrder bound (map lower rows) ≡ true
   unfolding rowsInOrder
@@ -265,14 +269,14 @@ unfolding revoke
 revoke-named ends lowers rows h = All-mapped (lower lowers) (λ c. named 0 c ≡ false) (filter (left ends) rows) (All-sub (left ends) (λ c. named 0 c ≡ false) rows h)
 
 -- the rows that an access leaves rise as they did
-pub access-rowsInOrder : (bound : ℕ) (rows : List Cap) → Named rows → rowsInOrder bound rows ≡ true → (a : Access) (u : ℕ) (s : Span) → rowsInOrder bound (afterAccess a u s rows) ≡ true
+pub access-rowsInOrder : (sheet : Sheet) (bound : ℕ) (rows : List Cap) → Named rows → rowsInOrder bound rows ≡ true → (a : Access) (u : ℕ) (s : Span) → rowsInOrder bound (afterAccess sheet a u s rows) ≡ true
 unfolding afterAccess
-access-rowsInOrder bound rows n h a u s =
-    revoke-rowsInOrder (struck isEnd a (derivations rows) u s) (struck isLower a (derivations rows) u s) bound rows (struck-spreads bound rows n h isEnd a u s) (struck-spreads bound rows n h isLower a u s) h
+access-rowsInOrder sheet bound rows n h a u s =
+    revoke-rowsInOrder (struck sheet isEnd a (derivations rows) u s) (struck sheet isLower a (derivations rows) u s) bound rows (struck-spreads bound rows n h sheet isEnd a u s) (struck-spreads bound rows n h sheet isLower a u s) h
 
-pub access-named : (rows : List Cap) → Named rows → (a : Access) (u : ℕ) (s : Span) → Named (afterAccess a u s rows)
+pub access-named : (sheet : Sheet) (rows : List Cap) → Named rows → (a : Access) (u : ℕ) (s : Span) → Named (afterAccess sheet a u s rows)
 unfolding afterAccess
-access-named rows n a u s = revoke-named _ _ rows n
+access-named sheet rows n a u s = revoke-named _ _ rows n
 
 -- ---- the whole table
 
@@ -290,39 +294,47 @@ ordered t i h =
     let r = and-both (leb (length t) 1024) (liveRowsFirst t) (q .0) in
     record { few = r .0; rest-is-empty = r .1; names-left = q .1; rise = p .1 }
 
-module _ (t : List Cap) (i : ℕ) (o : Ordered t i) where
-  next-named : (q : Request) → Named (rowsAfter i (liveRows t) q)
+module _ (sheet : Sheet) (v : View) (o : Ordered (v .table) (v .issued)) where
+  abbrev t : List Cap
+  t = v .table
+
+  abbrev i : ℕ
+  i = v .issued
+
+  next-named : (q : Request) → Named (rowsAfter sheet i (liveRows t) q)
   unfolding rowsAfter rowsWithout
-  next-named (Single (Create w s r)) = (ne-eqb 0 (suc i) (λ (q : 0 ≡ suc i). omega arith), access-named (liveRows t) (live-named t) Writing (suc i) s)
-  next-named (Single (Borrow w u s r)) = (ne-eqb 0 (suc i) (λ (q : 0 ≡ suc i). omega arith), live-named t)
-  next-named (Single (Read u s)) = access-named (liveRows t) (live-named t) Reading (u .0) s
-  next-named (Single (Write u s)) = access-named (liveRows t) (live-named t) Writing (u .0) s
+  next-named (Single (Create w s r)) = (ne-eqb 0 (suc i) (λ (q : 0 ≡ suc i). omega arith), access-named sheet (liveRows t) (live-named t) Writing (suc i) s)
+  next-named (Single (Borrow w u s r kind)) = (ne-eqb 0 (suc i) (λ (q : 0 ≡ suc i). omega arith), live-named t)
+  next-named (Single (Read u s)) = access-named sheet (liveRows t) (live-named t) Reading (u .0) s
+  next-named (Single (Write u s)) = access-named sheet (liveRows t) (live-named t) Writing (u .0) s
   next-named (Single (Drop u)) = revoke-named _ _ (liveRows t) (live-named t)
   next-named (Group names) = revoke-named _ _ (liveRows t) (live-named t)
 
-  names-enough : (q : Request) → judge (viewOf t i) q ≡ 0 → leb (issuedAfter i q) 1000000 ≡ true
+  names-enough : (q : Request) → judge v q ≡ 0 → leb (issuedAfter i q) 1000000 ≡ true
   unfolding refusals
-  names-enough (Single (Create w s r)) h = le-leb (suc i) 1000000 (leb-false 1000000 i (allowed t i (Single (Create w s r)) h 9))
-  names-enough (Single (Borrow w u s r)) h = le-leb (suc i) 1000000 (leb-false 1000000 i (allowed t i (Single (Borrow w u s r)) h 9))
+  names-enough (Single (Create w s r)) h = le-leb (suc i) 1000000 (leb-false 1000000 i (allowed v (Single (Create w s r)) h 9))
+  names-enough (Single (Borrow w u s r kind)) h = le-leb (suc i) 1000000 (leb-false 1000000 i (allowed v (Single (Borrow w u s r kind)) h 9))
   names-enough (Single (Read u s)) h = o .names-left
   names-enough (Single (Write u s)) h = o .names-left
   names-enough (Single (Drop u)) h = o .names-left
   names-enough (Group names) h = o .names-left
 
-  rowInOrder-root : (w : NewName) (s : Span) (r : ℕ) → judge (viewOf t i) (Single (Create w s r)) ≡ 0 → (earlier : List Cap) → rowInOrder (row (root i s) r 1) earlier ≡ true
+  rowInOrder-root : (w : NewName) (s : Span) (r : ℕ) → judge v (Single (Create w s r)) ≡ 0 → (earlier : List Cap) → rowInOrder (row (root i s) r 1) earlier ≡ true
   unfolding rowInOrder parentInOrder refusals
   rowInOrder-root w s r h earlier =
-      let p = allowed t i (Single (Create w s r)) h in
+      let p = allowed v (Single (Create w s r)) h in
       rw (not-false (legal s) (p 3), not-false (isRight r) (p 2))
 
-  rowInOrder-child : (w : NewName) (u : Name) (s : Span) (r : ℕ) → judge (viewOf t i) (Single (Borrow w u s r)) ≡ 0 → rowInOrder (row (child i u s) r (suc (lookup (u .0) (liveRows t) .depth))) (liveRows t) ≡ true
+  rowInOrder-child : (w : NewName) (u : Name) (s : Span) (r kind : ℕ) → judge v (Single (Borrow w u s r kind)) ≡ 0 → rowInOrder (row (child i u s kind) r (suc (lookup (u .0) (liveRows t) .depth))) (liveRows t) ≡ true
   unfolding rowInOrder parentInOrder rowFitsParent refusals
-  rowInOrder-child w u s r h =
-      let p = allowed t i (Single (Borrow w u s r)) h in
+  rowInOrder-child w u s r kind h =
+      let p = allowed v (Single (Borrow w u s r kind)) h in
       let c : Cap = lookup (u .0) (liveRows t) in
+      let made = or-neither (not (isRight r)) (not (isKind kind)) (p 2) in
       rw (
         not-false (legal s) (p 3),
-        not-false (isRight r) (p 2),
+        not-false (isRight r) (made .0),
+        not-false (isKind kind) (made .1),
         or-neither (eqb (u .0) 0) (ltb i (u .0)) (p 4) .0,
         not-false (any (named (u .0)) (liveRows t)) (p 5),
         not-false (inside s (span c)) (p 6),
@@ -331,53 +343,53 @@ module _ (t : List Cap) (i : ℕ) (o : Ordered t i) where
         le-leb (suc (c .depth)) 64 (leb-false 64 (c .depth) (p 8)),
       )
 
-  used-rowsInOrder : (a : Access) (u : ℕ) (s : Span) → rowsInOrder (suc i) (afterAccess a u s (liveRows t)) ≡ true
-  used-rowsInOrder = access-rowsInOrder (suc i) (liveRows t) (live-named t) (o .rise)
+  used-rowsInOrder : (a : Access) (u : ℕ) (s : Span) → rowsInOrder (suc i) (afterAccess sheet a u s (liveRows t)) ≡ true
+  used-rowsInOrder = access-rowsInOrder sheet (suc i) (liveRows t) (live-named t) (o .rise)
 
   without-rowsInOrder : (names : List ℕ) → rowsInOrder (suc i) (rowsWithout names (liveRows t)) ≡ true
   unfolding rowsWithout
   without-rowsInOrder names = revoke-rowsInOrder _ _ (suc i) (liveRows t) (dropped-spreads (suc i) (liveRows t) (live-named t) (o .rise) names) (All-of _ (λ c e. e) (liveRows t)) (o .rise)
 
-  next-rowsInOrder : (q : Request) → judge (viewOf t i) q ≡ 0 → rowsInOrder (suc (issuedAfter i q)) (rowsAfter i (liveRows t) q) ≡ true
+  next-rowsInOrder : (q : Request) → judge v q ≡ 0 → rowsInOrder (suc (issuedAfter i q)) (rowsAfter sheet i (liveRows t) q) ≡ true
   unfolding rowsAfter refusals
   next-rowsInOrder (Single (Create w s r)) h =
-      let left : List Cap = afterAccess Writing (suc i) s (liveRows t) in
+      let left : List Cap = afterAccess sheet Writing (suc i) s (liveRows t) in
       risen (suc (suc i)) (row (root i s) r 1) left (record { below-bound = omega arith; in-place = rowInOrder-root w s r h left; rest = used-rowsInOrder Writing (suc i) s })
-  next-rowsInOrder (Single (Borrow w u s r)) h =
-      risen (suc (suc i)) (row (child i u s) r (suc (lookup (u .0) (liveRows t) .depth))) (liveRows t) (record { below-bound = omega arith; in-place = rowInOrder-child w u s r h; rest = o .rise })
+  next-rowsInOrder (Single (Borrow w u s r kind)) h =
+      risen (suc (suc i)) (row (child i u s kind) r (suc (lookup (u .0) (liveRows t) .depth))) (liveRows t) (record { below-bound = omega arith; in-place = rowInOrder-child w u s r kind h; rest = o .rise })
   next-rowsInOrder (Single (Read u s)) h = used-rowsInOrder Reading (u .0) s
   next-rowsInOrder (Single (Write u s)) h = used-rowsInOrder Writing (u .0) s
   next-rowsInOrder (Single (Drop u)) h = without-rowsInOrder (u .0 ∷ [])
   next-rowsInOrder (Group names) h = without-rowsInOrder names
 
-  -- a table as long as t with rows that fit and rise
+  -- a table as long as this one with rows that fit and rise
   lent-inOrder : (rows : List Cap) (j : ℕ) → length rows ≤ length t → Named rows → leb j 1000000 ≡ true → rowsInOrder (suc j) rows ≡ true → inOrder (lentTable (length t) rows) j ≡ true
   unfolding inOrder
   lent-inOrder rows j l n b h = rw (length-lent (length t) rows l, o .few, liveRowsFirst-lent (length t) rows n, b, live-lent (length t) rows n) h
 
-  order-next : (q : Request) → judge (viewOf t i) q ≡ 0 → inOrder (lentTable (length t) (rowsAfter i (liveRows t) q)) (issuedAfter i q) ≡ true
-  order-next q h = lent-inOrder (rowsAfter i (liveRows t) q) (issuedAfter i q) (next-fits t i q h) (next-named q) (names-enough q h) (next-rowsInOrder q h)
+  order-next : (q : Request) → judge v q ≡ 0 → inOrder (lentTable (length t) (rowsAfter sheet i (liveRows t) q)) (issuedAfter i q) ≡ true
+  order-next q h = lent-inOrder (rowsAfter sheet i (liveRows t) q) (issuedAfter i q) (next-fits sheet v q h) (next-named q) (names-enough q h) (next-rowsInOrder q h)
 
   -- an access through any name leaves a table in order; so does the half of a create that takes rows away
-  pub access-inOrder : (a : Access) (u : ℕ) (s : Span) → inOrder (lentTable (length t) (afterAccess a u s (liveRows t))) i ≡ true
+  pub access-inOrder : (a : Access) (u : ℕ) (s : Span) → inOrder (lentTable (length t) (afterAccess sheet a u s (liveRows t))) i ≡ true
   access-inOrder a u s =
-      lent-inOrder (afterAccess a u s (liveRows t)) i (omega (arith, access-fits a u s (liveRows t), length-live t)) (access-named (liveRows t) (live-named t) a u s) (o .names-left) (used-rowsInOrder a u s)
+      lent-inOrder (afterAccess sheet a u s (liveRows t)) i (omega (arith, access-fits sheet a u s (liveRows t), length-live t)) (access-named sheet (liveRows t) (live-named t) a u s) (o .names-left) (used-rowsInOrder a u s)
 
-order-outcome : (h : State) (q : Request) (j : ℕ) → judge (viewOf (h .table) (h .tally .issued)) q ≡ j → inOrder (h .table) (h .tally .issued) ≡ true
-    → inOrder (Step.outcome j h q .table) (Step.outcome j h q .tally .issued) ≡ true
-order-outcome h q zero z o =
-    rw (counted-issued q (h .tally)) (order-next (h .table) (h .tally .issued) (ordered (h .table) (h .tally .issued) o) q z)
-order-outcome h q (suc zero) z o = o
-order-outcome h q (suc (suc j)) z o = o
+order-outcome : (sheet : Sheet) (h : State) (q : Request) (j : ℕ) → judge (view h) q ≡ j → inOrder (h .table) (h .tally .issued) ≡ true
+    → inOrder (Step.outcome sheet j h q .table) (Step.outcome sheet j h q .tally .issued) ≡ true
+order-outcome sheet h q zero z o =
+    rw (counted-issued q (h .tally)) (order-next sheet (view h) (ordered (h .table) (h .tally .issued) o) q z)
+order-outcome sheet h q (suc zero) z o = o
+order-outcome sheet h q (suc (suc j)) z o = o
 
 -- A table in order is in order after every request.
-pub order-after : (h : State) (q : Request) → inOrder (h .table) (h .tally .issued) ≡ true → inOrder (Step.after h q .table) (Step.after h q .tally .issued) ≡ true
+pub order-after : (sheet : Sheet) (h : State) (q : Request) → inOrder (h .table) (h .tally .issued) ≡ true → inOrder (Step.after sheet h q .table) (Step.after sheet h q .tally .issued) ≡ true
 unfolding Step.after
-order-after h q = order-outcome h q (judge (viewOf (h .table) (h .tally .issued)) q) refl
+order-after sheet h q = order-outcome sheet h q (judge (view h) q) refl
 
-pub order-final : (qs : List Request) (h : State) → inOrder (h .table) (h .tally .issued) ≡ true → inOrder (final Step.after h qs .table) (final Step.after h qs .tally .issued) ≡ true
-order-final [] h o = o
-order-final (q ∷ qs) h o = order-final qs (Step.after h q) (order-after h q o)
+pub order-final : (sheet : Sheet) (qs : List Request) (h : State) → inOrder (h .table) (h .tally .issued) ≡ true → inOrder (final (Step.after sheet) h qs .table) (final (Step.after sheet) h qs .tally .issued) ≡ true
+order-final sheet [] h o = o
+order-final sheet (q ∷ qs) h o = order-final sheet qs (Step.after sheet h q) (order-after sheet h q o)
 
 -- Zero rows are in order, up to 1,024 of them.
 pub order-fresh : (n : ℕ) (t : Tally) → n ≤ 1024 → t .issued ≡ 0 → inOrder (Step.initial n t .table) (t .issued) ≡ true

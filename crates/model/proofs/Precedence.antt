@@ -17,7 +17,7 @@ use Rattle.model.specs.declared.Event.the-variants.{Create, Borrow, Read
 use Rattle.model.specs.Lists.{filter, any, all, first}
 use Rattle.model.specs.Requests.{Request, Single, Group}
 use Rattle.model.specs.Table.{liveRows}
-use Rattle.model.specs.Refusals.{viewOf, disordered, misgrouped, standing, standings, precedence, place, refusals, judge}
+use Rattle.model.specs.Refusals.{View, disordered, misgrouped, standing, standings, precedence, place, refusals, judge}
 use Rattle.model.proofs.Lists.{listed, first-none, test, clash, and-both, all-append}
 
 -- ---- checks whose places rise, from above a bound
@@ -129,13 +129,13 @@ first-lowest-repeated cs ds j rises some again l = listed-append cs ds j (go (fi
 
 -- ---- the refusals of a request
 
-rising : (t : List Cap) (i : ℕ) (e : Event) → risesFrom 0 (refusals (viewOf t i) (Single e)) ≡ true
+rising : (v : View) (e : Event) → risesFrom 0 (refusals v (Single e)) ≡ true
 unfolding refusals
-rising t i (Create w s r) = refl
-rising t i (Borrow w u s r) = refl
-rising t i (Read u s) = refl
-rising t i (Write u s) = refl
-rising t i (Drop u) = refl
+rising v (Create w s r) = refl
+rising v (Borrow w u s r kind) = refl
+rising v (Read u s) = refl
+rising v (Write u s) = refl
+rising v (Drop u) = refl
 
 -- the checks of the later names of a group repeat the numbers of the first one's
 standings-repeat : (cs : List (ℕ × Bool)) (rows : List Cap) (i : ℕ) (names : List ℕ) → ((u : Name) → all (λ d. isNumber cs (d .0)) (standing rows i u) ≡ true)
@@ -149,23 +149,23 @@ standings-repeat cs rows i (u ∷ names) h =
 
 -- A refusal's condition holds: of an event the one that is listed under its number, of a group some one, since 4 and 5 are listed once for
 -- each name.
-pub given-holds : (t : List Cap) (i : ℕ) (e : Event) (k : ℕ) → judge (viewOf t i) (Single e) ≡ suc k → listed (suc k) (refusals (viewOf t i) (Single e)) ≡ true
+pub given-holds : (v : View) (e : Event) (k : ℕ) → judge v (Single e) ≡ suc k → listed (suc k) (refusals v (Single e)) ≡ true
 unfolding judge
-given-holds t i e k h = first-holds (refusals (viewOf t i) (Single e)) 0 k (rising t i e) h
+given-holds v e k h = first-holds (refusals v (Single e)) 0 k (rising v e) h
 
-pub given-some : (t : List Cap) (i : ℕ) (q : Request) (k : ℕ) → judge (viewOf t i) q ≡ suc k → any (λ c. eqb (suc k) (c .0) && c .1) (refusals (viewOf t i) q) ≡ true
+pub given-some : (v : View) (q : Request) (k : ℕ) → judge v q ≡ suc k → any (λ c. eqb (suc k) (c .0) && c .1) (refusals v q) ≡ true
 unfolding judge
-given-some t i q k h = first-some (refusals (viewOf t i) q) k h
+given-some v q k h = first-some (refusals v q) k h
 
 -- No condition that comes before it holds, of 4 and 5 of a group that of the first name; none at all where the request is allowed, since
 -- 0 comes after all.
-pub given-first : (t : List Cap) (i : ℕ) (q : Request) (j : ℕ) → place j < place (judge (viewOf t i) q) → listed j (refusals (viewOf t i) q) ≡ false
+pub given-first : (v : View) (q : Request) (j : ℕ) → place j < place (judge v q) → listed j (refusals v q) ≡ false
 unfolding judge refusals standings
-given-first t i (Single e) j l = first-lowest (refusals (viewOf t i) (Single e)) 0 j (rising t i e) l
-given-first t i (Group []) j l = first-lowest (refusals (viewOf t i) (Group [])) 0 j refl l
-given-first t i (Group (u ∷ names)) j l =
-    let front : List (ℕ × Bool) = (1, disordered t i) ∷ (13, misgrouped (u ∷ names)) ∷ standing (liveRows t) i (record { 0 = u }) in
-    first-lowest-repeated front (standings (liveRows t) i names) j refl refl (standings-repeat front (liveRows t) i names (λ v. refl)) l
+given-first v (Single e) j l = first-lowest (refusals v (Single e)) 0 j (rising v e) l
+given-first v (Group []) j l = first-lowest (refusals v (Group [])) 0 j refl l
+given-first v (Group (u ∷ names)) j l =
+    let front : List (ℕ × Bool) = (1, disordered (v .table) (v .issued)) ∷ (13, misgrouped (u ∷ names)) ∷ standing (liveRows (v .table)) (v .issued) (record { 0 = u }) in
+    first-lowest-repeated front (standings (liveRows (v .table)) (v .issued) names) j refl refl (standings-repeat front (liveRows (v .table)) (v .issued) names (λ u. refl)) l
 
 -- ---- the order of precedence, worded again
 

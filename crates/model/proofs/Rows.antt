@@ -14,12 +14,14 @@ use native.Mathlib.Nat.{suc-sub-suc, sub-zero, not-suc-le-zero, le-of-suc-le-suc
 use borrow.Author.Tests.{eqb-true}
 use Rattle.model.specs.declared.Span.{Span}
 use Rattle.model.specs.declared.Cap.{Cap}
+use Rattle.model.specs.declared.Effect.{Effect}
+use Rattle.model.specs.declared.Sheet.{Sheet}
 use Rattle.model.specs.Lists.{consIf, filter, any, all}
 use Rattle.model.specs.declared.Access.{Access}
 use Rattle.model.specs.Derivation.{ancestry, inSubtree, onAncestry}
-use Rattle.model.specs.Strike.{Effect, strike, reached, struck}
+use Rattle.model.specs.Strike.{strike, reached, struck}
 use Rattle.model.specs.Table.{emptyRow, lookup, derivation, derivations, named, liveRows, lentTable, isEmptyRow, liveRowsFirst, rowsInOrder}
-use Rattle.model.proofs.Lists.{All, All-map, All-reverse, test, and-both, filter-none, filter-reverse}
+use Rattle.model.proofs.Lists.{All, All-map, All-reverse, test, and-both, filter-none, filter-reverse, map-reverse}
 use Rattle.model.proofs.Ancestries.{same, below-differs, ancestry-zero, ancestry-above}
 use Rattle.model.proofs.Lent.{Named}
 use Rattle.model.proofs.Order.{rises, steps, rowsInOrder-falling}
@@ -39,10 +41,6 @@ pub lent-left : (n : ℕ) (p : Cap → Bool) (rows : List Cap) → lentTable n (
 unfolding lentTable
 lent-left n p rows = ap (λ l. l ++ replicate (n - length (filter p rows)) emptyRow) (sym (filter-reverse p rows))
 
-map-reverse : {A B : Type 0} (f : A → B) (l : List A) → map f (reverse l) ≡ reverse (map f l)
-map-reverse f [] = refl
-map-reverse f (x ∷ l) = rw (reverse-cons x l, map-append f (reverse l) (x ∷ []), map-reverse f l) (sym (reverse-cons (f x) (map f l)))
-
 -- rows that are changed stay in their places
 pub lent-changed : (n : ℕ) (f : Cap → Cap) (rows : List Cap) → lentTable n (map f rows) ≡ map f (reverse rows) ++ replicate (n - length rows) emptyRow
 unfolding lentTable
@@ -51,7 +49,8 @@ lent-changed n f rows = rw (length-map, ← map-reverse f rows)
 pub emptyRow-empty : (c : Cap) → isEmptyRow c ≡ true → c ≡ emptyRow
 unfolding isEmptyRow
 emptyRow-empty c h =
-    let p = and-both (eqb (c .name .0) 0 && eqb (c .parent .0) 0 && eqb (c .start .0) 0 && eqb (c .length) 0 && eqb (c .right) 0) (eqb (c .depth) 0) h in
+    let o = and-both (eqb (c .name .0) 0 && eqb (c .parent .0) 0 && eqb (c .start .0) 0 && eqb (c .length) 0 && eqb (c .right) 0 && eqb (c .depth) 0) (eqb (c .kind) 0) h in
+    let p = and-both (eqb (c .name .0) 0 && eqb (c .parent .0) 0 && eqb (c .start .0) 0 && eqb (c .length) 0 && eqb (c .right) 0) (eqb (c .depth) 0) (o .0) in
     let q = and-both (eqb (c .name .0) 0 && eqb (c .parent .0) 0 && eqb (c .start .0) 0 && eqb (c .length) 0) (eqb (c .right) 0) (p .0) in
     let r = and-both (eqb (c .name .0) 0 && eqb (c .parent .0) 0 && eqb (c .start .0) 0) (eqb (c .length) 0) (q .0) in
     let s = and-both (eqb (c .name .0) 0 && eqb (c .parent .0) 0) (eqb (c .start .0) 0) (r .0) in
@@ -63,6 +62,7 @@ emptyRow-empty c h =
       length = eqb-true (c .length) 0 (r .1) k;
       right = eqb-true (c .right) 0 (q .1) k;
       depth = eqb-true (c .depth) 0 (p .1) k;
+      kind = eqb-true (c .kind) 0 (o .1) k;
     }
 
 blanks : (t : List Cap) → all isEmptyRow t ≡ true → replicate (length t) emptyRow ≡ t
@@ -140,10 +140,10 @@ found-each (c ∷ rows) = (rw (same (c .name .0)), All-map _ _ (λ d e. rw e (or
 
 module _ (bound : ℕ) (rows : List Cap) (n : Named rows) (h : rowsInOrder bound rows ≡ true) where
   -- a row is struck by itself, or its parent is
-  pub struck-step : (is : Effect → Bool) (a : Access) (u : ℕ) (s : Span)
-      → All (λ c. struck is a (derivations rows) u s (c .name .0) ≡ is (strike a s (ancestry (derivations rows) u) (derivation c ∷ ancestry (derivations rows) (c .parent .0))) || struck is a (derivations rows) u s (c .parent .0)) rows
+  pub struck-step : (sheet : Sheet) (is : Effect → Bool) (a : Access) (u : ℕ) (s : Span)
+      → All (λ c. struck sheet is a (derivations rows) u s (c .name .0) ≡ is (strike sheet a s (ancestry (derivations rows) u) (derivation c ∷ ancestry (derivations rows) (c .parent .0))) || struck sheet is a (derivations rows) u s (c .parent .0)) rows
   unfolding struck reached onAncestry
-  struck-step is a u s = All-map _ _ (λ c e. rw e) rows (steps bound rows n h)
+  struck-step sheet is a u s = All-map _ _ (λ c e. rw e) rows (steps bound rows n h)
 
   -- a row is in the subtree of a when it is a, or its parent is
   pub below-step : (a : ℕ) → All (λ c. inSubtree a (ancestry (derivations rows) (c .name .0)) ≡ eqb a (c .name .0) || inSubtree a (ancestry (derivations rows) (c .parent .0))) rows

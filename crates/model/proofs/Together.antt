@@ -1,6 +1,6 @@
 -- Card 5, "frames dropped together": how a group is judged, and that it leaves what single drops in falling order of name leave.
 -- Assumes nothing.
-use mathlib.Core.Path.{_≡_, refl, sym, ap, ap₂, _∙_}
+use mathlib.Core.Path.{_≡_, refl, sym, ap, _∙_}
 use mathlib.Core.Bool.{Bool, true, false, not, cond, _&&_, _||_, or-true, or-false}
 use mathlib.Core.List.{List, [], _∷_, _++_, map, map-append, reverse, reverse-cons}
 use Prim.Native.Nat.{ℕ, zero, suc, _<_, _≤_}
@@ -10,13 +10,14 @@ use lib.ListN.{length}
 use borrow.Author.Tests.{eqb-true, eq-eqb, ne-eqb, not-true, not-false}
 use Rattle.model.specs.declared.Cap.{Cap}
 use Rattle.model.specs.declared.Event.the-variants.{Drop}
+use Rattle.model.specs.declared.Sheet.{Sheet}
 use Rattle.model.specs.Lists.{filter, any, all, first, final, answers}
 use Rattle.model.specs.Requests.{Request, Single, Group, risesAbove, risesStrictly, isGroup, singleDrops}
 use Rattle.model.specs.Derivation.{ancestry, inSubtree}
 use Rattle.model.specs.Table.{derivation, derivations, named, liveRows, lentTable, rowsInOrder, inOrder}
-use Rattle.model.specs.Refusals.{viewOf, standing, standings, refusals, judge}
+use Rattle.model.specs.Refusals.{View, standing, standings, refusals, judge}
 use Rattle.model.specs.Effects.{revoke, inSubtrees, rowsWithout, rowsAfter}
-use Rattle.model.specs.Step.{State, isAllowed, answer, outcome, after}
+use Rattle.model.specs.Step.{State, view, isAllowed, answer, outcome, after}
 use Rattle.model.specs.History.{History, Dropped, notesOf}
 use Rattle.model.specs.History
 use Rattle.model.proofs.Lists.{All, All-map, All-of, All-sub, and-both, or-neither, and-neither, any-false, any-kept, passes, filter-cong, filter-filter, filter-map, filter-all, length-filter, map-id, all-append, final-append, answers-append}
@@ -30,13 +31,13 @@ use Rattle.model.proofs.Match.{Match, same-judge, run}
 -- ---- the number given
 
 -- 1 comes before all, and 13 next.
-pub disordered-first : (t : List Cap) (issued : ℕ) (names : List ℕ) → inOrder t issued ≡ false → judge (viewOf t issued) (Group names) ≡ 1
+pub disordered-first : (v : View) (names : List ℕ) → inOrder (v .table) (v .issued) ≡ false → judge v (Group names) ≡ 1
 unfolding judge refusals
-disordered-first t issued names d = rw d
+disordered-first v names d = rw d
 
-pub misgrouped-next : (t : List Cap) (issued : ℕ) (names : List ℕ) → inOrder t issued ≡ true → isGroup names ≡ false → judge (viewOf t issued) (Group names) ≡ 13
+pub misgrouped-next : (v : View) (names : List ℕ) → inOrder (v .table) (v .issued) ≡ true → isGroup names ≡ false → judge v (Group names) ≡ 13
 unfolding judge refusals
-misgrouped-next t issued names o g = rw (o, g)
+misgrouped-next v names o g = rw (o, g)
 
 -- Then "the first name refused gives the number", each judged on the same table.
 caught : (unissued ended : Bool) (rest k : ℕ) → cond unissued 4 (cond ended 5 0) ≡ suc k → cond unissued 4 (cond ended 5 rest) ≡ suc k
@@ -82,17 +83,17 @@ module _ (rows : List Cap) (issued : ℕ) where
   all-passed (u ∷ names) a = name-passed u names (a .0) ∙ all-passed names (a .1)
 
 -- It is the number that a single drop of that name gets on the same table.
-pub first-refused : (t : List Cap) (issued : ℕ) (before : List ℕ) (x : ℕ) (later : List ℕ) (k : ℕ) → inOrder t issued ≡ true → isGroup (before ++ (x ∷ later)) ≡ true
-    → All (λ u. judge (viewOf t issued) (Single (Drop (record { 0 = u }))) ≡ 0) before → judge (viewOf t issued) (Single (Drop (record { 0 = x }))) ≡ suc k → judge (viewOf t issued) (Group (before ++ (x ∷ later))) ≡ suc k
+pub first-refused : (v : View) (before : List ℕ) (x : ℕ) (later : List ℕ) (k : ℕ) → inOrder (v .table) (v .issued) ≡ true → isGroup (before ++ (x ∷ later)) ≡ true
+    → All (λ u. judge v (Single (Drop (record { 0 = u }))) ≡ 0) before → judge v (Single (Drop (record { 0 = x }))) ≡ suc k → judge v (Group (before ++ (x ∷ later))) ≡ suc k
 unfolding judge refusals
-first-refused t issued before x later k o g a z =
-    rw (o, g) (in-turn (liveRows t) issued before x later k (All-map _ _ (λ u e. rw o at e) before a) (rw o at z))
+first-refused v before x later k o g a z =
+    rw (o, g) (in-turn (liveRows (v .table)) (v .issued) before x later k (All-map _ _ (λ u e. rw o at e) before a) (rw o at z))
 
 -- Where none is refused, the group is allowed.
-pub none-refused : (t : List Cap) (issued : ℕ) (names : List ℕ) → inOrder t issued ≡ true → isGroup names ≡ true → All (λ u. judge (viewOf t issued) (Single (Drop (record { 0 = u }))) ≡ 0) names
-    → judge (viewOf t issued) (Group names) ≡ 0
+pub none-refused : (v : View) (names : List ℕ) → inOrder (v .table) (v .issued) ≡ true → isGroup names ≡ true → All (λ u. judge v (Single (Drop (record { 0 = u }))) ≡ 0) names
+    → judge v (Group names) ≡ 0
 unfolding judge refusals
-none-refused t issued names o g a = rw (o, g) (all-passed (liveRows t) issued names (All-map _ _ (λ u e. rw o at e) names a))
+none-refused v names o g a = rw (o, g) (all-passed (liveRows (v .table)) (v .issued) names (All-map _ _ (λ u e. rw o at e) names a))
 
 -- ---- rows in order without some names
 
@@ -167,148 +168,149 @@ module _ (t : List Cap) (names : List ℕ) where
   without-fits : length (rowsWithout names (liveRows t)) ≤ length t
   without-fits = rw (without-left names (liveRows t)) (omega (arith, length-filter (λ c. not (inSubtrees names (ancestry (derivations (liveRows t)) (c .name .0)))) (liveRows t), length-live t))
 
--- what single drops in falling order leave, each of which is allowed in its turn
-pub record Singly (h : State) (names : List ℕ) : Type 0 where
-  pub each-allowed : all isAllowed (answers after answer h (singleDrops names)) ≡ true
-  pub table-left : final after h (singleDrops names) .table ≡ lentTable (length (h .table)) (rowsWithout names (liveRows (h .table)))
-  pub issued-left : final after h (singleDrops names) .tally .issued ≡ h .tally .issued
+module _ (sheet : Sheet) where
+  -- what single drops in falling order leave, each of which is allowed in its turn
+  pub record Singly (h : State) (names : List ℕ) : Type 0 where
+    pub each-allowed : all isAllowed (answers (after sheet) answer h (singleDrops names)) ≡ true
+    pub table-left : final (after sheet) h (singleDrops names) .table ≡ lentTable (length (h .table)) (rowsWithout names (liveRows (h .table)))
+    pub issued-left : final (after sheet) h (singleDrops names) .tally .issued ≡ h .tally .issued
 
-module _ (h : State) (o : inOrder (h .table) (h .tally .issued) ≡ true) where
-  abbrev rows : List Cap
-  rows = liveRows (h .table)
+  module _ (h : State) (o : inOrder (h .table) (h .tally .issued) ≡ true) where
+    abbrev rows : List Cap
+    rows = liveRows (h .table)
 
-  dropped-none : rowsWithout [] rows ≡ rows
-  dropped-none = without-left [] rows ∙ filter-all _ rows (All-of _ (λ c. refl) rows)
+    dropped-none : rowsWithout [] rows ≡ rows
+    dropped-none = without-left [] rows ∙ filter-all _ rows (All-of _ (λ c. refl) rows)
 
-  -- one more drop, of a smaller name
-  module _ (x : ℕ) (names : List ℕ) (below : All (λ u. x < u) names) (stands : Stands rows (h .tally .issued) x) (s : Singly h names) where
-    abbrev then : State
-    then = final after h (singleDrops names)
+    -- one more drop, of a smaller name
+    module _ (x : ℕ) (names : List ℕ) (below : All (λ u. x < u) names) (stands : Stands rows (h .tally .issued) x) (s : Singly h names) where
+      abbrev then : State
+      then = final (after sheet) h (singleDrops names)
 
-    drop-allowed : judge (viewOf (then .table) (then .tally .issued)) (Single (Drop (record { 0 = x }))) ≡ 0
-    unfolding judge refusals
-    drop-allowed =
-        rw (order-final (singleDrops names) h o, s .table-left, s .issued-left, live-lent (length (h .table)) (rowsWithout names rows) (without-named (h .table) names))
-        (rw (stands .0, smaller-stays (suc (h .tally .issued)) rows (live-named (h .table)) (ordered (h .table) (h .tally .issued) o .rise) names x below, stands .1))
+      drop-allowed : judge (view then) (Single (Drop (record { 0 = x }))) ≡ 0
+      unfolding judge refusals
+      drop-allowed =
+          rw (order-final sheet (singleDrops names) h o, s .table-left, s .issued-left, live-lent (length (h .table)) (rowsWithout names rows) (without-named (h .table) names))
+          (rw (stands .0, smaller-stays (suc (h .tally .issued)) rows (live-named (h .table)) (ordered (h .table) (h .tally .issued) o .rise) names x below, stands .1))
 
-    abbrev drop : List Request
-    drop = Single (Drop (record { 0 = x })) ∷ []
+      abbrev drop : List Request
+      drop = Single (Drop (record { 0 = x })) ∷ []
 
-    answer-allowed : isAllowed (answer then (Single (Drop (record { 0 = x })))) ≡ true
-    unfolding answer
-    answer-allowed = eq-eqb _ 0 drop-allowed
+      answer-allowed : isAllowed (answer then (Single (Drop (record { 0 = x })))) ≡ true
+      unfolding answer
+      answer-allowed = eq-eqb _ 0 drop-allowed
 
-    left-then : after then (Single (Drop (record { 0 = x }))) .table ≡ lentTable (length (h .table)) (rowsWithout (x ∷ names) rows)
-    unfolding after rowsAfter
-    left-then =
-        rw (
-          drop-allowed,
-          s .table-left,
-          length-lent (length (h .table)) (rowsWithout names rows) (without-fits (h .table) names),
-          live-lent (length (h .table)) (rowsWithout names rows) (without-named (h .table) names),
-        )
-        (ap (lentTable (length (h .table))) (without-more (suc (h .tally .issued)) rows (live-named (h .table)) (ordered (h .table) (h .tally .issued) o .rise) names x))
+      left-then : after sheet then (Single (Drop (record { 0 = x }))) .table ≡ lentTable (length (h .table)) (rowsWithout (x ∷ names) rows)
+      unfolding after rowsAfter
+      left-then =
+          rw (
+            drop-allowed,
+            s .table-left,
+            length-lent (length (h .table)) (rowsWithout names rows) (without-fits (h .table) names),
+            live-lent (length (h .table)) (rowsWithout names rows) (without-named (h .table) names),
+          )
+          (ap (lentTable (length (h .table))) (without-more (suc (h .tally .issued)) rows (live-named (h .table)) (ordered (h .table) (h .tally .issued) o .rise) names x))
 
-    issued-then : after then (Single (Drop (record { 0 = x }))) .tally .issued ≡ h .tally .issued
-    unfolding after
-    issued-then = rw drop-allowed (s .issued-left)
+      issued-then : after sheet then (Single (Drop (record { 0 = x }))) .tally .issued ≡ h .tally .issued
+      unfolding after
+      issued-then = rw drop-allowed (s .issued-left)
 
-    singly-more : Singly h (x ∷ names)
-    singly-more =
+      singly-more : Singly h (x ∷ names)
+      singly-more =
+          record {
+            each-allowed =
+                rw (singleDrops-cons x names, answers-append (after sheet) answer h (singleDrops names) drop, all-append isAllowed (answers (after sheet) answer h (singleDrops names)) (answers (after sheet) answer then drop), s .each-allowed)
+                (rw answer-allowed);
+            table-left = rw (singleDrops-cons x names, final-append (after sheet) h (singleDrops names) drop) left-then;
+            issued-left = rw (singleDrops-cons x names, final-append (after sheet) h (singleDrops names) drop) issued-then;
+          }
+
+    singly-rising : (names : List ℕ) → Rising names → All (Stands rows (h .tally .issued)) names → Singly h names
+    singly-rising [] r a =
         record {
-          each-allowed =
-              rw (singleDrops-cons x names, answers-append after answer h (singleDrops names) drop, all-append isAllowed (answers after answer h (singleDrops names)) (answers after answer then drop), s .each-allowed)
-              (rw answer-allowed);
-          table-left = rw (singleDrops-cons x names, final-append after h (singleDrops names) drop) left-then;
-          issued-left = rw (singleDrops-cons x names, final-append after h (singleDrops names) drop) issued-then;
+          each-allowed = refl;
+          table-left = sym (rw dropped-none (lent-live (h .table) (ordered (h .table) (h .tally .issued) o .rest-is-empty)));
+          issued-left = refl;
         }
+    singly-rising (x ∷ names) r a = singly-more x names (r .0) (a .0) (singly-rising names (r .1) (a .1))
 
-  singly-rising : (names : List ℕ) → Rising names → All (Stands rows (h .tally .issued)) names → Singly h names
-  singly-rising [] r a =
-      record {
-        each-allowed = refl;
-        table-left = sym (rw dropped-none (lent-live (h .table) (ordered (h .table) (h .tally .issued) o .rest-is-empty)));
-        issued-left = refl;
-      }
-  singly-rising (x ∷ names) r a = singly-more x names (r .0) (a .0) (singly-rising names (r .1) (a .1))
+  -- Single drops in falling order of name, where the group is allowed: "Allowed, it leaves the table .. that single drops in falling order of
+  -- name leave".
+  module _ (h : State) (names : List ℕ) (a : isAllowed (answer h (Group names)) ≡ true) where
+    group-judged : judge (view h) (Group names) ≡ 0
+    unfolding answer
+    group-judged = eqb-true _ 0 a
 
--- Single drops in falling order of name, where the group is allowed: "Allowed, it leaves the table .. that single drops in falling order of
--- name leave".
-module _ (h : State) (names : List ℕ) (a : isAllowed (answer h (Group names)) ≡ true) where
-  group-judged : judge (viewOf (h .table) (h .tally .issued)) (Group names) ≡ 0
-  unfolding answer
-  group-judged = eqb-true _ 0 a
+    pub group-singly : Singly h names
+    unfolding refusals
+    group-singly =
+        singly-rising h (not-false (inOrder (h .table) (h .tally .issued)) (allowed (view h) (Group names) group-judged 1)) names
+        (group-rises (view h) names group-judged)
+        (group-stands (view h) names group-judged)
 
-  pub group-singly : Singly h names
-  unfolding refusals
-  group-singly =
-      singly-rising h (not-false (inOrder (h .table) (h .tally .issued)) (allowed (h .table) (h .tally .issued) (Group names) group-judged 1)) names
-      (group-rises (h .table) (h .tally .issued) names group-judged)
-      (group-stands (h .table) (h .tally .issued) names group-judged)
+    pub group-table : after sheet h (Group names) .table ≡ final (after sheet) h (singleDrops names) .table
+    unfolding after rowsAfter
+    group-table = rw group-judged (sym (group-singly .table-left))
 
-  pub group-table : after h (Group names) .table ≡ final after h (singleDrops names) .table
-  unfolding after rowsAfter
-  group-table = rw group-judged (sym (group-singly .table-left))
+  -- ---- the notes of single drops
 
--- ---- the notes of single drops
+  one-noted : (n : ℕ) (K : History) (x : ℕ) → isAllowed (History.answer sheet n K (Single (Drop (record { 0 = x })))) ≡ true
+      → History.after sheet n K (Single (Drop (record { 0 = x }))) ≡ record { notes = Dropped x ∷ K .notes; count = K .count }
+  unfolding History.after History.answer notesOf
+  one-noted n K x a = rw (eqb-true (judge (History.view sheet n (K .notes) (K .count)) (Single (Drop (record { 0 = x })))) 0 a)
 
-one-noted : (n : ℕ) (K : History) (x : ℕ) → isAllowed (History.answer n K (Single (Drop (record { 0 = x })))) ≡ true
-    → History.after n K (Single (Drop (record { 0 = x }))) ≡ record { notes = Dropped x ∷ K .notes; count = K .count }
-unfolding History.after History.answer notesOf
-one-noted n K x a = rw (eqb-true (judge (viewOf (History.table n (K .notes)) (K .count)) (Single (Drop (record { 0 = x })))) 0 a)
+  -- single drops that the history allows add their notes, the smallest name's last
+  drops-noted : (n : ℕ) (H : History) (names : List ℕ) → all isAllowed (answers (History.after sheet n) (History.answer sheet n) H (singleDrops names)) ≡ true
+      → final (History.after sheet n) H (singleDrops names) ≡ record { notes = map Dropped names ++ H .notes; count = H .count }
+  drops-noted n H [] a = refl
+  drops-noted n H (x ∷ names) a =
+      rw (singleDrops-cons x names, final-append (History.after sheet n) H (singleDrops names) drop)
+      (noted-last then (p .1) ∙ ap {B = History} (λ K. record { notes = Dropped x ∷ K .notes; count = K .count }) (drops-noted n H names (p .0)))
+    where
+      drop : List Request
+      drop = Single (Drop (record { 0 = x })) ∷ []
 
--- single drops that the history allows add their notes, the smallest name's last
-drops-noted : (n : ℕ) (H : History) (names : List ℕ) → all isAllowed (answers (History.after n) (History.answer n) H (singleDrops names)) ≡ true
-    → final (History.after n) H (singleDrops names) ≡ record { notes = map Dropped names ++ H .notes; count = H .count }
-drops-noted n H [] a = refl
-drops-noted n H (x ∷ names) a =
-    rw (singleDrops-cons x names, final-append (History.after n) H (singleDrops names) drop)
-    (noted-last then (p .1) ∙ ap {B = History} (λ K. record { notes = Dropped x ∷ K .notes; count = K .count }) (drops-noted n H names (p .0)))
-  where
-    drop : List Request
-    drop = Single (Drop (record { 0 = x })) ∷ []
+      then : History
+      then = final (History.after sheet n) H (singleDrops names)
 
-    then : History
-    then = final (History.after n) H (singleDrops names)
+      p : (all isAllowed (answers (History.after sheet n) (History.answer sheet n) H (singleDrops names)) ≡ true) × (all isAllowed (answers (History.after sheet n) (History.answer sheet n) then drop) ≡ true)
+      p =
+          and-both (all isAllowed (answers (History.after sheet n) (History.answer sheet n) H (singleDrops names))) (all isAllowed (answers (History.after sheet n) (History.answer sheet n) then drop))
+          (rw (singleDrops-cons x names, answers-append (History.after sheet n) (History.answer sheet n) H (singleDrops names) drop, all-append isAllowed (answers (History.after sheet n) (History.answer sheet n) H (singleDrops names)) (answers (History.after sheet n) (History.answer sheet n) then drop)) at a)
 
-    p : (all isAllowed (answers (History.after n) (History.answer n) H (singleDrops names)) ≡ true) × (all isAllowed (answers (History.after n) (History.answer n) then drop) ≡ true)
-    p =
-        and-both (all isAllowed (answers (History.after n) (History.answer n) H (singleDrops names))) (all isAllowed (answers (History.after n) (History.answer n) then drop))
-        (rw (singleDrops-cons x names, answers-append (History.after n) (History.answer n) H (singleDrops names) drop, all-append isAllowed (answers (History.after n) (History.answer n) H (singleDrops names)) (answers (History.after n) (History.answer n) then drop)) at a)
+      noted-last : (K : History) → isAllowed (History.answer sheet n K (Single (Drop (record { 0 = x })))) && true ≡ true
+          → History.after sheet n K (Single (Drop (record { 0 = x }))) ≡ record { notes = Dropped x ∷ K .notes; count = K .count }
+      noted-last K h = one-noted n K x (and-both (isAllowed (History.answer sheet n K (Single (Drop (record { 0 = x }))))) true h .0)
 
-    noted-last : (K : History) → isAllowed (History.answer n K (Single (Drop (record { 0 = x })))) && true ≡ true
-        → History.after n K (Single (Drop (record { 0 = x }))) ≡ record { notes = Dropped x ∷ K .notes; count = K .count }
-    noted-last K h = one-noted n K x (and-both (isAllowed (History.answer n K (Single (Drop (record { 0 = x }))))) true h .0)
-
--- "in the history the notes, that single drops in falling order of name leave"
-pub group-history : (n : ℕ) (h : State) (H : History) → Match n h H → (names : List ℕ) → isAllowed (answer h (Group names)) ≡ true
-    → History.after n H (Group names) ≡ final (History.after n) H (singleDrops names)
-unfolding History.after notesOf
-group-history n h H m names a =
-    rw (sym (same-judge n h H m (Group names)) ∙ group-judged h names a)
-    (sym (drops-noted n H names (ap (all isAllowed) (sym (run n (singleDrops names) h H m .0)) ∙ group-singly h names a .each-allowed)))
+  -- "in the history the notes, that single drops in falling order of name leave"
+  pub group-history : (n : ℕ) (h : State) (H : History) → Match sheet n h H → (names : List ℕ) → isAllowed (answer h (Group names)) ≡ true
+      → History.after sheet n H (Group names) ≡ final (History.after sheet n) H (singleDrops names)
+  unfolding History.after notesOf
+  group-history n h H m names a =
+      rw (sym (same-judge sheet n h H m (Group names)) ∙ group-judged h names a)
+      (sym (drops-noted n H names (ap (all isAllowed) (sym (run sheet n (singleDrops names) h H m .0)) ∙ group-singly h names a .each-allowed)))
 
 -- ---- one name
 
 -- One name is the old drop: the same number, answer, table and tally, and in the history the same note.
-module _ (x : ℕ) where
-  one-judged : (t : List Cap) (issued : ℕ) → judge (viewOf t issued) (Group (x ∷ [])) ≡ judge (viewOf t issued) (Single (Drop (record { 0 = x })))
+module _ (sheet : Sheet) (x : ℕ) where
+  one-judged : (v : View) → judge v (Group (x ∷ [])) ≡ judge v (Single (Drop (record { 0 = x })))
   unfolding standings isGroup risesStrictly risesAbove judge refusals
-  one-judged t issued = refl
+  one-judged v = refl
 
   pub one-answer : (h : State) → answer h (Group (x ∷ [])) ≡ answer h (Single (Drop (record { 0 = x })))
   unfolding answer
-  one-answer h = rw (one-judged (h .table) (h .tally .issued))
+  one-answer h = rw (one-judged (view h))
 
-  one-outcome : (j : ℕ) (h : State) → outcome j h (Group (x ∷ [])) ≡ outcome j h (Single (Drop (record { 0 = x })))
+  one-outcome : (j : ℕ) (h : State) → outcome sheet j h (Group (x ∷ [])) ≡ outcome sheet j h (Single (Drop (record { 0 = x })))
   unfolding rowsAfter
   one-outcome zero h = refl
   one-outcome (suc zero) h = refl
   one-outcome (suc (suc j)) h = refl
 
-  pub one-after : (h : State) → after h (Group (x ∷ [])) ≡ after h (Single (Drop (record { 0 = x })))
+  pub one-after : (h : State) → after sheet h (Group (x ∷ [])) ≡ after sheet h (Single (Drop (record { 0 = x })))
   unfolding after
-  one-after h = rw (one-judged (h .table) (h .tally .issued)) (one-outcome (judge (viewOf (h .table) (h .tally .issued)) (Single (Drop (record { 0 = x })))) h)
+  one-after h = rw (one-judged (view h)) (one-outcome (judge (view h) (Single (Drop (record { 0 = x })))) h)
 
   pub one-noted-same : (count : ℕ) → notesOf count (Group (x ∷ [])) ≡ notesOf count (Single (Drop (record { 0 = x })))
   unfolding notesOf

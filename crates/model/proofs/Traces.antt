@@ -4,14 +4,14 @@ use mathlib.Core.Path.{_≡_, refl}
 use mathlib.Core.Bool.{true}
 use Rattle.model.specs.Lists.{all}
 use Rattle.model.specs.Derivation.{ancestry, onAncestry}
-use Rattle.model.specs.Strike.{strike, reached, struck}
+use Rattle.model.specs.Strike.{origin, strike, reached, struck}
 use Rattle.model.specs.Table.{liveRows, lentTable, lookup, isEmptyRow, liveRowsFirst, rowFitsParent, parentInOrder, rowInOrder, rowsInOrder, inOrder}
 use Rattle.model.specs.Refusals.{standings, refusals, judge}
 use Rattle.model.specs.Effects.{revoke, afterAccess, rowsWithout, rowsAfter}
 use Rattle.model.specs.Step.{answer, after}
 use Rattle.model.specs.Requests.{risesAbove, risesStrictly, isGroup}
-use Rattle.model.specs.Traces.{traces, starred, refused, written, empty, reused, together, printed, holds}
+use Rattle.model.specs.Traces.{traces, starred, refused, written, empty, reused, together, kinds, inRust, sheets, printed, holds}
 
 pub traces-hold : all holds traces ≡ true
-unfolding traces starred refused written empty reused together printed holds ancestry strike onAncestry reached struck liveRows lentTable lookup isEmptyRow liveRowsFirst rowFitsParent parentInOrder rowInOrder rowsInOrder inOrder refusals judge revoke afterAccess rowsAfter answer after risesAbove risesStrictly isGroup standings rowsWithout
+unfolding traces starred refused written empty reused together kinds inRust sheets printed holds ancestry origin strike onAncestry reached struck liveRows lentTable lookup isEmptyRow liveRowsFirst rowFitsParent parentInOrder rowInOrder rowsInOrder inOrder refusals judge revoke afterAccess rowsAfter answer after risesAbove risesStrictly isGroup standings rowsWithout
 traces-hold = refl

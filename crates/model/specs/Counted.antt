@@ -6,6 +6,7 @@ use mathlib.Core.List.{List, [], _∷_}
 use lib.Dec.{leb, eqb}
 use Rattle.model.specs.declared.Tally.{Tally}
 use Rattle.model.specs.declared.Event.the-variants.{Create, Borrow, Read, Write, Drop}
+use Rattle.model.specs.declared.Sheet.{Sheet}
 use Rattle.model.specs.Requests.{Request, Single, Group}
 use Rattle.model.specs.Step.{Verdict, State, isAllowed, answer, after}
 
@@ -30,7 +31,7 @@ countIn Refusals t = t .refused
 -- the kind of a request; names dropped together are of the kind of a drop
 abbrev pub kindOf : Request → Counter
 kindOf (Single (Create w s r)) = Creates
-kindOf (Single (Borrow w u s r)) = Borrows
+kindOf (Single (Borrow w u s r kind)) = Borrows
 kindOf (Single (Read u s)) = Reads
 kindOf (Single (Write u s)) = Writes
 kindOf (Single (Drop u)) = Drops
@@ -62,6 +63,6 @@ abbrev pub countsFor : Counter → Request → Verdict → Bool
 countsFor c q v = countsAs c (kindOf q) v
 
 -- how many requests of the list count; card 5: a group "counts once"
-unfoldable pub howMany : Counter → State → List Request → ℕ
-howMany c h [] = 0
-howMany c h (q ∷ qs) = cond (countsFor c q (answer h q)) 1 0 + howMany c (after h q) qs
+unfoldable pub howMany : Sheet → Counter → State → List Request → ℕ
+howMany sheet c h [] = 0
+howMany sheet c h (q ∷ qs) = cond (countsFor c q (answer h q)) 1 0 + howMany sheet c (after sheet h q) qs

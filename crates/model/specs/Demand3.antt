@@ -7,6 +7,7 @@ use mathlib.Core.List.{List, _++_}
 use Rattle.model.specs.declared.Name.{Name}
 use Rattle.model.specs.declared.Span.{Span}
 use Rattle.model.specs.declared.Tally.{Tally}
+use Rattle.model.specs.declared.Sheet.{Sheet}
 use Rattle.model.specs.declared.Event.the-variants.{Read, Write}
 use Rattle.model.specs.Lists.{all, answers, final}
 use Rattle.model.specs.Requests.{Request, Single, Group, singleDrops}
@@ -15,29 +16,31 @@ use Rattle.model.specs.Step
 use Rattle.model.specs.History.{emptyHistory, historyAfter, notedName, notesOf, table, lives, livesRw, mayRead, mayWrite}
 use Rattle.model.specs.History
 
+-- Card 7: "For each complete sheet kept throughout, proved in general, the table and answers are those of the history and demand 3 read by
+-- that sheet".
 -- The list begins with n rows, all zeros, and a tally t whose issued number is 0. n and t's other counts may be anything.
-pub record Demand3 (n : ℕ) (t : Tally) (qs : List Request) : Type 0 where
+pub record Demand3 (sheet : Sheet) (n : ℕ) (t : Tally) (qs : List Request) : Type 0 where
   -- "Each event has had the history's answer, refusal number and name included"
-  pub same-answers : answers Step.after Step.answer (initial n t) qs ≡ answers (History.after n) (History.answer n) emptyHistory qs
+  pub same-answers : answers (Step.after sheet) Step.answer (initial n t) qs ≡ answers (History.after sheet n) (History.answer sheet n) emptyHistory qs
   -- "After every list the lent table equals it, and the issued number equals the count of names."
-  pub same-table : stateAfter n t qs .table ≡ table n (historyAfter n qs .notes)
-  pub same-issued : stateAfter n t qs .tally .issued ≡ historyAfter n qs .count
+  pub same-table : stateAfter sheet n t qs .table ≡ table sheet n (historyAfter sheet n qs .notes)
+  pub same-issued : stateAfter sheet n t qs .tally .issued ≡ historyAfter sheet n qs .count
   -- "an allowed create or borrow has the name noted for it", and the others have name 0
-  pub noted-names : (q : Request) → isAllowed (Step.answer (stateAfter n t qs) q) ≡ true → Step.answer (stateAfter n t qs) q .name ≡ notedName (notesOf (historyAfter n qs .count) q)
+  pub noted-names : (q : Request) → isAllowed (Step.answer (stateAfter sheet n t qs) q) ≡ true → Step.answer (stateAfter sheet n t qs) q .name ≡ notedName (notesOf (historyAfter sheet n qs .count) q)
   -- Card 5: "Allowed, it leaves the table, and in the history the notes, that single drops in falling order of name leave." Each of
   -- these is allowed in its turn.
-  pub group-singly : (names : List ℕ) → isAllowed (Step.answer (stateAfter n t qs) (Group names)) ≡ true
-      → all isAllowed (answers Step.after Step.answer (stateAfter n t qs) (singleDrops names)) ≡ true
-  pub group-table : (names : List ℕ) → isAllowed (Step.answer (stateAfter n t qs) (Group names)) ≡ true
-      → Step.after (stateAfter n t qs) (Group names) .table ≡ final Step.after (stateAfter n t qs) (singleDrops names) .table
-  pub group-history : (names : List ℕ) → isAllowed (Step.answer (stateAfter n t qs) (Group names)) ≡ true
-      → History.after n (historyAfter n qs) (Group names) ≡ final (History.after n) (historyAfter n qs) (singleDrops names)
+  pub group-singly : (names : List ℕ) → isAllowed (Step.answer (stateAfter sheet n t qs) (Group names)) ≡ true
+      → all isAllowed (answers (Step.after sheet) Step.answer (stateAfter sheet n t qs) (singleDrops names)) ≡ true
+  pub group-table : (names : List ℕ) → isAllowed (Step.answer (stateAfter sheet n t qs) (Group names)) ≡ true
+      → Step.after sheet (stateAfter sheet n t qs) (Group names) .table ≡ final (Step.after sheet) (stateAfter sheet n t qs) (singleDrops names) .table
+  pub group-history : (names : List ℕ) → isAllowed (Step.answer (stateAfter sheet n t qs) (Group names)) ≡ true
+      → History.after sheet n (historyAfter sheet n qs) (Group names) ≡ final (History.after sheet n) (historyAfter sheet n qs) (singleDrops names)
   -- "Each read and write is also allowed exactly when demand 3 says."
-  pub reads : (u : Name) (s : Span) → isAllowed (Step.answer (stateAfter n t qs) (Single (Read u s))) ≡ mayRead (historyAfter n qs .notes) (u .0) s
-  pub writes : (u : Name) (s : Span) → isAllowed (Step.answer (stateAfter n t qs) (Single (Write u s))) ≡ mayWrite (historyAfter n qs .notes) (u .0) s
+  pub reads : (u : Name) (s : Span) → isAllowed (Step.answer (stateAfter sheet n t qs) (Single (Read u s))) ≡ mayRead sheet (historyAfter sheet n qs .notes) (u .0) s
+  pub writes : (u : Name) (s : Span) → isAllowed (Step.answer (stateAfter sheet n t qs) (Single (Write u s))) ≡ mayWrite sheet (historyAfter sheet n qs .notes) (u .0) s
   -- "A name that lives after some first part of the list, and not after a longer part, never lives again, however the list goes on."
-  pub life-stays-lost : (x : ℕ) (fs gs : List Request) → lives (historyAfter n qs .notes) x ≡ true → lives (historyAfter n (qs ++ fs) .notes) x ≡ false
-      → lives (historyAfter n (qs ++ fs ++ gs) .notes) x ≡ false
+  pub life-stays-lost : (x : ℕ) (fs gs : List Request) → lives sheet (historyAfter sheet n qs .notes) x ≡ true → lives sheet (historyAfter sheet n (qs ++ fs) .notes) x ≡ false
+      → lives sheet (historyAfter sheet n (qs ++ fs ++ gs) .notes) x ≡ false
   -- "A name that is `rw` after some first part, and not after a longer part, is likewise never `rw` again."
-  pub rw-stays-lost : (x : ℕ) (fs gs : List Request) → livesRw (historyAfter n qs .notes) x ≡ true → livesRw (historyAfter n (qs ++ fs) .notes) x ≡ false
-      → livesRw (historyAfter n (qs ++ fs ++ gs) .notes) x ≡ false
+  pub rw-stays-lost : (x : ℕ) (fs gs : List Request) → livesRw sheet (historyAfter sheet n qs .notes) x ≡ true → livesRw sheet (historyAfter sheet n (qs ++ fs) .notes) x ≡ false
+      → livesRw sheet (historyAfter sheet n (qs ++ fs ++ gs) .notes) x ≡ false

@@ -13,6 +13,7 @@ pub record Derivation : Type 0 where
   pub name : ℕ
   pub parent : ℕ
   pub span : Span
+  pub kind : ℕ
 
 -- Document 01, "What each event does": "Subtree and ancestors are taken over parents; each capability is in its own subtree."
 -- Derivations stand newest first, so a parent's stands after its child's.

@@ -1,4 +1,4 @@
--- Document 01, "What each event does", and cards 4 and 5: what an allowed request does to the live rows and to the issued number.
+-- Document 01, "What each event does", and cards 4 to 7: what an allowed request does to the live rows and to the issued number.
 -- Assumes nothing.
 use Prim.Native.Nat.{ℕ, suc}
 use mathlib.Core.Bool.{Bool, false, not, cond}
@@ -9,24 +9,25 @@ use Rattle.model.specs.declared.Cap.{Cap}
 use Rattle.model.specs.declared.Event.the-variants.{Create, Borrow, Read, Write, Drop}
 use Rattle.model.specs.declared.Access.{Access}
 use Rattle.model.specs.declared.Access.the-variants.{Reading, Writing}
+use Rattle.model.specs.declared.Sheet.{Sheet}
 use Rattle.model.specs.Lists.{filter, any}
 use Rattle.model.specs.Derivation.{Derivation, ancestry, inSubtree}
 use Rattle.model.specs.Strike.{isLower, isEnd, struck}
-use Rattle.model.specs.Table.{row, derivations, lookup}
+use Rattle.model.specs.Table.{row, derivation, derivations, lookup}
 use Rattle.model.specs.Requests.{Request, Single, Group}
 
 -- a row, with `ro` where it is hit
 abbrev pub lowered : Bool → Cap → Cap
-lowered hit c = record { name = c .name; parent = c .parent; start = c .start; length = c .length; right = cond hit 1 (c .right); depth = c .depth }
+lowered hit c = row (derivation c) (cond hit 1 (c .right)) (c .depth)
 
 -- Rights are taken away: the rows of ended names go, and those of lowered names become `ro`.
 unfoldable pub revoke : (ℕ → Bool) → (ℕ → Bool) → List Cap → List Cap
 revoke ends lowers rows = map (λ c. lowered (lowers (c .name .0)) c) (filter (λ c. not (ends (c .name .0))) rows)
 
--- read and write: "every live capability whose span is touched, and which is neither the reader nor an ancestor of it, becomes `ro`,
--- and its whole subtree with it"; by a write "the same capabilities end, with their whole subtrees"
-unfoldable pub afterAccess : Access → ℕ → Span → List Cap → List Cap
-afterAccess a u s rows = revoke (struck isEnd a (derivations rows) u s) (struck isLower a (derivations rows) u s) rows
+-- read and write: "every live capability whose span is touched, and which is neither the reader nor an ancestor of it", is struck, "and its
+-- whole subtree with it"; the sheet says which of them become `ro` and which end
+unfoldable pub afterAccess : Sheet → Access → ℕ → Span → List Cap → List Cap
+afterAccess sheet a u s rows = revoke (struck sheet isEnd a (derivations rows) u s) (struck sheet isLower a (derivations rows) u s) rows
 
 -- the capability of this ancestry is in the subtree of one of these names
 abbrev pub inSubtrees : List ℕ → List Derivation → Bool
@@ -36,29 +37,29 @@ inSubtrees names x = any (λ u. inSubtree u x) names
 unfoldable pub rowsWithout : List ℕ → List Cap → List Cap
 rowsWithout names rows = revoke (λ x. inSubtrees names (ancestry (derivations rows) x)) (λ x. false) rows
 
--- the derivations that a create and a borrow make, when so many names have been issued
+-- the derivations that a create and a borrow make ("Creates make references"), when so many names have been issued
 abbrev pub root : ℕ → Span → Derivation
-root issued s = record { name = suc issued; parent = 0; span = s }
+root issued s = record { name = suc issued; parent = 0; span = s; kind = 0 }
 
-abbrev pub child : ℕ → Name → Span → Derivation
-child issued u s = record { name = suc issued; parent = u .0; span = s }
+abbrev pub child : ℕ → Name → Span → ℕ → Derivation
+child issued u s kind = record { name = suc issued; parent = u .0; span = s; kind = kind }
 
 -- The live rows after an allowed request.
--- Card 4: "A create is now a fresh allocation: it ends every live capability its span touches, with subtrees." It is a write to its span
--- through the new name. That name has no row yet, so it is in the subtree of none: the write is from outside every subtree but its own.
+-- Card 4: "A create is now a fresh allocation"; card 7: "a create acts as a stranger's write". It is a write to its span through the new name.
+-- That name has no row yet, so it is in the subtree of none: the write is from outside every subtree but its own, and of no cell's.
 -- A write through the new row once it stands would leave the same (proofs/Fresh).
-unfoldable pub rowsAfter : ℕ → List Cap → Request → List Cap
-rowsAfter issued rows (Single (Create w s r)) = row (root issued s) r 1 ∷ afterAccess Writing (suc issued) s rows
-rowsAfter issued rows (Single (Borrow w u s r)) = row (child issued u s) r (suc (lookup (u .0) rows .depth)) ∷ rows
-rowsAfter issued rows (Single (Read u s)) = afterAccess Reading (u .0) s rows
-rowsAfter issued rows (Single (Write u s)) = afterAccess Writing (u .0) s rows
-rowsAfter issued rows (Single (Drop u)) = rowsWithout (u .0 ∷ []) rows
-rowsAfter issued rows (Group names) = rowsWithout names rows
+unfoldable pub rowsAfter : Sheet → ℕ → List Cap → Request → List Cap
+rowsAfter sheet issued rows (Single (Create w s r)) = row (root issued s) r 1 ∷ afterAccess sheet Writing (suc issued) s rows
+rowsAfter sheet issued rows (Single (Borrow w u s r kind)) = row (child issued u s kind) r (suc (lookup (u .0) rows .depth)) ∷ rows
+rowsAfter sheet issued rows (Single (Read u s)) = afterAccess sheet Reading (u .0) s rows
+rowsAfter sheet issued rows (Single (Write u s)) = afterAccess sheet Writing (u .0) s rows
+rowsAfter sheet issued rows (Single (Drop u)) = rowsWithout (u .0 ∷ []) rows
+rowsAfter sheet issued rows (Group names) = rowsWithout names rows
 
 -- "The result carries the new name"; "a read, write or drop answers with name 0"
 abbrev pub newName : ℕ → Request → ℕ
 newName issued (Single (Create w s r)) = suc issued
-newName issued (Single (Borrow w u s r)) = suc issued
+newName issued (Single (Borrow w u s r kind)) = suc issued
 newName issued (Single (Read u s)) = 0
 newName issued (Single (Write u s)) = 0
 newName issued (Single (Drop u)) = 0
@@ -67,7 +68,7 @@ newName issued (Group names) = 0
 -- the issued number after an allowed request
 abbrev pub issuedAfter : ℕ → Request → ℕ
 issuedAfter issued (Single (Create w s r)) = suc issued
-issuedAfter issued (Single (Borrow w u s r)) = suc issued
+issuedAfter issued (Single (Borrow w u s r kind)) = suc issued
 issuedAfter issued (Single (Read u s)) = issued
 issuedAfter issued (Single (Write u s)) = issued
 issuedAfter issued (Single (Drop u)) = issued

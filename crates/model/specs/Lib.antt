@@ -3,6 +3,7 @@ pub mod Values
 pub mod Derivation
 pub mod Requests
 pub mod Strike
+pub mod Sheet6
 pub mod Table
 pub mod Refusals
 pub mod Effects

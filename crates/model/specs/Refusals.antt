@@ -1,4 +1,4 @@
--- Document 01, "Eleven ways to be turned down", of a request, and cards 1 and 5: the conditions 1 to 10, 12 and 13, and which of them
+-- Document 01, "Eleven ways to be turned down", of a request, and cards 1, 5 and 6: the conditions 1 to 10, 12 and 13, and which of them
 -- each request meets.
 -- Assumes nothing. (2 is here in its half about events; its other half, and 11, are of the text.)
 use Prim.Native.Nat.{ℕ, suc}
@@ -15,7 +15,7 @@ use Rattle.model.specs.declared.Event.the-variants.{Create, Borrow, Read
 use Rattle.model.specs.Lists.{any, first}
 use Rattle.model.specs.Values.{legal, inside}
 use Rattle.model.specs.Requests.{Request, Single, Group, isGroup}
-use Rattle.model.specs.Table.{span, named, liveRows, lookup, isRight, inOrder}
+use Rattle.model.specs.Table.{span, named, liveRows, lookup, isRight, isKind, inOrder}
 
 -- 1. table not in order
 abbrev pub disordered : List Cap → ℕ → Bool
@@ -24,6 +24,10 @@ disordered table issued = not (inOrder table issued)
 -- 2. event whose right is neither 1 nor 2
 abbrev pub notARight : ℕ → Bool
 notARight r = not (isRight r)
+
+-- Card 6: "Any other kind number is .. 2 in an event"
+abbrev pub notAKind : ℕ → Bool
+notAKind k = not (isKind k)
 
 -- 3. span not legal
 abbrev pub illegalSpan : Span → Bool
@@ -90,7 +94,7 @@ module _ (rows : List Cap) (issued : ℕ) where
   -- those that each request meets after 1; of a group, "the first name refused gives the number"
   abbrev pub checks : ℕ → Request → List (ℕ × Bool)
   checks size (Single (Create w s r)) = (2, notARight r) ∷ (3, illegalSpan s) ∷ room size w
-  checks size (Single (Borrow w u s r)) = (2, notARight r) ∷ usable u s r ++ ((8, tooDeep u) ∷ room size w)
+  checks size (Single (Borrow w u s r kind)) = (2, notARight r || notAKind kind) ∷ usable u s r ++ ((8, tooDeep u) ∷ room size w)
   checks size (Single (Read u s)) = within u s
   checks size (Single (Write u s)) = usable u s 2
   checks size (Single (Drop u)) = standing u

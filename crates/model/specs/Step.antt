@@ -7,10 +7,11 @@ use lib.Dec.{eqb}
 use lib.ListN.{length, replicate}
 use Rattle.model.specs.declared.Cap.{Cap}
 use Rattle.model.specs.declared.Tally.{Tally}
+use Rattle.model.specs.declared.Sheet.{Sheet}
 use Rattle.model.specs.Lists.{final}
 use Rattle.model.specs.Table.{emptyRow, liveRows, lentTable}
 use Rattle.model.specs.Requests.{Request}
-use Rattle.model.specs.Refusals.{viewOf, judge}
+use Rattle.model.specs.Refusals.{View, viewOf, judge}
 use Rattle.model.specs.Effects.{rowsAfter, newName}
 use Rattle.model.specs.Counts.{countAllowed, countRefused}
 
@@ -31,23 +32,28 @@ pub record State : Type 0 where
   pub table : List Cap
   pub tally : Tally
 
+-- what of it a request is judged on
+abbrev pub view : State → View
+view h = viewOf (h .table) (h .tally .issued)
+
 -- the answer to a request
 unfoldable pub answer : State → Request → Verdict
-answer h q = verdict (judge (viewOf (h .table) (h .tally .issued)) q) (newName (h .tally .issued) q)
+answer h q = verdict (judge (view h) q) (newName (h .tally .issued) q)
 
--- the table and the tally after a request that gets this number: allowed, refusal 1, which changes nothing, or another refusal
-abbrev pub outcome : ℕ → State → Request → State
-outcome zero h q = record { table = lentTable (length (h .table)) (rowsAfter (h .tally .issued) (liveRows (h .table)) q); tally = countAllowed q (h .tally) }
-outcome (suc zero) h q = h
-outcome (suc (suc k)) h q = record { table = h .table; tally = countRefused (h .tally) }
+-- by this conflict sheet, the table and the tally after a request that gets this number: allowed, refusal 1, which changes nothing, or
+-- another refusal
+abbrev pub outcome : Sheet → ℕ → State → Request → State
+outcome sheet zero h q = record { table = lentTable (length (h .table)) (rowsAfter sheet (h .tally .issued) (liveRows (h .table)) q); tally = countAllowed q (h .tally) }
+outcome sheet (suc zero) h q = h
+outcome sheet (suc (suc k)) h q = record { table = h .table; tally = countRefused (h .tally) }
 
-unfoldable pub after : State → Request → State
-after h q = outcome (judge (viewOf (h .table) (h .tally .issued)) q) h q
+unfoldable pub after : Sheet → State → Request → State
+after sheet h q = outcome sheet (judge (view h) q) h q
 
 -- "The list begins with any number of rows, all zeros"
 abbrev pub initial : ℕ → Tally → State
 initial n t = record { table = replicate n emptyRow; tally = t }
 
--- what the caller has after a list of requests
-abbrev pub stateAfter : ℕ → Tally → List Request → State
-stateAfter n t = final after (initial n t)
+-- what the caller has after a list of requests, with one sheet kept throughout
+abbrev pub stateAfter : Sheet → ℕ → Tally → List Request → State
+stateAfter sheet n t = final (after sheet) (initial n t)

@@ -1,4 +1,4 @@
--- Document 01, "Values": the rows of the lent table, and when a table is in order.
+-- Document 01, "Values", and card 6: the rows of the lent table, and when a table is in order.
 -- Assumes nothing.
 use Prim.Native.Nat.{ℕ, suc, _+_, _-_}
 use mathlib.Core.Bool.{Bool, true, not, cond, _&&_, _||_}
@@ -23,17 +23,18 @@ row d right depth =
       length = d .span .length;
       right = right;
       depth = depth;
+      kind = d .kind;
     }
 
 -- a row that is all zeros
 abbrev pub emptyRow : Cap
-emptyRow = row (record { name = 0; parent = 0; span = record { start = record { 0 = 0 }; length = 0 } }) 0 0
+emptyRow = row (record { name = 0; parent = 0; span = record { start = record { 0 = 0 }; length = 0 }; kind = 0 }) 0 0
 
 abbrev pub span : Cap → Span
 span c = record { start = c .start; length = c .length }
 
 abbrev pub derivation : Cap → Derivation
-derivation c = record { name = c .name .0; parent = c .parent .0; span = span c }
+derivation c = record { name = c .name .0; parent = c .parent .0; span = span c; kind = c .kind }
 
 abbrev pub derivations : List Cap → List Derivation
 derivations = map derivation
@@ -59,7 +60,7 @@ lookup x (c ∷ rows) = cond (named x c) c (lookup x rows)
 -- ---- a table in order
 
 unfoldable pub isEmptyRow : Cap → Bool
-isEmptyRow c = eqb (c .name .0) 0 && eqb (c .parent .0) 0 && eqb (c .start .0) 0 && eqb (c .length) 0 && eqb (c .right) 0 && eqb (c .depth) 0
+isEmptyRow c = eqb (c .name .0) 0 && eqb (c .parent .0) 0 && eqb (c .start .0) 0 && eqb (c .length) 0 && eqb (c .right) 0 && eqb (c .depth) 0 && eqb (c .kind) 0
 
 -- "arranged as above": from the first row named 0 on, every row is all zeros
 unfoldable pub liveRowsFirst : List Cap → Bool
@@ -70,17 +71,22 @@ liveRowsFirst (c ∷ table) = cond (named 0 c) (all isEmptyRow (c ∷ table)) (l
 abbrev pub isRight : ℕ → Bool
 isRight r = eqb r 1 || eqb r 2
 
+-- Card 6: "0 reference, 1 raw, 2 cell"; "Any other kind number is refusal 1 in a row"
+abbrev pub isKind : ℕ → Bool
+isKind k = leb k 2
+
 -- "a span inside the parent's, a right not above it, and a depth one more and at most 64"
 unfoldable pub rowFitsParent : Cap → Cap → Bool
 rowFitsParent c p = inside (span c) (span p) && leb (c .right) (p .right) && eqb (c .depth) (p .depth + 1) && leb (c .depth) 64
 
--- "a row with parent 0 has depth 1; any other row has its parent in an earlier row", and fits it
+-- "a row with parent 0 has depth 1", and by card 6 "a root of kind 1 or 2" is refused; "any other row has its parent in an earlier row",
+-- and fits it
 unfoldable pub parentInOrder : Cap → List Cap → Bool
-parentInOrder c earlier = cond (eqb (c .parent .0) 0) (eqb (c .depth) 1) (any (named (c .parent .0)) earlier && rowFitsParent c (lookup (c .parent .0) earlier))
+parentInOrder c earlier = cond (eqb (c .parent .0) 0) (eqb (c .depth) 1 && eqb (c .kind) 0) (any (named (c .parent .0)) earlier && rowFitsParent c (lookup (c .parent .0) earlier))
 
 -- a row against the earlier ones
 unfoldable pub rowInOrder : Cap → List Cap → Bool
-rowInOrder c earlier = legal (span c) && isRight (c .right) && parentInOrder c earlier
+rowInOrder c earlier = legal (span c) && isRight (c .right) && isKind (c .kind) && parentInOrder c earlier
 
 -- each live row against the earlier ones; names rise strictly, and stay below a bound
 unfoldable pub rowsInOrder : ℕ → List Cap → Bool

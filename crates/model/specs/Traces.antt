@@ -1,5 +1,5 @@
--- Document 01, "Traces to try", those with a star; "Eleven ways to be turned down", the examples that are events; cards 1, 2, 4 and
--- 5; and capcheck's example.
+-- Document 01, "Traces to try", those with a star; "Eleven ways to be turned down", the examples that are events; cards 1, 2 and 4
+-- to 7; and capcheck's example.
 -- One table, and one computed proof over it (proofs/Traces).
 -- Assumes nothing.
 use Prim.Native.Nat.{ℕ, zero, suc}
@@ -11,7 +11,10 @@ use Rattle.model.specs.declared.Cap.{Cap}
 use Rattle.model.specs.declared.Tally.{Tally}
 use Rattle.model.specs.declared.NewName.the-variants.{Unwritten, Written}
 use Rattle.model.specs.declared.Event.the-variants.{Create, Borrow, Read, Write, Drop}
+use Rattle.model.specs.declared.Effect.the-variants.{Keep, Lower, End}
+use Rattle.model.specs.declared.Sheet.{Sheet}
 use Rattle.model.specs.Lists.{answers, final}
+use Rattle.model.specs.Sheet6.{results, conflicts, sheet6}
 use Rattle.model.specs.Table.{row, emptyRow, liveRows}
 use Rattle.model.specs.Counts.{tally}
 use Rattle.model.specs.Requests.{Request, Single, Group}
@@ -32,7 +35,7 @@ abbrev create : ℕ → ℕ → ℕ → Request
 create start length right = Single (Create Unwritten (span start length) right)
 
 abbrev borrow : ℕ → ℕ → ℕ → ℕ → Request
-borrow name start length right = Single (Borrow Unwritten (record { 0 = name }) (span start length) right)
+borrow name start length right = Single (Borrow Unwritten (record { 0 = name }) (span start length) right 0)
 
 abbrev read : ℕ → ℕ → ℕ → Request
 read name start length = Single (Read (record { 0 = name }) (span start length))
@@ -43,24 +46,29 @@ write name start length = Single (Write (record { 0 = name }) (span start length
 abbrev drop : ℕ → Request
 drop name = Single (Drop (record { 0 = name }))
 
+-- with a kind
+abbrev borrowAs : ℕ → ℕ → ℕ → ℕ → ℕ → Request
+borrowAs kind name start length right = Single (Borrow Unwritten (record { 0 = name }) (span start length) right kind)
+
 -- with the name written out
 abbrev createNamed : ℕ → ℕ → ℕ → ℕ → Request
 createNamed new start length right = Single (Create (Written (record { 0 = new })) (span start length) right)
 
 abbrev borrowNamed : ℕ → ℕ → ℕ → ℕ → ℕ → Request
-borrowNamed new name start length right = Single (Borrow (Written (record { 0 = new })) (record { 0 = name }) (span start length) right)
+borrowNamed new name start length right = Single (Borrow (Written (record { 0 = new })) (record { 0 = name }) (span start length) right 0)
 
 -- ---- traces
 
--- what is lent at first; each event with its answer, a refusal (0: allowed) and a name; and at the end the live names, rising, with
--- their rights
+-- the sheet, card 6's where nothing else is said; what is lent at first; each event with its answer, a refusal (0: allowed) and a name; and
+-- at the end the live names, rising, with their rights
 pub record Trace : Type 0 where
+  pub sheet : Sheet
   pub lent : State
   pub lines : List (Request × ℕ × ℕ)
   pub left : List (ℕ × ℕ)
 
 abbrev from : State → List (Request × ℕ × ℕ) → List (ℕ × ℕ) → Trace
-from lent lines left = record { lent = lent; lines = lines; left = left }
+from lent lines left = record { sheet = sheet6; lent = lent; lines = lines; left = left }
 
 abbrev noCounts : ℕ → Tally
 noCounts issued = tally issued 0 0 0 0 0 0
@@ -111,10 +119,10 @@ names zero x = []
 names (suc n) x = (x, RW) ∷ names n (suc x)
 
 abbrev namedThree : Cap
-namedThree = row (record { name = 3; parent = 0; span = span 0 64 }) RW 1
+namedThree = row (record { name = 3; parent = 0; span = span 0 64; kind = 0 }) RW 1
 
 abbrev namedOne : Cap
-namedOne = row (record { name = 1; parent = 0; span = span 0 64 }) RW 1
+namedOne = row (record { name = 1; parent = 0; span = span 0 64; kind = 0 }) RW 1
 
 unfoldable pub refused : List Trace
 refused =
@@ -191,6 +199,62 @@ together =
     ∷ created 1024 ((Group (1 ∷ []), 0, 0) ∷ (Group (1 ∷ []), 5, 0) ∷ []) []
     ∷ []
 
+-- Card 6: a write through the parent of a raw capability, or from below it, spares it, and so does every read; a write from elsewhere ends
+-- it. A write through a cell or from below it ends nothing outside that cell, and ends what it touches inside; a read from there lowers. A
+-- create ends raw ones and cells. Of a cell inside a cell the inner one decides, and for a user beside the inner one the outer one. A kind
+-- above 2 is 2 in an event and 1 in a row, as is a root of kind 1 or 2.
+unfoldable pub kinds : List Trace
+kinds =
+    created 1024 ((borrowAs 1 1 0 8 RW, 0, 2) ∷ (write 1 0 8, 0, 0) ∷ (borrow 1 0 8 RW, 0, 3) ∷ (write 3 0 8, 0, 0) ∷ (read 1 0 8, 0, 0) ∷ []) ((1, RW) ∷ (2, RW) ∷ (3, ro) ∷ [])
+    ∷ created 1024 ((borrow 1 0 8 RW, 0, 2) ∷ (borrowAs 1 2 0 8 RW, 0, 3) ∷ (borrow 1 8 8 RW, 0, 4) ∷ (write 4 8 8, 0, 0) ∷ (write 1 0 8, 0, 0) ∷ []) ((1, RW) ∷ (4, RW) ∷ [])
+    ∷ created 1024
+    ((borrowAs 2 1 0 8 RW, 0, 2) ∷ (borrow 1 0 8 RW, 0, 3) ∷ (borrow 2 0 8 RW, 0, 4) ∷ (write 4 0 8, 0, 0) ∷ (write 2 0 8, 0, 0) ∷ (read 4 0 8, 5, 0) ∷ (read 2 0 8, 0, 0) ∷ [])
+    ((1, RW) ∷ (2, RW) ∷ (3, ro) ∷ [])
+    ∷ created 1024 ((borrowAs 2 1 0 8 RW, 0, 2) ∷ (borrowAs 1 2 0 8 RW, 0, 3) ∷ (create 0 8 RW, 0, 4) ∷ []) ((4, RW) ∷ [])
+    ∷ created 1024
+    ((borrowAs 2 1 0 8 RW, 0, 2) ∷ (borrowAs 2 2 0 8 RW, 0, 3) ∷ (borrow 2 0 8 RW, 0, 4) ∷ (borrow 1 0 8 RW, 0, 5) ∷ (write 3 0 8, 0, 0) ∷ (write 4 0 8, 0, 0) ∷ [])
+    ((1, RW) ∷ (2, RW) ∷ (4, RW) ∷ (5, RW) ∷ [])
+    ∷ created 1024 ((borrowAs 3 1 0 8 RW, 2, 0) ∷ (borrowAs 255 9 0 8 RW, 2, 0) ∷ []) ((1, RW) ∷ [])
+    ∷ from (record { table = row (record { name = 1; parent = 0; span = span 0 64; kind = 1 }) RW 1 ∷ []; tally = noCounts 1 }) ((read 1 0 8, 1, 0) ∷ []) ((1, RW) ∷ [])
+    ∷ from (record { table = namedOne ∷ row (record { name = 2; parent = 1; span = span 0 8; kind = 3 }) RW 2 ∷ []; tally = noCounts 2 }) ((read 1 0 8, 1, 0) ∷ []) ((1, RW) ∷ (2, RW) ∷ [])
+    ∷ []
+
+-- Card 6, after section 5.1 of source document 000: figure 3 with its raw pointer as one; raw pointers and their parent in turn; a raw one
+-- struck with its parent by a stranger's write, and alone where its parent is raw; two cells side by side; a read from inside a cell; raw
+-- pointers below one cell; a cell beside a shared reference; two guards below one cell; and what is not found, writes through a cell
+unfoldable pub inRust : List Trace
+inRust =
+    trace 1024 ((create 4096 8 RW, 0, 1) ∷ (borrowAs 1 1 4096 8 RW, 0, 2) ∷ (borrow 2 4096 8 RW, 0, 3) ∷ (write 2 4096 8, 0, 0) ∷ (write 3 4096 8, 5, 0) ∷ []) ((1, RW) ∷ (2, RW) ∷ [])
+    ∷ trace 1024 ((create 0 64 RW, 0, 1) ∷ (borrow 1 0 8 RW, 0, 2) ∷ (borrowAs 1 2 0 8 RW, 0, 3) ∷ (borrowAs 1 2 0 8 RW, 0, 4) ∷ (write 3 0 8, 0, 0) ∷ (write 4 0 8, 0, 0) ∷ (write 2 0 8, 0, 0) ∷ (read 3 0 8, 0, 0) ∷ (write 4 0 8, 0, 0) ∷ []) ((1, RW) ∷ (2, RW) ∷ (3, RW) ∷ (4, RW) ∷ [])
+    ∷ trace 1024 ((create 0 64 RW, 0, 1) ∷ (borrow 1 0 8 RW, 0, 2) ∷ (borrowAs 1 2 0 8 RW, 0, 3) ∷ (borrow 1 4 8 RW, 0, 4) ∷ (write 4 4 4, 0, 0) ∷ (write 3 0 8, 5, 0) ∷ []) ((1, RW) ∷ (4, RW) ∷ [])
+    ∷ trace 1024 ((create 0 64 RW, 0, 1) ∷ (borrowAs 1 1 0 8 RW, 0, 2) ∷ (borrowAs 1 2 0 8 RW, 0, 3) ∷ (write 1 0 8, 0, 0) ∷ (write 2 0 8, 0, 0) ∷ (read 3 0 8, 5, 0) ∷ []) ((1, RW) ∷ (2, RW) ∷ [])
+    ∷ trace 1024 ((create 0 8 RW, 0, 1) ∷ (borrowAs 2 1 0 8 RW, 0, 2) ∷ (borrowAs 2 1 0 8 RW, 0, 3) ∷ (write 2 0 8, 0, 0) ∷ (write 3 0 8, 0, 0) ∷ (write 2 0 8, 0, 0) ∷ []) ((1, RW) ∷ (2, RW) ∷ (3, RW) ∷ [])
+    ∷ trace 1024 ((create 0 8 RW, 0, 1) ∷ (borrowAs 2 1 0 8 RW, 0, 2) ∷ (borrowAs 2 1 0 8 RW, 0, 3) ∷ (write 2 0 8, 0, 0) ∷ (read 3 0 8, 0, 0) ∷ (write 2 0 8, 7, 0) ∷ []) ((1, RW) ∷ (2, ro) ∷ (3, RW) ∷ [])
+    ∷ trace 1024 ((create 0 8 RW, 0, 1) ∷ (borrowAs 2 1 0 8 RW, 0, 2) ∷ (borrowAs 1 2 0 8 RW, 0, 3) ∷ (borrowAs 1 2 0 8 RW, 0, 4) ∷ (write 3 0 8, 0, 0) ∷ (read 4 0 8, 0, 0) ∷ (write 2 0 8, 0, 0) ∷ (write 3 0 8, 0, 0) ∷ []) ((1, RW) ∷ (2, RW) ∷ (3, RW) ∷ (4, RW) ∷ [])
+    ∷ trace 1024 ((create 0 16 RW, 0, 1) ∷ (borrow 1 0 16 ro, 0, 2) ∷ (borrowAs 2 1 0 8 RW, 0, 3) ∷ (write 3 0 8, 0, 0) ∷ (read 2 8 8, 0, 0) ∷ (read 3 0 8, 0, 0) ∷ (write 3 0 8, 0, 0) ∷ []) ((1, RW) ∷ (2, ro) ∷ (3, RW) ∷ [])
+    ∷ trace 1024 ((create 0 8 RW, 0, 1) ∷ (borrowAs 2 1 0 8 RW, 0, 2) ∷ (borrow 2 0 8 RW, 0, 3) ∷ (borrow 2 0 8 RW, 0, 4) ∷ (write 4 0 8, 0, 0) ∷ (write 3 0 8, 5, 0) ∷ []) ((1, RW) ∷ (2, RW) ∷ (4, RW) ∷ [])
+    ∷ trace 1024 ((create 0 8 RW, 0, 1) ∷ (borrow 1 0 8 RW, 0, 2) ∷ (borrowAs 2 1 0 8 RW, 0, 3) ∷ (write 3 0 8, 0, 0) ∷ (write 2 0 8, 0, 0) ∷ []) ((1, RW) ∷ (2, RW) ∷ [])
+    ∷ []
+
+-- Card 7: by a sheet in which a stranger's write lowers references and ends cells, a read ends from beside a cell, and all else is kept: a
+-- create lowers a root with its subtree, and a read through a cell ends what is outside it
+abbrev mildSheet : Sheet
+mildSheet =
+    record {
+      reference = conflicts (results End Keep Keep) (results Keep Keep Lower);
+      raw = conflicts (results Keep Keep Keep) (results Keep Keep Keep);
+      cell = conflicts (results Keep Keep Keep) (results Keep Keep End);
+    }
+
+abbrev mildly : List (Request × ℕ × ℕ) → List (ℕ × ℕ) → Trace
+mildly lines left = record { sheet = mildSheet; lent = initial 1024 (noCounts 0); lines = (create 0 64 RW, 0, 1) ∷ lines; left = left }
+
+unfoldable pub sheets : List Trace
+sheets =
+    mildly ((borrow 1 0 8 RW, 0, 2) ∷ (borrowAs 2 1 8 8 RW, 0, 3) ∷ (create 4 8 RW, 0, 4) ∷ (write 1 0 8, 7, 0) ∷ []) ((1, ro) ∷ (2, ro) ∷ (4, RW) ∷ [])
+    ∷ mildly ((borrow 1 0 8 RW, 0, 2) ∷ (borrowAs 2 1 0 8 RW, 0, 3) ∷ (write 1 0 8, 0, 0) ∷ (read 3 0 8, 0, 0) ∷ []) ((1, RW) ∷ (3, RW) ∷ [])
+    ∷ []
+
 -- "The bracket text": what capcheck is shown on
 unfoldable pub printed : Trace
 printed =
@@ -199,7 +263,7 @@ printed =
     ((1, RW) ∷ (2, ro) ∷ (3, RW) ∷ [])
 
 unfoldable pub traces : List Trace
-traces = starred ++ (refused ++ (written ++ (empty ++ (reused ++ (together ++ (printed ∷ []))))))
+traces = starred ++ (refused ++ (written ++ (empty ++ (reused ++ (together ++ (kinds ++ (inRust ++ (sheets ++ (printed ∷ [])))))))))
 
 -- ---- when a trace goes as it says
 
@@ -221,4 +285,4 @@ abbrev requestsOf : Trace → List Request
 requestsOf t = map (λ l. l .0) (t .lines)
 
 unfoldable pub holds : Trace → Bool
-holds t = sameAnswers (answers after answer (t .lent) (requestsOf t)) (t .lines) && sameRights (reverse (liveRows (final after (t .lent) (requestsOf t) .table))) (t .left)
+holds t = sameAnswers (answers (after (t .sheet)) answer (t .lent) (requestsOf t)) (t .lines) && sameRights (reverse (liveRows (final (after (t .sheet)) (t .lent) (requestsOf t) .table))) (t .left)

@@ -16,8 +16,9 @@ pub struct Span {
     pub length: u32,
 }
 
-// "Values", a row of the lent table, in document 01's order of the fields. Six words of 32 bits: the same record in C, and no
-// byte of it is padding. The right is 1 (`ro`) or 2 (`rw`) in a table in order.
+// "Values", a row of the lent table, in document 01's order of the fields, and card 6: "The record gains a kind: 0 reference, 1 raw,
+// 2 cell". Seven words of 32 bits: the same record in C, and no byte of it is padding. The right is 1 (`ro`) or 2 (`rw`) in a table in
+// order, and the kind at most 2.
 #[repr(C)]
 pub struct Cap {
     pub name: Name,
@@ -26,6 +27,7 @@ pub struct Cap {
     pub length: u32,
     pub right: u32,
     pub depth: u32,
+    pub kind: u32,
 }
 
 // "Values", the tally: names issued, the allowed events of each of the five kinds, and refused events.
@@ -47,10 +49,10 @@ pub enum NewName {
 }
 
 // "Values", an event: one of five kinds, each with its own values. The names, starts and lengths may be any 32-bit numbers,
-// the right any byte.
+// the right any byte; by card 6 a borrow has a kind besides, any byte, and "Creates make references".
 pub enum Event {
     Create(NewName, Span, u8),
-    Borrow(NewName, Name, Span, u8),
+    Borrow(NewName, Name, Span, u8, u8),
     Read(Name, Span),
     Write(Name, Span),
     Drop(Name),
@@ -69,11 +71,43 @@ pub enum Access {
     Writing,
 }
 
+// Card 7, "conflict sheets that makers edit": "Results are `keep`, `lower`, `end`."
+pub enum Effect {
+    Keep,
+    Lower,
+    End,
+}
+
+// Card 7: where an access comes from, "for a user outside the holder's subtree".
+pub enum Origin {
+    Cell,
+    Kin,
+    Stranger,
+}
+
+// Card 7: the 18 results of a sheet, by the kind of the holder, then by the access, then by where the access comes from.
+pub struct Results {
+    pub cell: Effect,
+    pub kin: Effect,
+    pub stranger: Effect,
+}
+
+pub struct Conflicts {
+    pub read: Results,
+    pub write: Results,
+}
+
+pub struct Sheet {
+    pub reference: Conflicts,
+    pub raw: Conflicts,
+    pub cell: Conflicts,
+}
+
 // "Eleven ways to be turned down", and those of the cards: each is named for its condition.
 pub enum Refusal {
     // 1: table not in order.
     Disordered,
-    // 2: line or listing not in the one spelling; event whose right is neither 1 nor 2.
+    // 2: line or listing not in the one spelling; event whose right is neither 1 nor 2, or whose kind is above 2.
     Misspelt,
     // 3: span not legal: it ends above 4,294,967,296.
     IllegalSpan,

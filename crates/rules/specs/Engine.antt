@@ -4,16 +4,21 @@ use Prim.Native.Nat.{ℕ, zero, suc, _<_, _≤_, max}
 use mathlib.Core.Path.{_≡_}
 use mathlib.Core.Bool.{Bool, false, not, cond, _&&_}
 use mathlib.Core.List.{List, []}
-use lib.Dec.{eqb, ltb}
+use lib.Dec.{eqb, leb, ltb}
 use lib.ListN.{length, getD}
 use Rattle.model.specs.declared.Span.{Span}
 use Rattle.model.specs.declared.Cap.{Cap}
 use Rattle.model.specs.declared.Access.{Access}
 use Rattle.model.specs.Lists.{consIf, any}
 use Rattle.model.specs.Values.{touches}
+use Rattle.model.specs.declared.Effect.{Effect}
+use Rattle.model.specs.declared.Effect.the-variants.{Keep, Lower, End}
+use Rattle.model.specs.declared.Origin.{Origin}
+use Rattle.model.specs.declared.Origin.the-variants.{Cell, Kin, Stranger}
 use Rattle.model.specs.Derivation.{ancestry, inSubtree}
-use Rattle.model.specs.Strike.{Effect, Keep, Lower, End, effectOf}
-use Rattle.model.specs.Table.{emptyRow, span, derivations, named, lentTable}
+use Rattle.model.specs.Strike.{isCell, resultOf, inOtherCell, nearestCell}
+use Rattle.model.specs.Sheet6.{sheet6}
+use Rattle.model.specs.Table.{emptyRow, span, derivation, derivations, named, lentTable}
 use Rattle.model.specs.Effects.{lowered}
 use Rattle.table.specs.Words.{rowsIn}
 use Rattle.table.specs.Rows.{nameAt, parentAt, before, Front, Places, LiveRows}
@@ -25,9 +30,46 @@ pub record Ready (ws : List (List ℕ)) (k : ℕ) : Type 0 where
   pub stands : LiveRows (rowsIn ws) k
   pub zeros : (j : ℕ) → k ≤ j → j < length ws → getD (rowsIn ws) j emptyRow ≡ emptyRow
 
--- the rows on the ancestry of the name u are those with 1
-pub record OnAncestry (T : List Cap) (k u : ℕ) (marks : List ℕ) : Type 0 where
-  pub each : (i : ℕ) → i < k → eqb (getD marks i 0) 1 ≡ inSubtree (nameAt T i) (ancestry (derivations (before T k)) u)
+-- ---- how rows stand to the user of an access
+
+-- the rows on the ancestry of the name u are those with 1, and no other has more than 0
+pub record OnAncestry (T : List Cap) (k u : ℕ) (relation : List ℕ) : Type 0 where
+  pub long : length relation ≡ 1024
+  pub each : (i : ℕ) → i < k → eqb (getD relation i 0) 1 ≡ inSubtree (nameAt T i) (ancestry (derivations (before T k)) u)
+  pub small : (i : ℕ) → i < k → getD relation i 0 < 2
+
+-- r is the place of the nearest cell on that ancestry, or is not below k
+pub record NearestAt (T : List Cap) (k u r : ℕ) : Type 0 where
+  pub cell : nearestCell (ancestry (derivations (before T k)) u) ≡ cond (ltb r k) (nameAt T r) 0
+
+-- the place of the nearest cell among those that were passed, where the next one stands at i: what was found, or this one
+abbrev pub nearerOf : List Cap → ℕ → ℕ → ℕ → ℕ
+nearerOf T k found i = cond (ltb found k) found (cond (isCell (derivation (getD T i emptyRow))) i k)
+
+-- the value at q, if q is below i
+abbrev pub valueBelow : List ℕ → ℕ → ℕ → ℕ
+valueBelow values q i = cond (ltb q i) (getD values q 0) 0
+
+-- what a row at i gets that is not on the ancestry and stands behind the cell at `cell`, where its parent stands at q: 2 under that cell, else 0.
+-- On the ancestry, the rows from the cell's place on are under it.
+abbrev pub insideOf : List ℕ → ℕ → ℕ → ℕ → ℕ
+insideOf relation cell q i = cond (ltb q i && (leb cell q && not (eqb (getD relation q 0) 0))) 2 0
+
+pub record SetInside (k cell : ℕ) (places before after : List ℕ) : Type 0 where
+  pub long : length after ≡ 1024
+  pub front : (i : ℕ) → i ≤ cell → getD after i 0 ≡ getD before i 0
+  pub line : (i : ℕ) → i < k → getD before i 0 ≡ 1 → getD after i 0 ≡ 1
+  pub other : (i : ℕ) → i < k → cell < i → (getD before i 0 ≡ 1 → ⊥) → getD after i 0 ≡ insideOf after cell (getD places i 0) i
+
+-- An access comes from a cell that a row is not under: there is a cell above the user, and the row has not 2.
+abbrev pub isApart : Bool → ℕ → Bool
+isApart inCell relation = inCell && not (eqb relation 2)
+
+-- a row has 1 on the ancestry of the user u; elsewhere it tells whether the user is in the subtree of a cell that the row is not under
+pub record Related (T : List Cap) (k u : ℕ) (inCell : Bool) (relation : List ℕ) : Type 0 where
+  pub each : (i : ℕ) → i < k → eqb (getD relation i 0) 1 ≡ inSubtree (nameAt T i) (ancestry (derivations (before T k)) u)
+  pub apart : (i : ℕ) → i < k → inSubtree (nameAt T i) (ancestry (derivations (before T k)) u) ≡ false
+      → isApart inCell (getD relation i 0) ≡ inOtherCell (ancestry (derivations (before T k)) u) (ancestry (derivations (before T k)) (nameAt T i))
 
 -- ---- marks: 0 keep, 1 lower, 2 end
 
@@ -43,13 +85,17 @@ mark ends lowers x = cond (ends x) 2 (cond (lowers x) 1 0)
 pub record Marked (T : List Cap) (k : ℕ) (marks : List ℕ) (ends lowers : ℕ → Bool) : Type 0 where
   pub each : (i : ℕ) → i < k → getD marks i 0 ≡ mark ends lowers (nameAt T i)
 
--- a holder's own mark, where its place on the user's ancestry is told
-abbrev pub own : Access → Span → Span → Bool → ℕ
-own a s t on = cond (touches s t && not on) (weight (effectOf a)) 0
+-- where an access comes from, for a holder that is not on the user's ancestry
+abbrev pub originOf : Bool → Bool → Origin
+originOf apart kin = cond apart Cell (cond kin Kin Stranger)
 
--- the own marks of an access to s, where the rows on the user's ancestry have 1
-abbrev pub ownOfAccess : List Cap → List ℕ → Access → Span → ℕ → ℕ
-ownOfAccess T onLine a s i = own a s (span (getD T i emptyRow)) (eqb (getD onLine i 0) 1)
+-- a holder's own mark, by card 6's sheet
+abbrev pub own : Access → Span → Cap → Bool → ℕ → Bool → ℕ
+own a s c inCell relation kin = cond (touches s (span c) && not (eqb relation 1)) (weight (resultOf sheet6 (c .kind) a (originOf (isApart inCell relation) kin))) 0
+
+-- the own marks of an access to s: kin are those whose parent is on the user's ancestry
+abbrev pub ownOfAccess : List Cap → Bool → List ℕ → List ℕ → Access → Span → ℕ → ℕ
+ownOfAccess T inCell relation places a s i = own a s (getD T i emptyRow) inCell (getD relation i 0) (eqb (valueBelow relation (getD places i 0) i) 1)
 
 -- those of names dropped together: 2 at each of them
 abbrev pub ownOfNames : List Cap → List ℕ → ℕ → ℕ
@@ -66,9 +112,9 @@ pub record Spread (T : List Cap) (k : ℕ) (owned : ℕ → ℕ) (marks : List �
   pub root : (i : ℕ) → i < k → any (named (parentAt T i)) (before T i) ≡ false → getD marks i 0 ≡ owned i
 
 -- the rows in front of r, of the first k, are not struck by an access to s, where those on the user's ancestry have 1
-pub record Spared (T : List Cap) (k : ℕ) (onLine : List ℕ) (s : Span) (r : ℕ) : Type 0 where
+pub record Spared (T : List Cap) (k : ℕ) (relation : List ℕ) (s : Span) (r : ℕ) : Type 0 where
   pub fits : r ≤ k
-  pub none : (i : ℕ) → i < r → (touches s (span (getD T i emptyRow)) && not (eqb (getD onLine i 0) 1)) ≡ false
+  pub none : (i : ℕ) → i < r → (touches s (span (getD T i emptyRow)) && not (eqb (getD relation i 0) 1)) ≡ false
 
 -- the rows in front of `first`, of the first k, have no mark
 pub record Quiet (k first : ℕ) (marks : List ℕ) : Type 0 where

@@ -6,6 +6,7 @@ use table::Row;
 use table::lent::set_tally;
 use table::lent::tally_at;
 ghost use mathlib.Core.Path.{_≡_};
+ghost use Rattle.model.specs.Sheet6.{sheet6};
 ghost use Rattle.model.specs.Step;
 ghost use Rattle.model.specs.Requests.{requestOf};
 ghost use Rattle.model.specs.Answers.{verdictOf};
@@ -14,8 +15,8 @@ ghost use Rattle.table.specs.Lent.{tallyIn, lent};
 
 // A request on the table and the tally that are lent; the names are those of names dropped together.
 pub fn apply(table: &mut [Row], tally: &mut [u32; 7], asked: Asked, names: &[u32]) -> Answer
-    ensures { λ r. ⌜ (rowsIn (now (table .exit)) ≡ Step.after (lent (now (table .entry)) (now (tally .entry))) (requestOf asked (now (names .entry))) .table)
-        × (tallyIn (now (tally .exit)) ≡ Step.after (lent (now (table .entry)) (now (tally .entry))) (requestOf asked (now (names .entry))) .tally)
+    ensures { λ r. ⌜ (rowsIn (now (table .exit)) ≡ Step.after sheet6 (lent (now (table .entry)) (now (tally .entry))) (requestOf asked (now (names .entry))) .table)
+        × (tallyIn (now (tally .exit)) ≡ Step.after sheet6 (lent (now (table .entry)) (now (tally .entry))) (requestOf asked (now (names .entry))) .tally)
         × (verdictOf r ≡ Step.answer (lent (now (table .entry)) (now (tally .entry))) (requestOf asked (now (names .entry)))) ⌝ }
 {
     let t = tally_at(tally);

@@ -1,5 +1,6 @@
 // What an access or a drop takes: a mark for each row, 0 keep, 1 lower, 2 end.
 use model::Access;
+use model::Cap;
 use model::Span;
 use table::Row;
 use table::find::find;
@@ -9,21 +10,32 @@ use table::spans::span_of;
 use table::words::row_at;
 ghost use mathlib.Core.Path.{_≡_};
 ghost use mathlib.Core.Bool.{not, cond, _&&_};
-ghost use Rattle.model.specs.Strike.{effectOf};
+ghost use Rattle.model.specs.Sheet6.{sheet6};
+ghost use Rattle.model.specs.Strike.{resultOf};
 ghost use Rattle.model.specs.Values.{touches};
-ghost use Prim.Native.Nat.{_≤_, max};
-ghost use lib.Dec.{ltb};
-ghost use lib.ListN.{getD, replicate};
+ghost use Prim.Native.Nat.{_<_, _≤_, max};
+ghost use lib.Dec.{eqb};
+ghost use lib.ListN.{length, getD, replicate};
 ghost use Rattle.table.specs.Words.{rowsIn};
 ghost use Rattle.table.specs.Rows.{Rise, Places, LiveRows};
-ghost use Rattle.rules.specs.Engine.{OnAncestry, weight, own, ownOfAccess, Owned, Spread, Spared, Quiet};
+ghost use Rattle.rules.specs.Engine.{OnAncestry, NearestAt, nearerOf, valueBelow, insideOf, SetInside, isApart, Related, weight, originOf, own, ownOfAccess, Owned, Spread, Spared, Quiet};
 
-fn effect_mark(a: Access) -> u8
-    ensures { λ r. ⌜ r ≡ weight (effectOf a) ⌝ }
+// What card 6's sheet gives a holder of a kind: by whether the access comes from a cell that it is not under, or else from its kin.
+fn effect_mark(a: Access, kind: u32, apart: bool, kin: bool) -> u8
+    ensures { λ r. ⌜ r ≡ weight (resultOf sheet6 kind a (originOf apart kin)) ⌝ }
 {
     match a {
-        Access::Reading => 1,
-        Access::Writing => 2,
+        Access::Reading => if kind == 1 { 0 } else { 1 },
+        Access::Writing => {
+            if apart {
+                return 0;
+            }
+            if kin {
+                if kind == 1 { 0 } else { 2 }
+            } else {
+                2
+            }
+        }
     }
 }
 
@@ -33,40 +45,117 @@ fn larger(a: u8, b: u8) -> u8
     if a < b { b } else { a }
 }
 
-// The rows on the ancestry of the name u get 1. Arrays of marks are lent, all zeros: one that is returned is copied.
-pub(crate) fn ancestry_of(
+// The place of the nearest cell, where `found` was found further down, k if none, and the row at i is the next.
+fn nearer(table: &[Row], k: usize, found: usize, i: usize) -> usize
+    requires { ⌜ i < length (now table) ⌝ }
+    ensures { λ r. ⌜ r ≡ nearerOf (rowsIn (now (table .entry))) k found i ⌝ }
+{
+    if found < k {
+        return found;
+    }
+    let c = row_at(table, i);
+    if c.kind == 2 { i } else { k }
+}
+
+// The rows on the ancestry of the name u get 1; the answer is where the nearest cell on it stands, k if there is none. Arrays of marks
+// are lent, all zeros: one that is returned is copied.
+fn ancestry_of(
     table: &[Row],
     k: usize,
     places: &[u16; 1024],
     u: u32,
-    ancestry: &mut [u8; 1024],
-)
-    requires { ⌜ (k ≤ 1024) × Rise (rowsIn (now table)) k × Places (rowsIn (now table)) k (now places) × (now ancestry ≡ replicate 1024 0) ⌝ }
-    ensures { λ _. ⌜ OnAncestry (rowsIn (now (table .entry))) k u (now (ancestry .exit)) ⌝ }
+    relation: &mut [u8; 1024],
+) -> usize
+    requires { ⌜ (k ≤ 1024) × Rise (rowsIn (now table)) k × Places (rowsIn (now table)) k (now places) × (now relation ≡ replicate 1024 0) ⌝ }
+    ensures { λ r. ⌜ OnAncestry (rowsIn (now (table .entry))) k u (now (relation .exit)) × NearestAt (rowsIn (now (table .entry))) k u r ⌝ }
 {
+    let mut cell = k;
     let mut top = k;
     let mut at = find(table, k, u);
     while at < top {
-        ancestry[at] = 1;
+        relation[at] = 1;
+        cell = nearer(table, k, cell, at);
         top = at;
         at = wide(places[at]);
     }
+    cell
 }
 
-// A holder's own mark: what an access to s gives it, where `on` says that it is on the user's ancestry.
-fn own_mark(a: Access, s: Span, t: Span, on: bool) -> u8
-    ensures { λ r. ⌜ r ≡ own a s t on ⌝ }
+// What a row at i gets: 1 stays; elsewhere 2 where its parent, at q, is under the cell, and else 0.
+fn inside_mark(relation: &[u8; 1024], cell: usize, q: usize, i: usize) -> u8
+    requires { ⌜ i < 1024 ⌝ }
+    ensures { λ r. ⌜ r ≡ cond (eqb (getD (now (relation .entry)) i 0) 1) 1 (insideOf (now (relation .entry)) cell q i) ⌝ }
 {
-    if on {
+    if relation[i] == 1 {
+        return 1;
+    }
+    if i <= q {
         return 0;
     }
-    if do_touch(s, t) { effect_mark(a) } else { 0 }
+    if q < cell {
+        return 0;
+    }
+    if relation[q] == 0 { 0 } else { 2 }
+}
+
+// Of the first k rows, those under the cell and not on the ancestry, on which it stands, get 2: all of them stand behind it.
+fn set_inside(k: usize, places: &[u16; 1024], cell: usize, relation: &mut [u8; 1024])
+    requires { ⌜ (k ≤ 1024) × (cell < k) × (length (now relation) ≡ 1024) ⌝ }
+    ensures { λ _. ⌜ SetInside k cell (now (places .entry)) (now (relation .entry)) (now (relation .exit)) ⌝ }
+{
+    let mut i = cell + 1;
+    while i < k {
+        relation[i] = inside_mark(relation, cell, wide(places[i]), i);
+        i += 1;
+    }
+}
+
+// How each row stands to the user u, and whether there is a cell on its ancestry: one climb along it, and where there is one a pass from
+// the cell on.
+pub(crate) fn relate(
+    table: &[Row],
+    k: usize,
+    places: &[u16; 1024],
+    u: u32,
+    relation: &mut [u8; 1024],
+) -> bool
+    requires { ⌜ LiveRows (rowsIn (now table)) k × Places (rowsIn (now table)) k (now places) × (now relation ≡ replicate 1024 0) ⌝ }
+    ensures { λ r. ⌜ Related (rowsIn (now (table .entry))) k u r (now (relation .exit)) ⌝ }
+{
+    let cell = ancestry_of(table, k, places, u, relation);
+    if cell < k {
+        set_inside(k, places, cell, relation);
+        true
+    } else {
+        false
+    }
+}
+
+// Whether the access comes from a cell that a row is not under, by the row's relation.
+fn is_apart(in_cell: bool, relation: u8) -> bool
+    ensures { λ r. ⌜ r ≡ isApart «in_cell» relation ⌝ }
+{
+    if in_cell { relation != 2 } else { false }
+}
+
+// A holder's own mark: what an access to s gives it.
+fn own_mark(a: Access, s: Span, c: Cap, in_cell: bool, relation: u8, kin: bool) -> u8
+    ensures { λ r. ⌜ r ≡ own a s c «in_cell» relation kin ⌝ }
+{
+    if relation == 1 {
+        return 0;
+    }
+    if do_touch(s, span_of(c)) {
+        effect_mark(a, c.kind, is_apart(in_cell, relation), kin)
+    } else {
+        0
+    }
 }
 
 // The mark at q, if q is below i.
 fn mark_below(marks: &[u8; 1024], q: usize, i: usize) -> u8
     requires { ⌜ i ≤ 1024 ⌝ }
-    ensures { λ r. ⌜ r ≡ cond (ltb q i) (getD (now (marks .entry)) q 0) 0 ⌝ }
+    ensures { λ r. ⌜ r ≡ valueBelow (now (marks .entry)) q i ⌝ }
 {
     if q < i { marks[q] } else { 0 }
 }
@@ -78,15 +167,15 @@ fn is_struck(s: Span, t: Span, on: bool) -> bool
     if do_touch(s, t) { !on } else { false }
 }
 
-// How many rows stand in front of the first that an access to s strikes.
-pub(crate) fn first_struck(table: &[Row], k: usize, ancestry: &[u8; 1024], s: Span) -> usize
+// How many rows stand in front of the first that an access to s touches and that is not on the user's ancestry.
+pub(crate) fn first_struck(table: &[Row], k: usize, relation: &[u8; 1024], s: Span) -> usize
     requires { ⌜ (k ≤ 1024) × Rise (rowsIn (now table)) k ⌝ }
-    ensures { λ r. ⌜ Spared (rowsIn (now (table .entry))) k (now (ancestry .entry)) s r ⌝ }
+    ensures { λ r. ⌜ Spared (rowsIn (now (table .entry))) k (now (relation .entry)) s r ⌝ }
 {
     let mut i: usize = 0;
     while i < k {
         let c = row_at(table, i);
-        if is_struck(s, span_of(c), ancestry[i] == 1) {
+        if is_struck(s, span_of(c), relation[i] == 1) {
             return i;
         }
         i += 1;
@@ -100,19 +189,22 @@ pub(crate) fn spread_access(
     first: usize,
     k: usize,
     places: &[u16; 1024],
-    ancestry: &[u8; 1024],
+    relation: &[u8; 1024],
+    in_cell: bool,
     a: Access,
     s: Span,
     marks: &mut [u8; 1024],
 )
-    requires { ⌜ (k ≤ 1024) × Rise (rowsIn (now table)) k × Places (rowsIn (now table)) k (now places) × Spared (rowsIn (now table)) k (now ancestry) s first × (now marks ≡ replicate 1024 0) ⌝ }
-    ensures { λ _. ⌜ Spread (rowsIn (now (table .entry))) k (ownOfAccess (rowsIn (now (table .entry))) (now (ancestry .entry)) a s) (now (marks .exit)) × Quiet k first (now (marks .exit)) ⌝ }
+    requires { ⌜ (k ≤ 1024) × Rise (rowsIn (now table)) k × Places (rowsIn (now table)) k (now places) × Spared (rowsIn (now table)) k (now relation) s first × (now marks ≡ replicate 1024 0) ⌝ }
+    ensures { λ _. ⌜ Spread (rowsIn (now (table .entry))) k (ownOfAccess (rowsIn (now (table .entry))) «in_cell» (now (relation .entry)) (now (places .entry)) a s) (now (marks .exit)) × Quiet k first (now (marks .exit)) ⌝ }
 {
     let mut i = first;
     while i < k {
         let c = row_at(table, i);
-        let owned = own_mark(a, s, span_of(c), ancestry[i] == 1);
-        let up = mark_below(marks, wide(places[i]), i);
+        let q = wide(places[i]);
+        let kin = mark_below(relation, q, i) == 1;
+        let owned = own_mark(a, s, c, in_cell, relation[i], kin);
+        let up = mark_below(marks, q, i);
         marks[i] = larger(owned, up);
         i += 1;
     }

@@ -15,6 +15,7 @@ ghost use mathlib.Core.Path.{_≡_};
 ghost use mathlib.Core.List.{_++_, map};
 ghost use Prim.Native.Nat.{_<_, _≤_};
 ghost use lib.ListN.{length, getD, set, take, drop};
+ghost use Rattle.model.specs.Sheet6.{sheet6};
 ghost use Rattle.model.specs.Step;
 ghost use Rattle.model.specs.Table.{emptyRow};
 ghost use Rattle.model.specs.Answers.{verdictOf};
@@ -95,8 +96,8 @@ fn request_held(rows: &mut [Row; 1024], n: usize, t: Tally, asked: Asked, names:
 
 // A request on the table and the tally that are lent; the names are those of names dropped together.
 pub fn apply(table: &mut [Cap], tally: &mut Tally, asked: Asked, names: &[u32]) -> Answer
-    ensures { λ r. ⌜ (now (table .exit) ≡ Step.after (lends (now (table .entry)) (now (tally .entry))) (requestOf asked (now (names .entry))) .table)
-        × (now (tally .exit) ≡ Step.after (lends (now (table .entry)) (now (tally .entry))) (requestOf asked (now (names .entry))) .tally)
+    ensures { λ r. ⌜ (now (table .exit) ≡ Step.after sheet6 (lends (now (table .entry)) (now (tally .entry))) (requestOf asked (now (names .entry))) .table)
+        × (now (tally .exit) ≡ Step.after sheet6 (lends (now (table .entry)) (now (tally .entry))) (requestOf asked (now (names .entry))) .tally)
         × (verdictOf r ≡ Step.answer (lends (now (table .entry)) (now (tally .entry))) (requestOf asked (now (names .entry)))) ⌝ }
 {
     let mut rows = [[0u32; WIDTH]; 1024];

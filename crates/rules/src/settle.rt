@@ -31,6 +31,7 @@ fn marked_row(c: Cap, mark: u8) -> Cap
             length: c.length,
             right: 1,
             depth: c.depth,
+            kind: c.kind,
         }
     } else {
         c

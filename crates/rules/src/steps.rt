@@ -3,10 +3,10 @@ use crate::Outcome;
 use crate::Progress;
 use crate::count::count_allowed;
 use crate::count::count_refused;
-use crate::marks::ancestry_of;
 use crate::marks::first_owned;
 use crate::marks::first_struck;
 use crate::marks::own_of_names;
+use crate::marks::relate;
 use crate::marks::spread_access;
 use crate::marks::spread_names;
 use crate::settle::lower;
@@ -38,6 +38,7 @@ ghost use Rattle.model.specs.Effects.{afterAccess, rowsWithout, rowsAfter};
 ghost use Rattle.model.specs.Refusals;
 ghost use Rattle.model.specs.Refusals.{viewOf};
 ghost use Rattle.model.specs.Requests.{Single, requestOf};
+ghost use Rattle.model.specs.Sheet6.{sheet6};
 ghost use Rattle.table.specs.Words.{rowsIn};
 ghost use Rattle.table.specs.Rows.{before, Rise, Found, Places, Orderly};
 ghost use Rattle.table.specs.Known.{Known};
@@ -45,8 +46,8 @@ ghost use Rattle.rules.specs.Engine.{Ready, Settled};
 ghost use Rattle.rules.specs.Steps.{Stepped};
 
 // The row of a new capability.
-fn new_row(name: u32, parent: u32, s: Span, right: u32, depth: u32) -> Cap
-    ensures { λ r. ⌜ r ≡ row (record { name = name; parent = parent; span = s }) right depth ⌝ }
+fn new_row(name: u32, parent: u32, s: Span, right: u32, depth: u32, kind: u32) -> Cap
+    ensures { λ r. ⌜ r ≡ row (record { name = name; parent = parent; span = s; kind = kind }) right depth ⌝ }
 {
     let start = s.start;
     Cap {
@@ -56,6 +57,7 @@ fn new_row(name: u32, parent: u32, s: Span, right: u32, depth: u32) -> Cap
         length: s.length,
         right,
         depth,
+        kind,
     }
 }
 
@@ -82,18 +84,19 @@ fn depth_at(table: &[Row], k: usize, u: u32, q: usize) -> u32
 // A read through the name u. No row ends, so each parent stays where it is.
 fn read_rows(table: &mut [Row], k: usize, places: &[u16; 1024], u: u32, s: Span)
     requires { ⌜ Ready (now table) k × Places (rowsIn (now table)) k (now places) ⌝ }
-    ensures { λ _. ⌜ Settled (rowsIn (now (table .exit))) (length (now (table .entry))) k (afterAccess Access.Reading u s (before (rowsIn (now (table .entry))) k)) (now (places .entry)) ⌝ }
+    ensures { λ _. ⌜ Settled (rowsIn (now (table .exit))) (length (now (table .entry))) k (afterAccess sheet6 Access.Reading u s (before (rowsIn (now (table .entry))) k)) (now (places .entry)) ⌝ }
 {
-    let mut ancestry = [0u8; 1024];
-    ancestry_of(table, k, places, u, &mut ancestry);
-    let first = first_struck(table, k, &ancestry, s);
+    let mut relation = [0u8; 1024];
+    let in_cell = relate(table, k, places, u, &mut relation);
+    let first = first_struck(table, k, &relation, s);
     let mut marks = [0u8; 1024];
     spread_access(
         table,
         first,
         k,
         places,
-        &ancestry,
+        &relation,
+        in_cell,
         Access::Reading,
         s,
         &mut marks,
@@ -104,18 +107,19 @@ fn read_rows(table: &mut [Row], k: usize, places: &[u16; 1024], u: u32, s: Span)
 // A write through the name u.
 fn write_rows(table: &mut [Row], k: usize, places: &mut [u16; 1024], u: u32, s: Span) -> usize
     requires { ⌜ Ready (now table) k × Places (rowsIn (now table)) k (now places) ⌝ }
-    ensures { λ r. ⌜ Settled (rowsIn (now (table .exit))) (length (now (table .entry))) r (afterAccess Access.Writing u s (before (rowsIn (now (table .entry))) k)) (now (places .exit)) ⌝ }
+    ensures { λ r. ⌜ Settled (rowsIn (now (table .exit))) (length (now (table .entry))) r (afterAccess sheet6 Access.Writing u s (before (rowsIn (now (table .entry))) k)) (now (places .exit)) ⌝ }
 {
-    let mut ancestry = [0u8; 1024];
-    ancestry_of(table, k, places, u, &mut ancestry);
-    let first = first_struck(table, k, &ancestry, s);
+    let mut relation = [0u8; 1024];
+    let in_cell = relate(table, k, places, u, &mut relation);
+    let first = first_struck(table, k, &relation, s);
     let mut marks = [0u8; 1024];
     spread_access(
         table,
         first,
         k,
         places,
-        &ancestry,
+        &relation,
+        in_cell,
         Access::Writing,
         s,
         &mut marks,
@@ -146,18 +150,18 @@ fn change_event(
     e: Event,
 ) -> usize
     requires { ⌜ Orderly (rowsIn (now table)) (length (now table)) k issued × (Refusals.judge (viewOf (rowsIn (now table)) issued) (Single e) ≡ 0) × Places (rowsIn (now table)) k (now places) ⌝ }
-    ensures { λ r. ⌜ Settled (rowsIn (now (table .exit))) (length (now (table .entry))) r (rowsAfter issued (before (rowsIn (now (table .entry))) k) (Single e)) (now (places .exit)) ⌝ }
+    ensures { λ r. ⌜ Settled (rowsIn (now (table .exit))) (length (now (table .entry))) r (rowsAfter sheet6 issued (before (rowsIn (now (table .entry))) k) (Single e)) (now (places .exit)) ⌝ }
 {
     match e {
         Event::Create(_, s, r) => {
-            let c = new_row(issued + 1, 0, s, r as u32, 1);
+            let c = new_row(issued + 1, 0, s, r as u32, 1, 0);
             let left = write_rows(table, k, places, issued + 1, s);
             append(table, left, places, c, left)
         }
-        Event::Borrow(_, u, s, r) => {
+        Event::Borrow(_, u, s, r, kind) => {
             let q = find(table, k, u.0);
             let d = depth_at(table, k, u.0, q);
-            let c = new_row(issued + 1, u.0, s, r as u32, d + 1);
+            let c = new_row(issued + 1, u.0, s, r as u32, d + 1, kind as u32);
             append(table, k, places, c, q)
         }
         Event::Read(u, s) => {
@@ -182,7 +186,7 @@ fn change(
     names: &[u32],
 ) -> usize
     requires { ⌜ Known (now table) k issued (now places) × (Refusals.judge (viewOf (rowsIn (now table)) issued) (requestOf asked (now names)) ≡ 0) ⌝ }
-    ensures { λ r. ⌜ Settled (rowsIn (now (table .exit))) (length (now (table .entry))) r (rowsAfter issued (before (rowsIn (now (table .entry))) k) (requestOf asked (now (names .entry)))) (now (places .exit)) ⌝ }
+    ensures { λ r. ⌜ Settled (rowsIn (now (table .exit))) (length (now (table .entry))) r (rowsAfter sheet6 issued (before (rowsIn (now (table .entry))) k) (requestOf asked (now (names .entry)))) (now (places .exit)) ⌝ }
 {
     match asked {
         Asked::Single(e) => change_event(table, k, places, issued, e),

@@ -1,4 +1,4 @@
--- What the caller lends: a table of six words a row, and a tally of seven words, in document 01's order of the fields.
+-- What the caller lends: a table of seven words a row, and a tally of seven words, in the record's order of the fields.
 -- Assumes nothing.
 use Prim.Native.Nat.{ℕ}
 use mathlib.Core.List.{List}

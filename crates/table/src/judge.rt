@@ -1,6 +1,7 @@
 // Whether an event is allowed, on a table in order: its checks in their order, and the first that holds.
 use crate::Row;
 use crate::find::find;
+use crate::ordered::is_kind;
 use crate::ordered::is_right;
 use crate::spans::is_inside;
 use crate::spans::is_legal;
@@ -128,11 +129,23 @@ fn judge_create(n: usize, k: usize, issued: u32, w: NewName, s: Span, r: u8) -> 
     room_answer(n, k, issued, w)
 }
 
-fn judge_borrow(table: &[Row], k: usize, issued: u32, w: NewName, u: Name, s: Span, r: u8) -> Answer
+fn judge_borrow(
+    table: &[Row],
+    k: usize,
+    issued: u32,
+    w: NewName,
+    u: Name,
+    s: Span,
+    r: u8,
+    kind: u8,
+) -> Answer
     requires { ⌜ (k ≤ 1024) × Rise (rowsIn (now table)) k × (issued ≤ 1000000) ⌝ }
-    ensures { λ a. ⌜ verdictOf a ≡ verdict (first (checks (before (rowsIn (now (table .entry))) k) issued (length (now (table .entry))) (Single (Event.Borrow w u s r)))) (suc issued) ⌝ }
+    ensures { λ a. ⌜ verdictOf a ≡ verdict (first (checks (before (rowsIn (now (table .entry))) k) issued (length (now (table .entry))) (Single (Event.Borrow w u s r kind)))) (suc issued) ⌝ }
 {
     if !is_right(r as u32) {
+        return Answer::Refused(Refusal::Misspelt);
+    }
+    if !is_kind(kind as u32) {
         return Answer::Refused(Refusal::Misspelt);
     }
     match usable_place(table, k, issued, u, s, r as u32) {
@@ -154,7 +167,7 @@ pub(crate) fn judge(table: &[Row], k: usize, issued: u32, e: Event) -> Answer
 {
     match e {
         Event::Create(w, s, r) => judge_create(table.len(), k, issued, w, s, r),
-        Event::Borrow(w, u, s, r) => judge_borrow(table, k, issued, w, u, s, r),
+        Event::Borrow(w, u, s, r, kind) => judge_borrow(table, k, issued, w, u, s, r, kind),
         Event::Read(u, s) => place_answer(usable_place(table, k, issued, u, s, 1)),
         Event::Write(u, s) => place_answer(usable_place(table, k, issued, u, s, 2)),
         Event::Drop(u) => place_answer(place_of(table, k, issued, u)),

@@ -11,7 +11,7 @@ pub mod spans;
 pub mod words;
 
 // How many words a row has. A record of `model` has as many.
-pub const WIDTH: usize = 6;
+pub const WIDTH: usize = 7;
 
 // A row of a lent table.
 pub type Row = [u32; WIDTH];

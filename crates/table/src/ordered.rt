@@ -8,11 +8,12 @@ use crate::spans::span_of;
 use crate::words::row_at;
 use model::Cap;
 ghost use mathlib.Core.Path.{_≡_};
-ghost use mathlib.Core.Bool.{true};
+ghost use mathlib.Core.Bool.{true, _&&_};
 ghost use Prim.Native.Nat.{suc, _<_, _≤_};
+ghost use lib.Dec.{eqb};
 ghost use lib.ListN.{length, drop};
 ghost use Rattle.model.specs.Lists.{all};
-ghost use Rattle.model.specs.Table.{isEmptyRow, isRight, rowFitsParent, rowInOrder, rowsInOrder, inOrder};
+ghost use Rattle.model.specs.Table.{isEmptyRow, isRight, isKind, rowFitsParent, rowInOrder, rowsInOrder, inOrder};
 ghost use Rattle.table.specs.Words.{rowsIn};
 ghost use Rattle.table.specs.Rows.{before, Filled, Rise, Front, Found, PlacesIf};
 ghost use Rattle.table.specs.Known.{Looks};
@@ -35,7 +36,10 @@ fn is_empty_row(c: Cap) -> bool
     if c.right != 0 {
         return false;
     }
-    c.depth == 0
+    if c.depth != 0 {
+        return false;
+    }
+    c.kind == 0
 }
 
 // The rows from k on are all zeros.
@@ -58,6 +62,19 @@ pub(crate) fn is_right(r: u32) -> bool
     ensures { λ b. ⌜ b ≡ isRight r ⌝ }
 {
     if r == 1 { true } else { r == 2 }
+}
+
+pub(crate) fn is_kind(k: u32) -> bool
+    ensures { λ b. ⌜ b ≡ isKind k ⌝ }
+{
+    k <= 2
+}
+
+// A row without a parent.
+fn root_in_order(c: Cap) -> bool
+    ensures { λ r. ⌜ r ≡ eqb (c .depth) 1 && eqb (c .kind) 0 ⌝ }
+{
+    if c.depth == 1 { c.kind == 0 } else { false }
 }
 
 // A row against its parent's.
@@ -87,8 +104,11 @@ fn row_in_order(table: &[Row], i: usize, c: Cap, q: usize) -> bool
     if !is_right(c.right) {
         return false;
     }
+    if !is_kind(c.kind) {
+        return false;
+    }
     if c.parent.0 == 0 {
-        return c.depth == 1;
+        return root_in_order(c);
     }
     if q < i {
         let p = row_at(table, q);

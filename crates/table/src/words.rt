@@ -22,6 +22,7 @@ pub fn row_at(table: &[Row], i: usize) -> Cap
         length: row[3],
         right: row[4],
         depth: row[5],
+        kind: row[6],
     }
 }
 
@@ -30,7 +31,15 @@ pub fn set_row(table: &mut [Row], i: usize, c: Cap)
     requires { ⌜ i < length (now table) ⌝ }
     ensures { λ _. ⌜ (rowsIn (now (table .exit)) ≡ set (rowsIn (now (table .entry))) i c) × (now (table .exit) ≡ set (now (table .entry)) i (wordsOf c)) ⌝ }
 {
-    table[i] = [c.name.0, c.parent.0, c.start.0, c.length, c.right, c.depth];
+    table[i] = [
+        c.name.0,
+        c.parent.0,
+        c.start.0,
+        c.length,
+        c.right,
+        c.depth,
+        c.kind,
+    ];
 }
 
 // The row of no capability.
@@ -44,5 +53,6 @@ pub fn empty_row() -> Cap
         length: 0,
         right: 0,
         depth: 0,
+        kind: 0,
     }
 }

@@ -9,6 +9,7 @@ pub use Rattle.text.proofs.Laws.Number.{Stops, digit-class, digit-small
 pub use Rattle.text.proofs.Laws.OneLine.{header-is-no-event, spell-is-line}
 pub use Rattle.text.proofs.Laws.OneSpelling.{spelling-reads-back}
 pub use Rattle.text.proofs.Laws.Put.{put-length, put-next, sets-first}
+pub use Rattle.text.proofs.Laws.Range.{kind-short, right-length}
 pub use Rattle.text.proofs.Laws.Read.{same-is, same-refl, same-true}
-pub use Rattle.text.proofs.Laws.Words.{next, number-is, plain-decimal, rights}
+pub use Rattle.text.proofs.Laws.Words.{kinds, next, number-is, plain-decimal, rights}
 pub use Rattle.text.proofs.Laws.Write.{Wrote, writes-none, writes-put, wrote, wrote-none}

@@ -1,4 +1,4 @@
--- Document 01, "The bracket text", and card 1: the one spelling of an event, where no name is written and where names are written out.
+-- Document 01, "The bracket text", and cards 1 and 6: the one spelling of an event, where no name is written and where names are written out.
 -- Assumes nothing.
 use Prim.Native.Nat.{ℕ, _^_, _<_}
 use Prim.Native.Char.{code}
@@ -7,7 +7,7 @@ use Prim.Native.String.{String}
 use mathlib.Core.Bool.{Bool, true, false, cond, _&&_}
 use mathlib.Core.List.{List, [], _∷_, _++_}
 use lib.Dec.{eqb}
-use Rattle.model.specs.Table.{isRight}
+use Rattle.model.specs.Table.{isRight, isKind}
 use Rattle.model.specs.declared.Span.{Span}
 use Rattle.model.specs.declared.NewName.{NewName}
 use Rattle.model.specs.declared.NewName.the-variants.{Unwritten, Written}
@@ -28,12 +28,20 @@ spaced [] = []
 spaced (n ∷ ns) = 32 ∷ (decimal n ++ spaced ns)
 
 -- a line: its word behind the opening bracket, its numbers, and its ending with the closing bracket and byte 10
-abbrev pub line : String → List ℕ → String → List ℕ
-line word numbers ending = bytes word ++ (spaced numbers ++ bytes ending)
+abbrev pub line : String → List ℕ → List ℕ → List ℕ
+line word numbers ending = bytes word ++ (spaced numbers ++ ending)
 
--- the ending of a line that has a right: "1 (`ro`) or 2 (`rw`)"
-abbrev pub ending : ℕ → String
-ending r = cond (eqb r 1) " ro)\n" " rw)\n"
+-- "Values", right: "1 (`ro`) or 2 (`rw`)", with a space before it
+abbrev pub rightWord : ℕ → List ℕ
+rightWord r = cond (eqb r 1) (bytes " ro") (bytes " rw")
+
+-- Card 6: "a last word `raw` or `cell`", with a space before it; a reference has none
+abbrev pub kindWord : ℕ → List ℕ
+kindWord k = cond (eqb k 0) [] (cond (eqb k 1) (bytes " raw") (bytes " cell"))
+
+-- the ending of a line that has a right and a kind
+abbrev pub ending : ℕ → ℕ → List ℕ
+ending r k = rightWord r ++ (kindWord k ++ bytes ")\n")
 
 -- START LENGTH
 abbrev pub spanNumbers : Span → List ℕ
@@ -45,13 +53,14 @@ writtenNumbers Unwritten = []
 writtenNumbers (Written x) = x .0 ∷ []
 
 -- "One form a line, ended by byte 10: `(create START LENGTH RIGHT)`, `(borrow NAME START LENGTH RIGHT)`, `(read NAME START LENGTH)`,
--- `(write NAME START LENGTH)`, `(drop NAME)`." Card 1: `(create 1 0 64 rw)`, `(borrow 2 1 0 8 rw)`.
+-- `(write NAME START LENGTH)`, `(drop NAME)`." Card 1: `(create 1 0 64 rw)`, `(borrow 2 1 0 8 rw)`. Card 6: a borrow's kind is its last
+-- word, and creates make references, whose kind is 0.
 unfoldable pub spell : Event → List ℕ
-spell (Create w s r) = line "(create" (writtenNumbers w ++ spanNumbers s) (ending r)
-spell (Borrow w n s r) = line "(borrow" (writtenNumbers w ++ (n .0 ∷ spanNumbers s)) (ending r)
-spell (Read n s) = line "(read" (n .0 ∷ spanNumbers s) ")\n"
-spell (Write n s) = line "(write" (n .0 ∷ spanNumbers s) ")\n"
-spell (Drop n) = line "(drop" (n .0 ∷ []) ")\n"
+spell (Create w s r) = line "(create" (writtenNumbers w ++ spanNumbers s) (ending r 0)
+spell (Borrow w n s r kind) = line "(borrow" (writtenNumbers w ++ (n .0 ∷ spanNumbers s)) (ending r kind)
+spell (Read n s) = line "(read" (n .0 ∷ spanNumbers s) (bytes ")\n")
+spell (Write n s) = line "(write" (n .0 ∷ spanNumbers s) (bytes ")\n")
+spell (Drop n) = line "(drop" (n .0 ∷ []) (bytes ")\n")
 
 -- the spelling `Plain`, of document 01, writes no new name; `Named`, behind the line `(trace 2)`, always does
 unfoldable pub writesName : Spelling → NewName → Bool
@@ -61,11 +70,11 @@ writesName Named Unwritten = false
 writesName Named (Written x) = true
 
 -- An event has a spelling in one of the two when its name is written as there, and it is not refused in itself, that is not
--- refusal 2 as an "event whose right is neither 1 nor 2". What `spell` gives of any other event is the spelling of none, and no
--- line is read as it.
+-- refusal 2 as an "event whose right is neither 1 nor 2", or as a borrow whose kind is "any other kind number". What `spell` gives of
+-- any other event is the spelling of none, and no line is read as it.
 unfoldable pub hasSpelling : Spelling → Event → Bool
 hasSpelling k (Create w s r) = writesName k w && isRight r
-hasSpelling k (Borrow w n s r) = writesName k w && isRight r
+hasSpelling k (Borrow w n s r kind) = writesName k w && (isKind kind && isRight r)
 hasSpelling k (Read n s) = true
 hasSpelling k (Write n s) = true
 hasSpelling k (Drop n) = true
@@ -78,7 +87,7 @@ Below32 (n ∷ ns) = (n < 2 ^ 32) × Below32 ns
 
 abbrev pub InRange : Event → Type 0
 InRange (Create w s r) = Below32 (writtenNumbers w ++ spanNumbers s)
-InRange (Borrow w n s r) = Below32 (writtenNumbers w ++ (n .0 ∷ spanNumbers s))
+InRange (Borrow w n s r kind) = Below32 (writtenNumbers w ++ (n .0 ∷ spanNumbers s))
 InRange (Read n s) = Below32 (n .0 ∷ spanNumbers s)
 InRange (Write n s) = Below32 (n .0 ∷ spanNumbers s)
 InRange (Drop n) = Below32 (n .0 ∷ [])

@@ -14,7 +14,7 @@ use Rattle.model.specs.Refusals.{misgrouped}
 use Rattle.text.specs.Result.{Result, value, refused}
 use Rattle.text.specs.Line.{afterSpace}
 use Rattle.text.specs.Decimal.{numberOf}
-use Rattle.text.specs.Event.{line}
+use Rattle.text.specs.Event.{bytes, line}
 use Rattle.text.specs.Write.{written, stored, Outcome, tooLong}
 use Rattle.text.specs.Read.{same}
 use Rattle.text.specs.declared.group.GroupRead.{GroupRead}
@@ -22,7 +22,7 @@ use Rattle.text.specs.declared.group.GroupRead.the-variants.{Count, Refu
 
 -- "`(drop 2 5 9)`", ended by byte 10
 unfoldable pub spellGroup : List ℕ → List ℕ
-spellGroup names = line "(drop" names ")\n"
+spellGroup names = line "(drop" names (bytes ")\n")
 
 -- up to k numbers, each at the front of a word, until no word is left
 unfoldable pub namesFrom : ℕ → List ℕ → List ℕ

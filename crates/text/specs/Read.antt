@@ -1,4 +1,4 @@
--- Document 01, "The bracket text", and card 1: what a line reads as in one of the two spellings, the event whose one spelling it is.
+-- Document 01, "The bracket text", and cards 1 and 6: what a line reads as in one of the two spellings, the event whose one spelling it is.
 -- Assumes nothing.
 use Prim.Native.Nat.{ℕ}
 use mathlib.Core.Bool.{Bool, true, false, cond, _&&_}
@@ -38,6 +38,11 @@ spanOf v w = record { start = record { 0 = numberOf v }; length = numberOf w }
 abbrev pub rightOf : List ℕ → ℕ
 rightOf w = cond (eqb (getD w 1 0) 111) 1 2
 
+-- the kind, of the text from the right's word on: behind the right's two letters and a space `raw` has an r, which is byte 114, and
+-- `cell` a c, which is byte 99; where there is no kind, a bracket, a newline or a space stands there
+abbrev pub kindOf : List ℕ → ℕ
+kindOf w = cond (eqb (getD w 3 0) 114) 1 (cond (eqb (getD w 3 0) 99) 2 0)
+
 -- the line of a create or borrow from its new name on, where the spelling writes one, and else the whole line: behind its first space
 -- stand the words that both spellings have
 abbrev pub fromName : Spelling → List ℕ → List ℕ
@@ -56,7 +61,7 @@ createOf k t =
 abbrev pub borrowOf : Spelling → List ℕ → Event
 borrowOf k t =
     Borrow (newNameOf k t) (nameOf (afterSpace t)) (spanOf (afterSpace (afterSpace t)) (afterSpace (afterSpace (afterSpace t))))
-    (rightOf (afterSpace (afterSpace (afterSpace (afterSpace t)))))
+    (rightOf (afterSpace (afterSpace (afterSpace (afterSpace t))))) (kindOf (afterSpace (afterSpace (afterSpace (afterSpace t)))))
 
 -- The one event whose spelling a line can be: its second byte tells the kind (c, b, r, w, or else d). Nothing is refused here. That it
 -- misses no spelling is proved in proofs/Laws/OneSpelling.

@@ -15,7 +15,7 @@ ghost use mathlib.Core.Path.{_≡_};
 ghost use Prim.Native.Nat.{_≤_};
 ghost use lib.ListN.{length, getD};
 ghost use Rattle.text.specs.Event.{spell};
-ghost use Rattle.text.specs.Read.{nameOf, spanOf, rightOf, fromName, newNameOf, createOf, borrowOf, guess, isSpelling, readAnswer, readEvent};
+ghost use Rattle.text.specs.Read.{nameOf, spanOf, rightOf, kindOf, fromName, newNameOf, createOf, borrowOf, guess, isSpelling, readAnswer, readEvent};
 
 // What a line reads as: the event whose spelling it is, or refusal 2.
 pub enum EventRead {
@@ -50,6 +50,21 @@ pub fn right_of(word: &[u8]) -> u8
     ensures { λ r. ⌜ r ≡ rightOf (now (word .entry)) ⌝ }
 {
     if byte_at(word, 1) == b'o' { 1 } else { 2 }
+}
+
+// Internal. The kind that the text from a right's word on spells: behind the right and a space `raw` has an r and `cell` a c, and
+// where there is neither it is a reference.
+pub fn kind_of(word: &[u8]) -> u8
+    ensures { λ r. ⌜ r ≡ kindOf (now (word .entry)) ⌝ }
+{
+    let letter = byte_at(word, 3);
+    if letter == b'r' {
+        1
+    } else if letter == b'c' {
+        2
+    } else {
+        0
+    }
 }
 
 // The line of a create or borrow from its new name on; the whole line where the spelling writes none.
@@ -97,6 +112,7 @@ fn borrow_of(spelling: Spelling, part: &[u8]) -> Event
         name_of(name),
         span_of(start, length),
         right_of(right),
+        kind_of(right),
     )
 }
 
@@ -123,12 +139,12 @@ fn guessed(spelling: Spelling, line: &[u8]) -> Event
     }
 }
 
-// Whether a line is the spelling of an event, the longest of which has 56 bytes.
+// Whether a line is the spelling of an event, the longest of which has 61 bytes.
 fn is_spelling(spelling: Spelling, line: &[u8], event: Event) -> bool
-    requires { ⌜ length (spell event) ≤ 56 ⌝ }
+    requires { ⌜ length (spell event) ≤ 61 ⌝ }
     ensures { λ r. ⌜ r ≡ isSpelling spelling (now (line .entry)) event ⌝ }
 {
-    let mut buffer = [0u8; 56];
+    let mut buffer = [0u8; 61];
     let written = write::write_event(spelling, event, &mut buffer);
     let Written::Length(length) = written else {
         return false;

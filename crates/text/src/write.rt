@@ -10,8 +10,8 @@ use model::Span;
 ghost use mathlib.Core.Path.{_≡_};
 ghost use mathlib.Core.Bool.{true, _&&_};
 ghost use mathlib.Core.List.{[], _++_};
-ghost use Rattle.model.specs.Table.{isRight};
-ghost use Rattle.text.specs.Event.{spaced, bytes, ending};
+ghost use Rattle.model.specs.Table.{isRight, isKind};
+ghost use Rattle.text.specs.Event.{spaced, ending};
 ghost use Rattle.text.specs.Write.{Short, Writes, outcome, writeEvent};
 
 // What a writer answers: the length of the text, or a refusal.
@@ -35,26 +35,46 @@ pub(crate) fn write_line(word: &[u8], numbers: &[u32], ending: &[u8], out: &mut 
     Written::Length(end)
 }
 
-// The same with a right: 1 is `ro`, 2 is `rw`, and any other is refused, as is a line that is not spelled so.
+// Whether these are a right and a kind.
+fn are_right_and_kind(right: u8, kind: u8) -> bool
+    ensures { λ r. ⌜ r ≡ (isKind kind && isRight right) ⌝ }
+{
+    if kind > 2 {
+        false
+    } else if right == 1 {
+        true
+    } else {
+        right == 2
+    }
+}
+
+// Writes a line with a right and a kind: their words, the bracket and the newline are its ending, 5 bytes and the kind's word. Any other
+// number for a right or a kind is refused, as is a line that is not spelled so.
 fn write_with_right(
     spelled: bool,
     word: &[u8],
     numbers: &[u32],
     right: u8,
+    kind: u8,
     out: &mut [u8],
 ) -> Written
     requires { ⌜ Short (now word) (now numbers) [] ⌝ }
-    ensures { λ r. ⌜ Writes (spelled && isRight right) (now (word .entry) ++ (spaced (now (numbers .entry)) ++ bytes (ending right))) (now (out .entry)) (now (out .exit)) r ⌝ }
+    ensures { λ r. ⌜ Writes (spelled && (isKind kind && isRight right)) (now (word .entry) ++ (spaced (now (numbers .entry)) ++ ending right kind)) (now (out .entry)) (now (out .exit)) r ⌝ }
 {
     if !spelled {
-        Written::Refused(Refusal::Misspelt)
-    } else if right == 1 {
-        write_line(word, numbers, b" ro)\n", out)
-    } else if right == 2 {
-        write_line(word, numbers, b" rw)\n", out)
-    } else {
-        Written::Refused(Refusal::Misspelt)
+        return Written::Refused(Refusal::Misspelt);
     }
+    if !are_right_and_kind(right, kind) {
+        return Written::Refused(Refusal::Misspelt);
+    }
+    let total = word.len() + pieces::spaced_length(numbers) + pieces::kind_length(kind as u32) + 5;
+    if out.len() < total {
+        return Written::Refused(Refusal::BufferTooShort);
+    }
+    let past_word = pieces::put_bytes(out, 0, word);
+    let past_numbers = pieces::put_numbers(out, past_word, numbers);
+    let end = pieces::put_ending(out, past_numbers, right as u32, kind as u32);
+    Written::Length(end)
 }
 
 fn write_create(spelling: Spelling, new: NewName, span: Span, right: u8, out: &mut [u8]) -> Written
@@ -64,11 +84,11 @@ fn write_create(spelling: Spelling, new: NewName, span: Span, right: u8, out: &m
     match new {
         NewName::Unwritten => {
             let numbers = [span.start.0, span.length];
-            write_with_right(spelled, b"(create", &numbers, right, out)
+            write_with_right(spelled, b"(create", &numbers, right, 0, out)
         }
         NewName::Written(made) => {
             let numbers = [made.0, span.start.0, span.length];
-            write_with_right(spelled, b"(create", &numbers, right, out)
+            write_with_right(spelled, b"(create", &numbers, right, 0, out)
         }
     }
 }
@@ -79,32 +99,34 @@ fn write_borrow(
     name: Name,
     span: Span,
     right: u8,
+    kind: u8,
     out: &mut [u8],
 ) -> Written
-    ensures { λ r. ⌜ outcome r (now (out .exit)) ≡ writeEvent spelling (Event.Borrow new name span right) (now (out .entry)) ⌝ }
+    ensures { λ r. ⌜ outcome r (now (out .exit)) ≡ writeEvent spelling (Event.Borrow new name span right kind) (now (out .entry)) ⌝ }
 {
     let spelled = spelling::writes_name(spelling, new);
     match new {
         NewName::Unwritten => {
             let numbers = [name.0, span.start.0, span.length];
-            write_with_right(spelled, b"(borrow", &numbers, right, out)
+            write_with_right(spelled, b"(borrow", &numbers, right, kind, out)
         }
         NewName::Written(made) => {
             let numbers = [made.0, name.0, span.start.0, span.length];
-            write_with_right(spelled, b"(borrow", &numbers, right, out)
+            write_with_right(spelled, b"(borrow", &numbers, right, kind, out)
         }
     }
 }
 
 // Writes the line of an event in one of the two spellings at the buffer's first bytes and answers its length; refusal 2 for a right
-// that is neither 1 nor 2 and for a name that is not written as in this spelling, and 11 where the line is longer than the buffer.
+// that is neither 1 nor 2, for a kind above 2 and for a name that is not written as in this spelling, and 11 where the line is longer
+// than the buffer.
 pub fn write_event(spelling: Spelling, event: Event, out: &mut [u8]) -> Written
     ensures { λ r. ⌜ outcome r (now (out .exit)) ≡ writeEvent spelling event (now (out .entry)) ⌝ }
 {
     match event {
         Event::Create(new, span, right) => write_create(spelling, new, span, right, out),
-        Event::Borrow(new, name, span, right) => {
-            write_borrow(spelling, new, name, span, right, out)
+        Event::Borrow(new, name, span, right, kind) => {
+            write_borrow(spelling, new, name, span, right, kind, out)
         }
         Event::Read(name, span) => {
             let numbers = [name.0, span.start.0, span.length];

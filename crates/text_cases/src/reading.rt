@@ -63,11 +63,11 @@ fn case(table: &[u8], start: usize) -> usize {
     behind(table, line_end)
 }
 
-// Runs the cases of a table, at most 64: for each a label, up to a newline, and then the bytes to read, up to a bar.
+// Runs the cases of a table, at most 96: for each a label, up to a newline, and then the bytes to read, up to a bar.
 pub fn cases(table: &[u8]) {
     let mut start = 0;
     let mut turns: u32 = 0;
-    while turns < 64 {
+    while turns < 96 {
         if table.len() <= start {
             return;
         }

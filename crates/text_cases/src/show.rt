@@ -22,9 +22,9 @@ fn say_number(n: u32) {
     io::print_decimal(STDOUT_FILENO, n as u64);
 }
 
-fn say_right(right: u8) {
+fn say_byte(n: u8) {
     say(b" ");
-    io::print_decimal(STDOUT_FILENO, right as u64);
+    io::print_decimal(STDOUT_FILENO, n as u64);
 }
 
 fn say_name(name: Name) {
@@ -69,21 +69,22 @@ fn say_new(new: NewName) {
     }
 }
 
-// An event: its kind, its new name where that is written, and its values, the right as 1 or 2.
+// An event: its word, its new name where that is written, and its values, the right as 1 or 2 and a borrow's kind as 0, 1 or 2.
 pub fn say_event(event: Event) {
     match event {
         Event::Create(new, span, right) => {
             say(b" create");
             say_new(new);
             say_span(span);
-            say_right(right);
+            say_byte(right);
         }
-        Event::Borrow(new, name, span, right) => {
+        Event::Borrow(new, name, span, right, kind) => {
             say(b" borrow");
             say_new(new);
             say_name(name);
             say_span(span);
-            say_right(right);
+            say_byte(right);
+            say_byte(kind);
         }
         Event::Read(name, span) => {
             say(b" read");

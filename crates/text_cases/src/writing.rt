@@ -21,10 +21,10 @@ fn write(label: &[u8], spelling: Spelling, event: Event, out: &mut [u8]) {
     show::say(b"\n");
 }
 
-// Writes an event into so many bytes, at most 20.
+// Writes an event into so many bytes, at most 30.
 fn case(label: &[u8], spelling: Spelling, event: Event, size: usize) {
-    let mut buffer = [b'.'; 20];
-    if size <= 20 {
+    let mut buffer = [b'.'; 30];
+    if size <= 30 {
         write(label, spelling, event, &mut buffer[..size]);
     }
 }
@@ -51,6 +51,25 @@ fn create_named(label: &[u8], right: u8, size: usize) {
     );
 }
 
+fn borrow(label: &[u8], right: u8, kind: u8, size: usize) {
+    let span = Span {
+        start: Addr(0),
+        length: 8,
+    };
+    let event = Event::Borrow(NewName::Unwritten, Name(1), span, right, kind);
+    case(label, Spelling::Plain, event, size);
+}
+
+fn borrow_named(label: &[u8], right: u8, kind: u8, size: usize) {
+    let span = Span {
+        start: Addr(0),
+        length: 8,
+    };
+    let new = NewName::Written(Name(2));
+    let event = Event::Borrow(new, Name(1), span, right, kind);
+    case(label, Spelling::Named, event, size);
+}
+
 fn drop(label: &[u8], size: usize) {
     case(label, Spelling::Plain, Event::Drop(Name(1)), size);
 }
@@ -67,6 +86,11 @@ pub fn lengths() {
         Event::Drop(Name(1)),
         12,
     );
+    borrow(b"borrow rw into 20 bytes:", 2, 0, 20);
+    borrow(b"borrow rw raw into 22 bytes:", 2, 1, 22);
+    borrow(b"borrow ro cell into 25 bytes:", 1, 2, 25);
+    borrow_named(b"borrow 2 ro raw into 25 bytes:", 1, 1, 25);
+    borrow_named(b"borrow 2 rw cell into 26 bytes:", 2, 2, 26);
 }
 
 pub fn refusals() {
@@ -78,6 +102,11 @@ pub fn refusals() {
     create(b"right 3:", 3, 20);
     create(b"right 255 into 1 byte:", 255, 1);
     create_named(b"right 3 where names are written:", 3, 20);
+    borrow(b"borrow rw raw into 21 bytes:", 2, 1, 21);
+    borrow(b"kind 3:", 2, 3, 25);
+    borrow(b"kind 255 into 1 byte:", 1, 255, 1);
+    borrow(b"right 3 of kind 1:", 3, 1, 25);
+    borrow_named(b"kind 3 where names are written:", 2, 3, 30);
     create_in(
         b"no name where names are written:",
         Spelling::Named,

@@ -15,7 +15,7 @@ use Rattle.trace.specs.Run.{Ran, run}
 -- "`(allowed LINES)` or `(refused NUMBER LINE)`"
 unfoldable pub answerLine : ℕ → ℕ → List ℕ
 answerLine refusal number =
-    cond (eqb refusal 0) (line "(allowed" (number ∷ []) ")\n") (line "(refused" (refusal ∷ number ∷ []) ")\n")
+    cond (eqb refusal 0) (line "(allowed" (number ∷ []) (bytes ")\n")) (line "(refused" (refusal ∷ number ∷ []) (bytes ")\n"))
 
 -- ", then the listing"
 abbrev pub report : Ran State → List ℕ

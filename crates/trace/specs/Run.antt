@@ -10,6 +10,7 @@ use Rattle.model.specs.Requests.{Request}
 use Rattle.model.specs.declared.Tally.{Tally}
 use Rattle.model.specs.Table.{inOrder}
 use Rattle.model.specs.Counts.{countRefused}
+use Rattle.model.specs.Sheet6.{sheet6}
 use Rattle.model.specs.Step.{Verdict, State}
 use Rattle.model.specs.Step
 use Rattle.model.specs.Answers.{number, verdictOf}
@@ -78,12 +79,12 @@ module _ {S : Type 0} (c : Checker S) where
   unfoldable pub runFrom : S → List ℕ → Ran S
   runFrom s text = cond (c .ordered s) (runTrace s (linesOf text)) (record { refusal = 1; number = 0; state = s })
 
--- what the caller lends: "Refusals 2 to 10 of .. a line in a run add one to the refused count and change no more"
+-- what the caller lends, by card 6's sheet: "Refusals 2 to 10 of .. a line in a run add one to the refused count and change no more"
 abbrev pub lent : Checker State
 lent = record {
   ordered = λ h. inOrder (h .table) (h .tally .issued);
   answer = Step.answer;
-  after = Step.after;
+  after = Step.after sheet6;
   misspelt = λ h. record { table = h .table; tally = countRefused (h .tally) };
 }
 

@@ -123,16 +123,16 @@ pub fn check(input: &[u8], out: &mut [u8]) -> Written
 
 // What `capcheck` prints: its length, and an array that begins with it.
 pub struct Printed {
-    pub bytes: [u8; 34853],
+    pub bytes: [u8; 39968],
     pub length: usize,
 }
 
 // Runs an input on 1,024 empty rows, and answers with what `capcheck` prints of it. No input has more to print than the array holds, so
 // this refuses none.
 pub fn check_text(input: &[u8]) -> Printed
-    ensures { λ r. ⌜ (take (r .length) (r .bytes) ≡ checkText (now (input .entry))) × (r .length ≤ 34853) × (length (r .bytes) ≡ 34853) ⌝ }
+    ensures { λ r. ⌜ (take (r .length) (r .bytes) ≡ checkText (now (input .entry))) × (r .length ≤ 39968) × (length (r .bytes) ≡ 39968) ⌝ }
 {
-    let mut bytes = [0u8; 34853];
+    let mut bytes = [0u8; 39968];
     let written = check(input, &mut bytes);
     match written {
         Written::Length(length) => Printed { bytes, length },

@@ -64,8 +64,8 @@ fn run_on_empty(rows: usize, issued: u32, input: &[u8]) {
 // The table of refusal 1: rows both named 3.
 fn run_on_disordered(input: &[u8]) {
     let mut table = [[0u32; WIDTH]; 2];
-    table[0] = [3, 0, 0, 0, 0, 0];
-    table[1] = [3, 0, 0, 0, 0, 0];
+    table[0] = [3, 0, 0, 0, 0, 0, 0];
+    table[1] = [3, 0, 0, 0, 0, 0, 0];
     run_on(&mut table, 3, input);
 }
 

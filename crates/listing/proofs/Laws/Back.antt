@@ -8,34 +8,62 @@ use Prim.Native.Nat.{ℕ, zero, suc, _+_, _*_, _^_, _≤_, _<_}
 use native.Mathlib.Omega.{arith}
 use lib.Dec.{ltb, eqb}
 use lib.ListN.{length, getD, drop, length-append, length-reverseAux}
-use borrow.Author.Tests.{lt-ltb, ne-eqb, eqb-true, eqb-false}
+use borrow.Author.Tests.{lt-ltb, eqb-true}
 use Rattle.model.specs.declared.Cap.{Cap}
 use Rattle.model.proofs.Offered.{All, test}
 use Rattle.text.specs.Class.{classOf, newline}
 use Rattle.text.specs.Line.{through, afterSpace}
 use Rattle.text.specs.Decimal.{decimal, numberFrom}
-use Rattle.text.specs.Event.{bytes, spaced}
-use Rattle.text.specs.Read.{rightOf}
-use Rattle.listing.specs.Listing.{right, pieces, form, children, roots, issuedLine, listed, formLength, total, formsLength}
+use Rattle.text.specs.Event.{bytes, spaced, rightWord, kindWord}
+use Rattle.text.specs.Read.{rightOf, kindOf}
+use Rattle.listing.specs.Listing.{pieces, form, children, roots, issuedLine, listed, formLength, total, formsLength}
 use Rattle.listing.proofs.Laws.Sorted.{preorder}
 use Rattle.listing.specs.Forms.{Reading, childrenText, rowOf, childFollows, readForm, readRun, readLine, readLines, guessIssued}
-use Rattle.text.proofs.Offered.{digits, digitAt, decimal-width, Stops, digit-class, digit-small, plain-decimal, next, number-is, rights}
+use Rattle.text.proofs.Offered.{digits, digitAt, decimal-width, Stops, digit-class, digit-small, plain-decimal, next, number-is, rights, kinds}
 use Rattle.listing.proofs.Laws.Listing.{length-form, length-children}
 use Rattle.listing.proofs.Laws.Reading.{run-on, run-off}
 use Rattle.listing.proofs.Laws.Roots.{goes-on, line-more}
 use Rattle.listing.proofs.Laws.Nested.{Fields, Deeper, Nested}
+
+-- ---- where no kind is written
+
+-- none is found behind the two letters of a right, in front of the text x
+abbrev NoKind : List ℕ → Type 0
+NoKind x = kindOf (0 ∷ 0 ∷ x) ≡ 0
+
+-- children are none, or begin with a space and a bracket
+abbrev Begins : List ℕ → Type 0
+Begins s = (s ≡ []) ⊎ ((t : List ℕ) × (s ≡ 32 ∷ (40 ∷ t)))
+
+begins : (p : ℕ) (rows : List Cap) → Begins (children p rows)
+unfolding children form
+begins p [] = inl refl
+begins p (c ∷ rows) = go (eqb (c .parent .0) p) (begins p rows)
+  where
+    go : (b : Bool) → Begins (children p rows) → Begins (cond b (32 ∷ (form c (children (c .name .0) rows) ++ children p rows)) (children p rows))
+    go true h = inr (_, refl)
+    go false h = h
+
+-- so no kind is found in front of them, nor in front of the bracket that they stand behind
+none-inside : (s y : List ℕ) → Begins s → NoKind (41 ∷ y) → NoKind (s ++ (41 ∷ y))
+none-inside s y (inl e) h = rw e h
+none-inside s y (inr t) h = rw (t .1)
+
+none-beside : (s u : List ℕ) → Begins s → getD u 0 0 ≡ 41 → NoKind (41 ∷ (s ++ u))
+none-beside s u (inl e) h = rw (e, h)
+none-beside s u (inr t) h = rw (t .1)
 
 -- ---- a form
 
 -- the words behind a form's bracket, in front of the text x
 module _ (c : Cap) (x : List ℕ) where
   abbrev behind : List ℕ
-  behind = right (c .right) ++ x
+  behind = rightWord (c .right) ++ (kindWord (c .kind) ++ x)
 
   abbrev text : List ℕ
   text = decimal (c .name .0) ++ (spaced (c .start .0 ∷ c .length ∷ []) ++ behind)
 
-  module _ (f : Fields c) where
+  module _ (f : Fields c) (none : NoKind x) where
     stop : Stops behind
     unfolding numberFrom classOf
     stop v = ⊎-elim (λ one. rw one) (λ two. rw two) (rights (c .right) (f .right))
@@ -54,9 +82,20 @@ module _ (c : Cap) (x : List ℕ) where
     unfolding through classOf
     right-back = ⊎-elim (λ one. rw one) (λ two. rw two) (rights (c .right) (f .right))
 
-    inner-back : drop 2 (afterSpace behind) ≡ x
+    -- the kind behind the two letters of a right, and what stands behind the kind
+    kind-found : (a b : ℕ) → kindOf (a ∷ b ∷ (kindWord (c .kind) ++ x)) ≡ c .kind
+    kind-found a b = ⊎-elim (λ zero. rw zero none) (⊎-elim (λ one. rw one) (λ two. rw two)) (kinds (c .kind) (f .kind))
+
+    kind-back : kindOf (afterSpace behind) ≡ c .kind
     unfolding through classOf
-    inner-back = ⊎-elim (λ one. rw one) (λ two. rw two) (rights (c .right) (f .right))
+    kind-back = ⊎-elim (λ one. rw one (kind-found 114 111)) (λ two. rw two (kind-found 114 119)) (rights (c .right) (f .right))
+
+    kind-passed : (a b : ℕ) → drop (2 + length (kindWord (c .kind))) (a ∷ b ∷ (kindWord (c .kind) ++ x)) ≡ x
+    kind-passed a b = ⊎-elim (λ zero. rw zero) (⊎-elim (λ one. rw one) (λ two. rw two)) (kinds (c .kind) (f .kind))
+
+    inner-back : drop (2 + length (kindWord (c .kind))) (afterSpace behind) ≡ x
+    unfolding through classOf
+    inner-back = ⊎-elim (λ one. rw one (kind-passed 114 111)) (λ two. rw two (kind-passed 114 119)) (rights (c .right) (f .right))
 
     row-back : rowOf (40 ∷ text) (c .parent .0) (c .depth) ≡ c
     row-back = λ i. record {
@@ -66,10 +105,14 @@ module _ (c : Cap) (x : List ℕ) where
       length = number-is behind stop (c .length) [] (f .length) length-is i;
       right = (ap rightOf right-is ∙ right-back) i;
       depth = c .depth;
+      kind = (ap kindOf right-is ∙ kind-back) i;
     }
 
     children-back : childrenText (40 ∷ text) ≡ x
-    children-back = ap (drop 2) right-is ∙ inner-back
+    children-back =
+        ap (λ (w : List ℕ). drop (2 + length (kindWord (kindOf w))) w) right-is
+        ∙ ap (λ (k : ℕ). drop (2 + length (kindWord k)) (afterSpace behind)) kind-back
+        ∙ inner-back
 
     -- a form, read from its bracket on, where its run of children is read back
     form-back : (k : ℕ) (y : List ℕ) (acc after : List Cap) → readRun k (c .name .0) (c .depth) (record { rest = x; rows = c ∷ acc }) ≡ record { rest = 41 ∷ y; rows = after }
@@ -86,8 +129,8 @@ form-spelled c inner t = simp append-assoc
 
 -- ---- a run
 
-no-child : (u : List ℕ) (acc : List Cap) (d : ℕ) → (getD u 0 0 ≡ 32 → ⊥) → childFollows d (record { rest = u; rows = acc }) ≡ false
-no-child u acc d h = rw (ne-eqb (getD u 0 0) 32 h) (go (ltb d 64) (ltb (length acc) 1024))
+no-child : (u : List ℕ) (acc : List Cap) (d : ℕ) → getD u 0 0 ≡ 41 → childFollows d (record { rest = u; rows = acc }) ≡ false
+no-child u acc d h = rw h (go (ltb d 64) (ltb (length acc) 1024))
   where
     go : (a b : Bool) → (a && (b && false)) ≡ false
     go true true = refl
@@ -95,15 +138,15 @@ no-child u acc d h = rw (ne-eqb (getD u 0 0) 32 h) (go (ltb d 64) (ltb (length a
     go false b = refl
 
 -- a form behind a space, and the run behind it
-one-back : (c : Cap) (k p d : ℕ) (acc mid after : List Cap) (inner beside u : List ℕ) → Fields c → c .parent .0 ≡ p → c .depth ≡ d + 1 → d < 64 → length acc < 1024
+one-back : (c : Cap) (k p d : ℕ) (acc mid after : List Cap) (inner beside u : List ℕ) → Fields c → NoKind (inner ++ (41 ∷ (beside ++ u))) → c .parent .0 ≡ p → c .depth ≡ d + 1 → d < 64 → length acc < 1024
     → readRun k (c .name .0) (c .depth) (record { rest = inner ++ (41 ∷ (beside ++ u)); rows = c ∷ acc }) ≡ record { rest = 41 ∷ (beside ++ u); rows = mid }
     → readRun (suc k) p d (record { rest = beside ++ u; rows = mid }) ≡ record { rest = u; rows = after }
     → readRun (suc (suc k)) p d (record { rest = (32 ∷ (form c inner ++ beside)) ++ u; rows = acc }) ≡ record { rest = u; rows = after }
-one-back c k p d acc mid after inner beside u f ep ed deep room one more =
+one-back c k p d acc mid after inner beside u f none ep ed deep room one more =
     let spelled : (form c inner ++ beside) ++ u ≡ 40 ∷ text c (inner ++ (41 ∷ (beside ++ u))) = append-assoc (form c inner) beside u ∙ form-spelled c inner (beside ++ u) in
     let r : Reading = record { rest = (32 ∷ (form c inner ++ beside)) ++ u; rows = acc } in
     let follow : childFollows d r ≡ true = rw (lt-ltb d 64 deep, lt-ltb (length acc) 1024 room) in
-    let formed = form-back c (inner ++ (41 ∷ (beside ++ u))) f k (beside ++ u) acc mid one in
+    let formed = form-back c (inner ++ (41 ∷ (beside ++ u))) f none k (beside ++ u) acc mid one in
     let read : readForm (suc k) p (d + 1) (record { rest = (form c inner ++ beside) ++ u; rows = acc }) ≡ record { rest = beside ++ u; rows = mid } =
     (λ i. readForm (suc k) (sym ep i) (sym ed i) (record { rest = spelled i; rows = acc })) ∙ formed in
     run-on (suc k) p d r follow ∙ ap (readRun (suc k) p d) read ∙ more
@@ -113,7 +156,7 @@ aux-append [] b r = refl
 aux-append (x ∷ a) b r = aux-append a b (x ∷ r)
 
 pub run-back : (rows : List Cap) → Nested rows → All Fields rows → (k p d : ℕ) (acc : List Cap) (u : List ℕ) → All (Deeper p d) rows → 1 + 2 * length (preorder p rows) ≤ k → length acc + length (preorder p rows) ≤ 1024
-    → (getD u 0 0 ≡ 32 → ⊥) → readRun k p d (record { rest = children p rows ++ u; rows = acc }) ≡ record { rest = u; rows = reverseAux (preorder p rows) acc }
+    → getD u 0 0 ≡ 41 → readRun k p d (record { rest = children p rows ++ u; rows = acc }) ≡ record { rest = u; rows = reverseAux (preorder p rows) acc }
 unfolding children preorder
 run-back [] ne fs zero p d acc u good h len end = absurd (omega arith)
 run-back [] ne fs (suc k) p d acc u good h len end = run-off k p d (record { rest = u; rows = acc }) (no-child u acc d end)
@@ -134,7 +177,7 @@ run-back (c ∷ rows) ne fs k p d acc u good h len end =
 
     IH : Type 0
     IH = (k p d : ℕ) (acc : List Cap) (u : List ℕ) → All (Deeper p d) rows → 1 + 2 * length (preorder p rows) ≤ k → length acc + length (preorder p rows) ≤ 1024
-        → (getD u 0 0 ≡ 32 → ⊥) → readRun k p d (record { rest = children p rows ++ u; rows = acc }) ≡ record { rest = u; rows = reverseAux (preorder p rows) acc }
+        → getD u 0 0 ≡ 41 → readRun k p d (record { rest = children p rows ++ u; rows = acc }) ≡ record { rest = u; rows = reverseAux (preorder p rows) acc }
 
     yes : c .parent .0 ≡ p → (k : ℕ) → IH → 1 + 2 * length (c ∷ (a ++ b)) ≤ k → length acc + length (c ∷ (a ++ b)) ≤ 1024
         → readRun k p d (record { rest = (32 ∷ (form c (children n rows) ++ children p rows)) ++ u; rows = acc }) ≡ record { rest = u; rows = reverseAux (c ∷ (a ++ b)) acc }
@@ -144,9 +187,10 @@ run-back (c ∷ rows) ne fs k p d acc u good h len end =
         let own = good .0 e in
         let mid : List Cap = reverseAux a (c ∷ acc) in
         let long : length mid ≡ length a + suc (length acc) = length-reverseAux a (c ∷ acc) in
-        let one = ih k n (c .depth) (c ∷ acc) (41 ∷ (children p rows ++ u)) (ne .0) (omega (arith, count)) (omega (arith, count)) (eqb-false 41 32 refl) in
+        let one = ih k n (c .depth) (c ∷ acc) (41 ∷ (children p rows ++ u)) (ne .0) (omega (arith, count)) (omega (arith, count)) refl in
         let more = ih (suc k) p d mid u (good .1) (omega (arith, count)) (omega (arith, count, long)) end in
-        one-back c k p d acc mid (reverseAux b mid) (children n rows) (children p rows) u (fs .0) e (own .0) (own .1) (omega (arith, count)) one more
+        let none = none-inside (children n rows) (children p rows ++ u) (begins n rows) (none-beside (children p rows) u (begins p rows) end) in
+        one-back c k p d acc mid (reverseAux b mid) (children n rows) (children p rows) u (fs .0) none e (own .0) (own .1) (omega (arith, count)) one more
         ∙ (λ i. record { rest = u; rows = sym (aux-append a b (c ∷ acc)) i })
 
     go : (eqb (c .parent .0) p ≡ true) ⊎ (eqb (c .parent .0) p ≡ false) → (k : ℕ) → IH
@@ -169,13 +213,13 @@ no-line zero acc = refl
 no-line (suc k) acc = refl
 
 -- a root's line
-line-back : (c : Cap) (acc mid : List Cap) (inner after : List ℕ) → Fields c → c .parent .0 ≡ 0 → c .depth ≡ 1
+line-back : (c : Cap) (acc mid : List Cap) (inner after : List ℕ) → Fields c → NoKind (inner ++ (41 ∷ (10 ∷ after))) → c .parent .0 ≡ 0 → c .depth ≡ 1
     → ((k : ℕ) → 2 * length inner < k → readRun k (c .name .0) (c .depth) (record { rest = inner ++ (41 ∷ (10 ∷ after)); rows = c ∷ acc }) ≡ record { rest = 41 ∷ (10 ∷ after); rows = mid })
     → readLine (record { rest = form c inner ++ (10 ∷ after); rows = acc }) ≡ record { rest = after; rows = mid }
-line-back c acc mid inner after f ep ed one =
+line-back c acc mid inner after f none ep ed one =
     let s = form c inner ++ (10 ∷ after) in
     let long : length inner ≤ length s = omega (arith, length-append (form c inner) (10 ∷ after), length-form c inner) in
-    let formed = form-back c (inner ++ (41 ∷ (10 ∷ after))) f (2 * length s + 1) (10 ∷ after) acc mid (one (2 * length s + 1) (omega arith)) in
+    let formed = form-back c (inner ++ (41 ∷ (10 ∷ after))) f none (2 * length s + 1) (10 ∷ after) acc mid (one (2 * length s + 1) (omega arith)) in
     let fuel : 2 * length s + 2 ≡ suc (2 * length s + 1) = omega arith in
     ap (λ (r : Reading). record { rest = drop 1 (r .rest); rows = r .rows })
     ((λ i. readForm (fuel i) (sym ep i) (sym ed i) (record { rest = form-spelled c inner (10 ∷ after) i; rows = acc })) ∙ formed)
@@ -208,7 +252,8 @@ lines-back (c ∷ rows) ne fs ds k acc h len = go (test (eqb (c .parent .0) 0)) 
         let mid : List Cap = reverseAux a (c ∷ acc) in
         let long : length mid ≡ length a + suc (length acc) = length-reverseAux a (c ∷ acc) in
         let short : length a ≤ length (children n rows) = omega (arith, length-children n rows, forms-long a) in
-        let one = line-back c acc mid (children n rows) (roots rows) (fs .0) e (ds .0 e) (λ j big. run-back rows (ne .1) (fs .1) j n (c .depth) (c ∷ acc) (41 ∷ (10 ∷ roots rows)) (ne .0) (omega arith) (omega (arith, count)) (eqb-false 41 32 refl)) in
+        let none = none-inside (children n rows) (10 ∷ roots rows) (begins n rows) refl in
+        let one = line-back c acc mid (children n rows) (roots rows) (fs .0) none e (ds .0 e) (λ j big. run-back rows (ne .1) (fs .1) j n (c .depth) (c ∷ acc) (41 ∷ (10 ∷ roots rows)) (ne .0) (omega arith) (omega (arith, count)) refl) in
         let start : Reading = record { rest = form c (children n rows) ++ (10 ∷ roots rows); rows = acc } in
         let some : 0 < length (form c (children n rows) ++ (10 ∷ roots rows)) = omega (arith, length-append (form c (children n rows)) (10 ∷ roots rows)) in
         line-more k start (goes-on start some (omega (arith, count)))

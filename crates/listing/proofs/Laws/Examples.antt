@@ -1,44 +1,48 @@
--- The listing of document 01, and what reading makes of texts beside it.
+-- The listing of document 01, listings with kinds, and what reading makes of texts beside them.
 -- Assumes nothing.
 use mathlib.Core.Path.{_≡_, refl, sym, ap, _∙_}
 use mathlib.Core.Bool.{true}
 use mathlib.Core.List.{List, [], _∷_}
 use Prim.Native.Nat.{ℕ}
+use Prim.Native.String.{String}
 use native.Mathlib.Omega.{arith}
 use Rattle.model.specs.declared.Cap.{Cap}
-use Rattle.model.specs.Table.{emptyRow, liveRows, inOrder, liveRowsFirst, isEmptyRow, rowsInOrder, rowInOrder, parentInOrder, rowFitsParent, lookup}
-use Rattle.text.specs.Decimal.{numeral, decimal}
+use Rattle.model.specs.Table.{emptyRow, liveRows, lentTable, inOrder, liveRowsFirst, isEmptyRow, rowsInOrder, rowInOrder, parentInOrder, rowFitsParent, lookup}
+use Rattle.text.specs.Class.{classOf}
+use Rattle.text.specs.Line.{through}
+use Rattle.text.specs.Decimal.{numeral, decimal, numberFrom}
 use Rattle.text.specs.Event.{bytes, spaced}
-use Rattle.text.specs.Result.{value}
-use Rattle.listing.specs.Listing.{right, pieces, form, children, roots, listed, listing}
-use Rattle.listing.specs.ReadListing.{readListing}
+use Rattle.text.specs.Result.{value, refused}
+use Rattle.text.specs.Read.{same}
+use Rattle.listing.specs.Listing.{pieces, form, children, roots, listed, listing}
+use Rattle.listing.specs.Sort.{insert, sorted}
+use Rattle.listing.specs.Forms.{readForm, readLines, guessRows}
+use Rattle.listing.specs.ReadListing.{isListing, guessTable, readListing}
+use Rattle.listing.specs.WriteListing.{listingWritten}
 use Rattle.listing.specs.Listable.{SmallRows}
 use Rattle.listing.proofs.Laws.Theorems.{read-back}
 
+rowAs : ℕ → ℕ → ℕ → ℕ → ℕ → ℕ → ℕ → Cap
+rowAs k n p s l r d = record { name = record { 0 = n }; parent = record { 0 = p }; start = record { 0 = s }; length = l; right = r; depth = d; kind = k }
+
+-- a reference
 row : ℕ → ℕ → ℕ → ℕ → ℕ → ℕ → Cap
-row n p s l r d = record { name = record { 0 = n }; parent = record { 0 = p }; start = record { 0 = s }; length = l; right = r; depth = d }
-
--- "1 (`ro`) or 2 (`rw`)"
-right-ro : right 1 ≡ bytes " ro"
-right-ro = refl
-
-right-rw : right 2 ≡ bytes " rw"
-right-rw = refl
+row = rowAs 0
 
 -- the table that `capcheck` ends with in document 01, with a row to spare
 table : List Cap
 table = row 1 0 0 64 2 1 ∷ row 2 1 0 16 1 2 ∷ row 3 1 16 16 2 2 ∷ emptyRow ∷ []
 
 in-order : inOrder table 3 ≡ true
-unfolding inOrder liveRowsFirst isEmptyRow rowsInOrder rowInOrder parentInOrder rowFitsParent lookup liveRows table row
+unfolding inOrder liveRowsFirst isEmptyRow rowsInOrder rowInOrder parentInOrder rowFitsParent lookup liveRows table row rowAs
 in-order = refl
 
 its-listing : listing table 3 ≡ bytes "(issued 3)\n(1 0 64 rw (2 0 16 ro) (3 16 16 rw))\n"
-unfolding liveRows table row listed roots children form pieces spaced decimal numeral
+unfolding liveRows table row rowAs listed roots children form pieces spaced decimal numeral
 its-listing = refl
 
 in-range : SmallRows (liveRows table)
-unfolding liveRows table row
+unfolding liveRows table row rowAs
 in-range = ((omega arith, omega arith), ((omega arith, omega arith), ((omega arith, omega arith), tt)))
 
 it-reads : readListing (bytes "(issued 3)\n(1 0 64 rw (2 0 16 ro) (3 16 16 rw))\n") 4 ≡ value (record { table = table; issued = 3 })
@@ -55,5 +59,71 @@ two-roots : List Cap
 two-roots = row 4 0 0 8 1 1 ∷ row 5 0 8 8 2 1 ∷ row 7 5 8 4 2 2 ∷ row 9 7 9 1 1 3 ∷ row 12 5 12 4 1 2 ∷ []
 
 two-listing : listing two-roots 12 ≡ bytes "(issued 12)\n(4 0 8 ro)\n(5 8 8 rw (7 8 4 rw (9 9 1 ro)) (12 12 4 ro))\n"
-unfolding liveRows two-roots row listed roots children form pieces spaced decimal numeral
+unfolding liveRows two-roots row rowAs listed roots children form pieces spaced decimal numeral
 two-listing = refl
+
+-- ---- kinds
+
+-- Card 6: "written by a borrow as a last word `raw` or `cell`, and in listings after the right". A child of a raw capability, and a cell
+-- behind both.
+kinded : List Cap
+kinded = row 1 0 0 64 2 1 ∷ rowAs 1 2 1 0 8 2 2 ∷ row 3 2 0 4 1 3 ∷ rowAs 2 4 1 8 8 1 2 ∷ []
+
+kinded-listing : listing kinded 4 ≡ bytes "(issued 4)\n(1 0 64 rw (2 0 8 rw raw (3 0 4 ro)) (4 8 8 ro cell))\n"
+unfolding liveRows kinded row rowAs listed roots children form pieces spaced decimal numeral
+kinded-listing = refl
+
+kinded-reads : readListing (bytes "(issued 4)\n(1 0 64 rw (2 0 8 rw raw (3 0 4 ro)) (4 8 8 ro cell))\n") 4 ≡ value (record { table = kinded; issued = 4 })
+unfolding kinded row rowAs readListing isListing guessTable guessRows readForm readLines sorted insert same lentTable inOrder liveRowsFirst isEmptyRow rowsInOrder rowInOrder parentInOrder rowFitsParent lookup liveRows listed roots children form pieces spaced decimal numeral numberFrom through classOf
+kinded-reads = refl
+
+-- raw capabilities and cells below each other, each with two children of other kinds
+deeper : List Cap
+deeper =
+    row 1 0 0 64 2 1
+    ∷ rowAs 2 2 1 0 32 2 2
+    ∷ rowAs 1 3 2 0 16 2 3
+    ∷ rowAs 2 5 2 16 16 1 3
+    ∷ row 6 3 0 8 2 4
+    ∷ rowAs 1 7 3 8 8 1 4
+    ∷ row 9 0 64 0 1 1
+    ∷ emptyRow
+    ∷ []
+
+deeper-listing : listing deeper 9 ≡ bytes "(issued 9)\n(1 0 64 rw (2 0 32 rw cell (3 0 16 rw raw (6 0 8 rw) (7 8 8 ro raw)) (5 16 16 ro cell)))\n(9 64 0 ro)\n"
+unfolding liveRows deeper row rowAs listed roots children form pieces spaced decimal numeral
+deeper-listing = refl
+
+deeper-reads : readListing (bytes "(issued 9)\n(1 0 64 rw (2 0 32 rw cell (3 0 16 rw raw (6 0 8 rw) (7 8 8 ro raw)) (5 16 16 ro cell)))\n(9 64 0 ro)\n") 8 ≡ value (record { table = deeper; issued = 9 })
+unfolding deeper row rowAs readListing isListing guessTable guessRows readForm readLines sorted insert same lentTable inOrder liveRowsFirst isEmptyRow rowsInOrder rowInOrder parentInOrder rowFitsParent lookup liveRows listed roots children form pieces spaced decimal numeral numberFrom through classOf
+deeper-reads = refl
+
+-- texts that no table in order has as its listing: `reference` is written, the kind stands before the right, there are two kinds, or one
+-- twice, letters or a space behind a kind, a kind that is none, a root with a kind
+abbrev Misspelt : String → Type 0
+Misspelt s = readListing (bytes s) 4 ≡ refused 2
+
+misspelt-kinds : Misspelt "(issued 2)\n(1 0 64 rw (2 0 8 rw reference))\n"
+    × Misspelt "(issued 2)\n(1 0 64 rw (2 0 8 raw rw))\n"
+    × Misspelt "(issued 2)\n(1 0 64 rw (2 0 8 cell ro))\n"
+    × Misspelt "(issued 2)\n(1 0 64 rw (2 0 8 rw raw cell))\n"
+    × Misspelt "(issued 2)\n(1 0 64 rw (2 0 8 rw raw raw))\n"
+    × Misspelt "(issued 2)\n(1 0 64 rw (2 0 8 rw rawx))\n"
+    × Misspelt "(issued 2)\n(1 0 64 rw (2 0 8 rw cells))\n"
+    × Misspelt "(issued 2)\n(1 0 64 rw (2 0 8 rw raw ))\n"
+    × Misspelt "(issued 2)\n(1 0 64 rw (2 0 8 rwraw))\n"
+    × Misspelt "(issued 2)\n(1 0 64 rw (2 0 8 rw ra))\n"
+    × Misspelt "(issued 2)\n(1 0 64 rw (2 0 8 rw cow))\n"
+    × Misspelt "(issued 2)\n(1 0 64 rw (2 0 8 rw 1))\n"
+    × Misspelt "(issued 1)\n(1 0 64 rw raw)\n"
+    × Misspelt "(issued 2)\n(1 0 64 rw cell (2 0 8 rw))\n"
+unfolding readListing isListing guessTable guessRows readForm readLines sorted insert same lentTable inOrder liveRowsFirst isEmptyRow rowsInOrder rowInOrder parentInOrder rowFitsParent lookup liveRows listed roots children form pieces spaced decimal numeral numberFrom through classOf
+misspelt-kinds = (refl, refl, refl, refl, refl, refl, refl, refl, refl, refl, refl, refl, refl, refl)
+
+-- Card 6: "Any other kind number is refusal 1 in a row, as is a root of kind 1 or 2": such tables have no listing
+abbrev Unlisted : List Cap → Type 0
+Unlisted t = (out : List ℕ) → listingWritten t 2 out ≡ refused 1
+
+unlisted-kinds : Unlisted (row 1 0 0 64 2 1 ∷ rowAs 3 2 1 0 8 2 2 ∷ []) × Unlisted (rowAs 1 1 0 0 64 2 1 ∷ []) × Unlisted (rowAs 2 1 0 0 64 2 1 ∷ [])
+unfolding listingWritten inOrder liveRowsFirst isEmptyRow rowsInOrder rowInOrder parentInOrder rowFitsParent lookup liveRows row rowAs
+unlisted-kinds = (λ out. refl, λ out. refl, λ out. refl)

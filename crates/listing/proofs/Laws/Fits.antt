@@ -1,63 +1,79 @@
 -- How long the listing of a table in order can be.
 -- Assumes nothing.
 use mathlib.Core.Path.{_≡_, refl, ap}
-use mathlib.Core.Bool.{true}
+use mathlib.Core.Bool.{true, false, cond, _&&_}
+use mathlib.Core.Logic.{_⊎_, inl, inr}
 use mathlib.Core.List.{List, [], _∷_, reverse, reverse-cons}
-use Prim.Native.Nat.{ℕ, _+_, _*_, _≤_}
+use Prim.Native.Nat.{ℕ, _+_, _-_, _*_, _≤_}
 use native.Mathlib.Omega.{arith}
 use lib.ListN.{length, length-append, length-reverse}
-use borrow.Author.Tests.{leb-true}
+use lib.Dec.{eqb}
+use borrow.Author.Tests.{leb-true, eqb-true}
 use Rattle.model.specs.declared.Cap.{Cap}
 use Rattle.model.specs.Values.{end}
-use Rattle.model.specs.Table.{span, liveRows, rowInOrder, rowsInOrder, inOrder}
-use Rattle.model.proofs.Offered.{length-live, rises, place}
+use Rattle.model.specs.Table.{span, liveRows, parentInOrder, rowInOrder, rowsInOrder, inOrder}
+use Rattle.model.proofs.Offered.{test, clash, and-both, length-live, rises, place}
 use Rattle.text.specs.Decimal.{decimal}
-use Rattle.text.specs.Event.{spaced}
-use Rattle.text.proofs.Offered.{decimal-under}
+use Rattle.text.specs.Event.{spaced, kindWord}
+use Rattle.text.proofs.Offered.{decimal-under, kind-short}
 use Rattle.listing.specs.Listing.{listing, listed, formLength, total, formsLength}
 use Rattle.listing.specs.Links.{Live}
 use Rattle.listing.proofs.Laws.Live.{live-order}
 use Rattle.listing.proofs.Laws.Listing.{form-length, forms-append, listed-length}
 use Rattle.listing.proofs.Laws.Front.{order, order-live}
 
--- A row has 28 bytes besides its name: two brackets, three spaces, the space or newline, two bytes of its right, and two numbers of ten
--- digits, for a legal span ends at 4,294,967,296 at most.
-row-fits : (c : Cap) (earlier : List Cap) → rowInOrder c earlier ≡ true → formLength c ≤ 28 + length (decimal (c .name .0))
+-- A row has 28 bytes besides its name and its kind: two brackets, three spaces, the space or newline, two bytes of its right, and two
+-- numbers of ten digits, for a legal span ends at 4,294,967,296 at most.
+row-fits : (c : Cap) (earlier : List Cap) → rowInOrder c earlier ≡ true → formLength c ≤ 28 + length (decimal (c .name .0)) + length (kindWord (c .kind))
 unfolding spaced
 row-fits c earlier h =
     let ends = leb-true (end (span c)) 4294967296 (place c earlier h .is-legal) in
     simp (form-length, length-append) (omega (arith, decimal-under (c .start .0) 9 (omega arith), decimal-under (c .length) 9 (omega arith)))
 
+-- the oldest row has none before it, so it is a root, and no root has a word of a kind
+oldest-kind : (c : Cap) → rowInOrder c [] ≡ true → c .kind ≡ 0
+unfolding parentInOrder
+oldest-kind c h = go (test (eqb (c .parent .0) 0)) (place c [] h .does-hang)
+  where
+    go : (eqb (c .parent .0) 0 ≡ true) ⊎ (eqb (c .parent .0) 0 ≡ false) → cond (eqb (c .parent .0) 0) (eqb (c .depth) 1 && eqb (c .kind) 0) false ≡ true → c .kind ≡ 0
+    go (inl t) p = eqb-true (c .kind) 0 (and-both (eqb (c .depth) 1) (eqb (c .kind) 0) (rw t at p) .1)
+    go (inr f) p = clash p (rw f)
+
+-- so a kind has no more bytes than the oldest of the rows before it spares
+kind-fits : (c : Cap) (earlier : List Cap) → rowInOrder c earlier ≡ true → length (kindWord (c .kind)) + (39 * length earlier - 5) ≤ 39 * length earlier
+kind-fits c [] h = omega (arith, ap (λ (k : ℕ). length (kindWord k)) (oldest-kind c h))
+kind-fits c (d ∷ earlier) h = omega (arith, kind-short (c .kind))
+
 -- names below 1,000,000 have six digits
-rows-fit : (bound : ℕ) (rows : List Cap) → bound ≤ 1000000 → rowsInOrder bound rows ≡ true → formsLength rows ≤ 34 * length rows
+rows-fit : (bound : ℕ) (rows : List Cap) → bound ≤ 1000000 → rowsInOrder bound rows ≡ true → formsLength rows ≤ 39 * length rows - 5
 unfolding total
 rows-fit bound [] l h = omega arith
 rows-fit bound (c ∷ rows) l h =
     let r = rises bound c rows h in
-    omega (arith, row-fits c rows (r .in-place), decimal-under (c .name .0) 5 (omega (arith, r .below-bound)), rows-fit (c .name .0) rows (omega (arith, r .below-bound)) (r .rest))
+    omega (arith, row-fits c rows (r .in-place), kind-fits c rows (r .in-place), decimal-under (c .name .0) 5 (omega (arith, r .below-bound)), rows-fit (c .name .0) rows (omega (arith, r .below-bound)) (r .rest))
 
 -- names rise strictly, so only the newest may be 1,000,000, with seven
-live-fit : (rows : List Cap) → rowsInOrder 1000001 rows ≡ true → formsLength rows ≤ 34 * length rows + 1
+live-fit : (rows : List Cap) → rowsInOrder 1000001 rows ≡ true → formsLength rows ≤ (39 * length rows - 5) + 1
 unfolding total
 live-fit [] h = omega arith
 live-fit (c ∷ rows) h =
     let r = rises 1000001 c rows h in
-    omega (arith, row-fits c rows (r .in-place), decimal-under (c .name .0) 6 (omega (arith, r .below-bound)), rows-fit (c .name .0) rows (omega (arith, r .below-bound)) (r .rest))
+    omega (arith, row-fits c rows (r .in-place), kind-fits c rows (r .in-place), decimal-under (c .name .0) 6 (omega (arith, r .below-bound)), rows-fit (c .name .0) rows (omega (arith, r .below-bound)) (r .rest))
 
 forms-reverse : (rows : List Cap) → formsLength (reverse rows) ≡ formsLength rows
 unfolding total
 forms-reverse [] = refl
 forms-reverse (c ∷ rows) = omega (arith, ap formsLength (reverse-cons c rows), forms-append (reverse rows) (c ∷ []), forms-reverse rows)
 
--- the first line has 17 bytes, and each of 1,024 rows 34, and one of them one more
-pub listed-fits : {rows : List Cap} (issued : ℕ) → Live rows → length rows ≤ 1024 → issued ≤ 1000000 → length (listed rows issued) ≤ 34834
+-- the first line has 17 bytes, and each of 1,024 rows 39, the oldest five fewer, and the newest one more
+pub listed-fits : {rows : List Cap} (issued : ℕ) → Live rows → length rows ≤ 1024 → issued ≤ 1000000 → length (listed rows issued) ≤ 39949
 unfolding spaced
 listed-fits {rows} issued live few names =
     rw (listed-length rows issued (live-order live))
     (simp length-append (omega (arith, decimal-under issued 6 (omega arith), live-fit (reverse rows) (live .rises), forms-reverse rows, length-reverse rows)))
 
--- The listing of a table in order has at most 34,834 bytes.
-pub listing-fits : (table : List Cap) (issued : ℕ) → inOrder table issued ≡ true → length (listing table issued) ≤ 34834
+-- The listing of a table in order has at most 39,949 bytes.
+pub listing-fits : (table : List Cap) (issued : ℕ) → inOrder table issued ≡ true → length (listing table issued) ≤ 39949
 listing-fits table issued h =
     let o = order h in
     listed-fits issued (order-live table issued h) (omega (arith, o .few, length-reverse (liveRows table), length-live table)) (o .names)

@@ -14,22 +14,16 @@ use Rattle.model.specs.Table.{emptyRow}
 use Rattle.table.specs.Words.{rowsIn}
 use Rattle.table.proofs.Offered.{length-in}
 use Rattle.table.specs.Rows.{nameAt, parentAt}
-use Rattle.text.specs.Event.{bytes, spaced}
+use Rattle.text.specs.Event.{bytes, spaced, kindWord}
+use Rattle.text.proofs.Offered.{right-length}
 use Rattle.listing.specs.First.{firstRows}
-use Rattle.listing.specs.Listing.{right, pieces, form, children, roots, formAt, childrenFrom, rootsFrom, issuedLine, listed, formLength, total, formsLength}
+use Rattle.listing.specs.Listing.{pieces, form, children, roots, formAt, childrenFrom, rootsFrom, issuedLine, listed, formLength, total, formsLength}
 use Rattle.listing.proofs.Laws.First.{length-first}
 use Rattle.listing.proofs.Laws.Sorted.{preorder, InOrder, sorted-preorder, total-sorted}
 
-pub length-right : (r : ℕ) → length (right r) ≡ 3
-length-right r = go (eqb r 1)
-  where
-    go : (t : Bool) → length (cond t (bytes " ro") (bytes " rw")) ≡ 3
-    go true = refl
-    go false = refl
-
-pub form-length : (c : Cap) → formLength c ≡ 5 + length (spaced (c .name .0 ∷ c .start .0 ∷ c .length ∷ []))
+pub form-length : (c : Cap) → formLength c ≡ 5 + length (spaced (c .name .0 ∷ c .start .0 ∷ c .length ∷ [])) + length (kindWord (c .kind))
 unfolding formLength pieces spaced
-form-length c = simp length-append (omega (arith, length-right (c .right)))
+form-length c = simp (length-append, right-length) (omega arith)
 
 pub length-form : (c : Cap) (inner : List ℕ) → length (form c inner) + 1 ≡ formLength c + length inner
 unfolding form formLength

@@ -10,16 +10,17 @@ use lib.Dec.{leb, eqb}
 use borrow.Author.Tests.{leb-true, eqb-true, eqb-false, eq-eqb}
 use Rattle.model.specs.declared.Cap.{Cap}
 use Rattle.model.specs.Values.{inside}
-use Rattle.model.specs.Table.{span, named, lookup, isRight, rowFitsParent, parentInOrder, rowsInOrder}
+use Rattle.model.specs.Table.{span, named, lookup, isRight, isKind, rowFitsParent, parentInOrder, rowsInOrder}
 use Rattle.model.proofs.Offered.{All, All-map, All-append, All-reverse, test, and-both, rises, place, parentInOrder-rowFitsParent, lookup-each, All-zip}
 use Rattle.listing.specs.Listable.{SmallRows}
 
--- numbers of 32 bits, and a right
+-- numbers of 32 bits, a right, and a kind
 pub record Fields (c : Cap) : Type 0 where
   pub name : c .name .0 < 2 ^ 32
   pub start : c .start .0 < 2 ^ 32
   pub length : c .length < 2 ^ 32
   pub right : isRight (c .right) ≡ true
+  pub kind : isKind (c .kind) ≡ true
 
 -- a row of the parent p, whose depth is d, is one deeper, and not too deep
 abbrev pub Deeper : ℕ → ℕ → Cap → Type 0
@@ -55,7 +56,7 @@ deeper-than bound c earlier nz r h = All-map _ _ each earlier (All-zip _ _ earli
 
 root-depth : (c : Cap) (earlier : List Cap) → parentInOrder c earlier ≡ true → c .parent .0 ≡ 0 → c .depth ≡ 1
 unfolding parentInOrder
-root-depth c earlier h e = eqb-true (c .depth) 1 (rw (eq-eqb (c .parent .0) 0 e) at h)
+root-depth c earlier h e = eqb-true (c .depth) 1 (and-both (eqb (c .depth) 1) (eqb (c .kind) 0) (rw (eq-eqb (c .parent .0) 0 e) at h) .0)
 
 module _ (bound : ℕ) where
   pub nested-reverse : (rows : List Cap) → All (λ x. named 0 x ≡ false) rows → rowsInOrder bound rows ≡ true → Nested (reverse rows)
@@ -83,7 +84,7 @@ fields bound l [] small h = tt
 fields bound l (c ∷ rows) small h =
     let r = rises bound c rows h in
     let p = place c rows (r .in-place) in
-    (record { name = omega (arith, r .below-bound); start = small .0 .0; length = small .0 .1; right = p .has-right }, fields (c .name .0) (omega (arith, r .below-bound)) rows (small .1) (r .rest))
+    (record { name = omega (arith, r .below-bound); start = small .0 .0; length = small .0 .1; right = p .has-right; kind = p .has-kind }, fields (c .name .0) (omega (arith, r .below-bound)) rows (small .1) (r .rest))
 
 pub fields-reverse : (rows : List Cap) → SmallRows rows → (bound : ℕ) → bound ≤ 1000001 → rowsInOrder bound rows ≡ true → All Fields (reverse rows)
 fields-reverse rows small bound l h = All-reverse Fields rows (fields bound l rows small h)

@@ -8,22 +8,27 @@ use Prim.Native.Nat.{ℕ, zero, suc, _+_, _≤_, _<_, max}
 use native.Mathlib.Nat.{not-suc-le-zero}
 use native.Mathlib.Numerals.{add-one}
 use native.Mathlib.Omega.{arith}
-use lib.Dec.{eqb, ltb}
+use lib.Dec.{eqb, leb, ltb}
 use lib.ListN.{length, getD, set, replicate, drop, length-set, length-replicate, getD-replicate, drop-of-length-le}
 use lib.Seq.{getD-set-same, getD-set-other, drop-cons}
-use borrow.Author.Tests.{eqb-true, eqb-false, eq-eqb, ne-eqb, ltb-true, ltb-false}
+use borrow.Author.Tests.{eqb-true, eqb-false, eq-eqb, ne-eqb, ltb-true, ltb-false, lt-ltb, le-ltb, leb-true, leb-false, le-leb, lt-leb}
 use Rattle.model.specs.declared.Span.{Span}
 use Rattle.model.specs.declared.Cap.{Cap}
 use Rattle.model.specs.declared.Access.{Access}
+use Rattle.model.specs.declared.Effect.{Effect}
+use Rattle.model.specs.declared.Effect.the-variants.{Keep, Lower, End}
+use Rattle.model.specs.declared.Origin.{Origin}
+use Rattle.model.specs.declared.Origin.the-variants.{Cell, Kin, Stranger}
 use Rattle.model.specs.Lists.{any}
 use Rattle.model.specs.Derivation.{Derivation, ancestry, inSubtree, onAncestry}
-use Rattle.model.specs.Strike.{Effect, Keep, Lower, End, isLower, isEnd, effectOf, strike, reached, struck}
+use Rattle.model.specs.Strike.{isLower, isEnd, isCell, resultOf, inOtherCell, nearestCell, origin, strike, reached, struck}
+use Rattle.model.specs.Sheet6.{sheet6}
 use Rattle.model.specs.Values.{touches}
 use Rattle.model.specs.Table.{emptyRow, span, derivation, derivations, named, parentInOrder}
 use Rattle.model.specs.Effects.{inSubtrees}
-use Rattle.table.specs.Rows.{nameAt, parentAt, before, Rise, Found, LiveRows}
-use Rattle.rules.specs.Engine.{OnAncestry, weight, own, ownOfAccess, ownOfNames, Owned, mark, Marked, Spread, Downward}
-use Rattle.model.proofs.Offered.{test, clash, or-neither, below-differs, ancestry-here, ancestry-past, Named, place, parentInOrder-rowFitsParent, group-none, group-step, struck-step, no-ancestry}
+use Rattle.table.specs.Rows.{nameAt, parentAt, before, Rise, Found, Places, LiveRows}
+use Rattle.rules.specs.Engine.{OnAncestry, NearestAt, nearerOf, valueBelow, insideOf, SetInside, isApart, Related, weight, originOf, own, ownOfAccess, ownOfNames, Owned, mark, Marked, Spread, Downward}
+use Rattle.model.proofs.Offered.{test, clash, or-neither, below-differs, ancestry-here, ancestry-past, Named, place, parentInOrder-rowFitsParent, group-none, group-step, struck-step, no-ancestry, steps, rowsInOrder-falling, root-has-no-kin, Falling, later-off, nearest-cell, nearest-on, on-line}
 use Rattle.table.proofs.Offered.{last, all-before, at-before, none-named, named-none, place-of, rise-sub, rowsInOrder-rise, rowsInOrder-at}
 
 -- ---- places and names
@@ -55,18 +60,33 @@ unfolding before ancestry
 ancestry-none T zero x h = refl
 ancestry-none T (suc k) x h = let p = or-neither (eqb x (nameAt T k)) (any (named x) (before T k)) h in ancestry-past (derivation (getD T k emptyRow)) (derivations (before T k)) x (p .0) ∙ ancestry-none T k x (p .1)
 
--- the walk up the ancestry of u: what is left is the ancestry of a name that stands at `at` among the first `top` rows, or nowhere
-pub record Walk (T : List Cap) (k u : ℕ) (marks : List ℕ) (top at : ℕ) : Type 0 where
+-- the walk up the ancestry of u: what is left is the ancestry of a name that stands at `at` among the first `top` rows, or nowhere; the nearest
+-- cell stands at `cell`, or is among what is left
+pub record Walk (T : List Cap) (k u : ℕ) (marks : List ℕ) (cell top at : ℕ) : Type 0 where
   pub fits : top ≤ k
   pub long : length marks ≡ 1024
+  pub small : (j : ℕ) → j < k → getD marks j 0 < 2
   pub name : ℕ
+  pub nearest : nearestCell (ancestry (derivations (before T k)) u) ≡ cond (ltb cell k) (nameAt T cell) (nearestCell (ancestry (derivations (before T top)) name))
   pub found : Found T top name at
   pub each : (j : ℕ) → j < k → inSubtree (nameAt T j) (ancestry (derivations (before T k)) u) ≡ eqb (getD marks j 0) 1 || inSubtree (nameAt T j) (ancestry (derivations (before T top)) name)
 
 module _ (T : List Cap) (k u : ℕ) (few : k ≤ 1024) (r : Rise T k) where
-  pub walk-step : (marks : List ℕ) (top q next : ℕ) (w : Walk T k u marks top q) → q < top → Found T q (parentAt T q) next → Walk T k u (set marks q 1) q next
-  walk-step marks top q next w l f = record { fits = omega (arith, w .fits); long = length-set marks q 1 ∙ w .long; name = parentAt T q; found = f; each = λ j m. w .each j m ∙ step j m (test (eqb j q)) }
+  pub walk-step : (marks : List ℕ) (cell top q next : ℕ) (w : Walk T k u marks cell top q) → q < top → Found T q (parentAt T q) next → Walk T k u (set marks q 1) (nearerOf T k cell q) q next
+  walk-step marks cell top q next w l f = record {
+    fits = omega (arith, w .fits);
+    long = length-set marks q 1 ∙ w .long;
+    small = λ j m. little j m (test (eqb j q));
+    name = parentAt T q;
+    nearest = w .nearest ∙ nearer (test (ltb cell k)) (test (isCell (derivation (getD T q emptyRow))));
+    found = f;
+    each = λ j m. w .each j m ∙ step j m (test (eqb j q));
+  }
     where
+      little : (j : ℕ) → j < k → (eqb j q ≡ true) ⊎ (eqb j q ≡ false) → getD (set marks q 1) j 0 < 2
+      little j m (inl t) = let s : j ≡ q = eqb-true j q t in let g : getD (set marks q 1) j 0 ≡ 1 = rw s (getD-set-same marks q 1 0 (omega (arith, w .fits, w .long))) in omega arith
+      little j m (inr f) = rw (getD-set-other marks q j 1 0 (eqb-false j q f)) (w .small j m)
+
       name : ℕ
       name = w .name
 
@@ -75,6 +95,13 @@ module _ (T : List Cap) (k u : ℕ) (few : k ≤ 1024) (r : Rise T k) where
 
       here : ancestry (derivations (before T top)) name ≡ derivation (getD T q emptyRow) ∷ ancestry (derivations (before T q)) (parentAt T q)
       here = ancestry-place T top q name (rise-sub T k top (w .fits) r) l (w .found .here l)
+
+      nearer : (ltb cell k ≡ true) ⊎ (ltb cell k ≡ false) → (isCell (derivation (getD T q emptyRow)) ≡ true) ⊎ (isCell (derivation (getD T q emptyRow)) ≡ false)
+          → cond (ltb cell k) (nameAt T cell) (nearestCell (ancestry (derivations (before T top)) name))
+          ≡ cond (ltb (nearerOf T k cell q) k) (nameAt T (nearerOf T k cell q)) (nearestCell (ancestry (derivations (before T q)) (parentAt T q)))
+      nearer (inl t) c = rw (t, t)
+      nearer (inr t) (inl c) = rw (t, here, c, lt-ltb q k (omega (arith, w .fits)))
+      nearer (inr t) (inr c) = rw (t, here, c, le-ltb k k (omega arith))
 
       step : (j : ℕ) → j < k → (eqb j q ≡ true) ⊎ (eqb j q ≡ false) → eqb (getD marks j 0) 1 || inSubtree (nameAt T j) (ancestry (derivations (before T top)) name) ≡ eqb (getD (set marks q 1) j 0) 1 || inSubtree (nameAt T j) (ancestry (derivations (before T q)) (parentAt T q))
       step j m (inl t) =
@@ -87,8 +114,63 @@ module _ (T : List Cap) (k u : ℕ) (few : k ≤ 1024) (r : Rise T k) where
           let h : eqb (nameAt T j) (nameAt T q) ≡ false = ne-eqb (nameAt T j) (nameAt T q) (λ (d : nameAt T j ≡ nameAt T q). eqb-false j q f (same-place T k j q r m (omega (arith, w .fits)) d)) in
           rw (here, g, h)
 
-  pub walk-over : (marks : List ℕ) (top q : ℕ) → Walk T k u marks top q → top ≤ q → OnAncestry T k u marks
-  walk-over marks top q w h = record { each = λ j m. sym (w .each j m ∙ rw (ancestry-none T top (w .name) (w .found .gone h)) (or-false (eqb (getD marks j 0) 1))) }
+  pub walk-over : (marks : List ℕ) (cell top q : ℕ) → Walk T k u marks cell top q → top ≤ q → OnAncestry T k u marks × NearestAt T k u cell
+  walk-over marks cell top q w h =
+      let none : ancestry (derivations (before T top)) (w .name) ≡ [] = ancestry-none T top (w .name) (w .found .gone h) in
+      (record { long = w .long; each = λ j m. sym (w .each j m ∙ rw none (or-false (eqb (getD marks j 0) 1))); small = w .small }, record { cell = w .nearest ∙ rw none })
+
+-- ---- rows inside a cell
+
+-- those below i are done, and the others are as they were
+pub record SettingInside (i cell : ℕ) (places relation after : List ℕ) : Type 0 where
+  pub done : SetInside i cell places relation after
+  pub rest : (j : ℕ) → i ≤ j → getD after j 0 ≡ getD relation j 0
+
+pub inside-none : (cell : ℕ) (places relation : List ℕ) → length relation ≡ 1024 → SettingInside (cell + 1) cell places relation relation
+inside-none cell places relation h = record { done = record { long = h; front = λ j l. refl; line = λ j l e. e; other = λ j l m. absurd (omega arith) }; rest = λ j l. refl }
+
+module _ (i cell : ℕ) (places relation after : List ℕ) (s : SettingInside i cell places relation after) (behind : cell < i) (few : i < 1024) where
+  abbrev newRelation : ℕ
+  newRelation = cond (eqb (getD after i 0) 1) 1 (insideOf after cell (getD places i 0) i)
+
+  abbrev next : List ℕ
+  next = set after i newRelation
+
+  inside-kept : (j : ℕ) → j < i → getD next j 0 ≡ getD after j 0
+  inside-kept j m = getD-set-other after i j newRelation 0 (λ (e : j ≡ i). omega arith)
+
+  inside-here : getD next i 0 ≡ newRelation
+  inside-here = getD-set-same after i newRelation 0 (omega (arith, s .done .long))
+
+  -- what a row gets is read off at a place before it
+  same-inside : (j : ℕ) → j ≤ i → insideOf after cell (getD places j 0) j ≡ insideOf next cell (getD places j 0) j
+  same-inside j m = go (test (ltb (getD places j 0) j))
+    where
+      go : (ltb (getD places j 0) j ≡ true) ⊎ (ltb (getD places j 0) j ≡ false) → insideOf after cell (getD places j 0) j ≡ insideOf next cell (getD places j 0) j
+      go (inl t) = rw (inside-kept (getD places j 0) (omega (arith, ltb-true (getD places j 0) j t)))
+      go (inr f) = rw f
+
+  pub inside-more : SettingInside (i + 1) cell places relation next
+  inside-more = record {
+    done = record {
+      long = length-set after i newRelation ∙ s .done .long;
+      front = λ j m. inside-kept j (omega arith) ∙ s .done .front j m;
+      line = λ j m e. line j e (last j i m);
+      other = λ j m b e. other j b e (last j i m);
+    };
+    rest = λ j m. getD-set-other after i j newRelation 0 (λ (e : j ≡ i). omega arith) ∙ s .rest j (omega arith);
+  }
+    where
+      line : (j : ℕ) → getD relation j 0 ≡ 1 → (j < i) ⊎ (j ≡ i) → getD next j 0 ≡ 1
+      line j e (inl m) = inside-kept j m ∙ s .done .line j m e
+      line j e (inr z) = rw (z, inside-here, eq-eqb (getD after i 0) 1 (s .rest i (omega arith) ∙ ap (λ (x : ℕ). getD relation x 0) (sym z) ∙ e))
+
+      other : (j : ℕ) → cell < j → (getD relation j 0 ≡ 1 → ⊥) → (j < i) ⊎ (j ≡ i) → getD next j 0 ≡ insideOf next cell (getD places j 0) j
+      other j b e (inl m) = inside-kept j m ∙ s .done .other j m b e ∙ same-inside j (omega arith)
+      other j b e (inr z) = rw z (inside-here ∙ chosen (eqb (getD after i 0) 1) (ne-eqb (getD after i 0) 1 (λ (d : getD after i 0 ≡ 1). e (ap (λ (x : ℕ). getD relation x 0) z ∙ sym (s .rest i (omega arith)) ∙ d))) ∙ same-inside i (omega arith))
+        where
+          chosen : (b : Bool) → b ≡ false → cond b 1 (insideOf after cell (getD places i 0) i) ≡ insideOf after cell (getD places i 0) i
+          chosen b f = rw f
 
 -- ---- marks spread down
 
@@ -161,14 +243,20 @@ greater End true pl = refl
 greater End false true = refl
 greater End false false = refl
 
--- a holder's own mark is its effect's
-own-weight : (a : Access) (s : Span) (user above : List Derivation) (c : Cap) → own a s (span c) (inSubtree (c .name .0) user) ≡ weight (strike a s user (derivation c ∷ above))
-unfolding strike
-own-weight a s user above c = go (touches s (span c) && not (inSubtree (c .name .0) user))
+-- a holder's own mark is its effect's, where its relation to the user is told
+own-weight : (a : Access) (s : Span) (user above : List Derivation) (c : Cap) (inCell : Bool) (relation : ℕ) (kin : Bool) → eqb relation 1 ≡ inSubtree (c .name .0) user
+    → (inSubtree (c .name .0) user ≡ false → isApart inCell relation ≡ inOtherCell user (derivation c ∷ above)) → kin ≡ inSubtree (c .parent .0) user
+    → own a s c inCell relation kin ≡ weight (strike sheet6 a s user (derivation c ∷ above))
+unfolding strike origin
+own-weight a s user above c inCell relation kin on apart is = go (test (inSubtree (c .name .0) user)) (touches s (span c))
   where
-    go : (b : Bool) → cond b (weight (effectOf a)) 0 ≡ weight (cond b (effectOf a) Keep)
-    go true = refl
-    go false = refl
+    go : (inSubtree (c .name .0) user ≡ true) ⊎ (inSubtree (c .name .0) user ≡ false) → (touched : Bool)
+        → cond (touched && not (eqb relation 1)) (weight (resultOf sheet6 (c .kind) a (originOf (isApart inCell relation) kin))) 0
+        ≡ weight (cond (touched && not (inSubtree (c .name .0) user)) (resultOf sheet6 (c .kind) a (cond (inOtherCell user (derivation c ∷ above)) Cell (cond (inSubtree (c .parent .0) user) Kin Stranger))) Keep)
+    go (inl t) true = rw (on, t)
+    go (inl t) false = refl
+    go (inr f) true = rw (on, f, apart f, is)
+    go (inr f) false = refl
 
 module _ (T : List Cap) (k : ℕ) (st : LiveRows T k) where
   abbrev B : List Derivation
@@ -179,6 +267,154 @@ module _ (T : List Cap) (k : ℕ) (st : LiveRows T k) where
 
   stand-named : Named (before T k)
   stand-named = all-before (λ c. named 0 c ≡ false) T k (λ i l. below-differs (st .filled i l))
+
+  falls : Falling (st .bound) B
+  falls = rowsInOrder-falling (st .bound) (before T k) stand-named (st .rise)
+
+  -- a row's ancestry goes on with its parent's
+  line-step : (i : ℕ) → i < k → ancestry B (nameAt T i) ≡ derivation (getD T i emptyRow) ∷ ancestry B (parentAt T i)
+  line-step i l = at-before _ T k (steps (st .bound) (before T k) stand-named (st .rise)) i l
+
+  -- where the parent of a row is not before it, the row is a root
+  rootless : (i : ℕ) → i < k → any (named (parentAt T i)) (before T i) ≡ false → parentAt T i ≡ 0
+  rootless i l gone = go (test (eqb (parentAt T i) 0))
+    where
+      hung : parentInOrder (getD T i emptyRow) (before T i) ≡ true
+      hung = place (getD T i emptyRow) (before T i) (rowsInOrder-at T (st .bound) k (st .rise) i l .1) .does-hang
+
+      go : (eqb (parentAt T i) 0 ≡ true) ⊎ (eqb (parentAt T i) 0 ≡ false) → parentAt T i ≡ 0
+      go (inl t) = eqb-true (parentAt T i) 0 t
+      go (inr f) = clash (parentInOrder-rowFitsParent (getD T i emptyRow) (before T i) f hung .0) gone
+
+  -- ---- how rows stand to a user
+
+  -- whether a row's parent is on the user's ancestry is read off at the parent's place
+  kin-told : (u : ℕ) (relation places : List ℕ) → ((i : ℕ) → i < k → eqb (getD relation i 0) 1 ≡ inSubtree (nameAt T i) (ancestry B u)) → Places T k places
+      → (i : ℕ) → i < k → eqb (valueBelow relation (getD places i 0) i) 1 ≡ inSubtree (parentAt T i) (ancestry B u)
+  kin-told u relation places each p i l = go (test (ltb (getD places i 0) i))
+    where
+      found : Found T i (parentAt T i) (getD places i 0)
+      found = p .each i l
+
+      go : (ltb (getD places i 0) i ≡ true) ⊎ (ltb (getD places i 0) i ≡ false) → eqb (valueBelow relation (getD places i 0) i) 1 ≡ inSubtree (parentAt T i) (ancestry B u)
+      go (inl t) = let b : getD places i 0 < i = ltb-true (getD places i 0) i t in rw t (each (getD places i 0) (omega arith) ∙ ap (λ (x : ℕ). inSubtree x (ancestry B u)) (found .here b))
+      go (inr f) = rw f (sym (root-has-no-kin (st .bound) u B falls (derivation (getD T i emptyRow)) (rootless i l (found .gone (ltb-false (getD places i 0) i f)))))
+
+  -- no cell on the ancestry: no row is apart
+  pub related-none : (u cell : ℕ) (relation : List ℕ) → OnAncestry T k u relation → NearestAt T k u cell → k ≤ cell → Related T k u false relation
+  related-none u cell relation on near h = record { each = on .each; apart = λ i l f. sym (nearest-cell (st .bound) u (nameAt T i) B falls ∙ rw (near .cell, le-ltb cell k h)) }
+
+  -- a cell on it: the rows that are not under it are apart
+  module _ (u cell : ℕ) (relation after places : List ℕ) (on : OnAncestry T k u relation) (near : NearestAt T k u cell) (p : Places T k places) (s : SetInside k cell places relation after) (h : cell < k) where
+    nearest : nearestCell (ancestry B u) ≡ nameAt T cell
+    nearest = near .cell ∙ rw (lt-ltb cell k h)
+
+    -- the cell is on the ancestry
+    cell-on : inSubtree (nameAt T cell) (ancestry B u) ≡ true
+    cell-on = nearest-on (ancestry B u) (nameAt T cell) nearest (st .filled cell h)
+
+    abbrev under : ℕ → Bool
+    under x = inSubtree (nameAt T cell) (ancestry B x)
+
+    abbrev onLine : ℕ → Bool
+    onLine i = inSubtree (nameAt T i) (ancestry B u)
+
+    -- on the ancestry the rows from the cell's place on are under it
+    line-under : (i : ℕ) → i < k → cell ≤ i → onLine i ≡ true → under (nameAt T i) ≡ true
+    line-under i l m t = on-line (st .bound) u (nameAt T i) (nameAt T cell) B falls t cell-on (go (last cell i (omega arith)))
+      where
+        go : (cell < i) ⊎ (cell ≡ i) → nameAt T cell ≤ nameAt T i
+        go (inl b) = omega (arith, stand-rise .sorted cell i b l)
+        go (inr e) = omega (arith, ap (nameAt T) e)
+
+    -- no row in front of the cell is under it
+    front-over : (i : ℕ) → i < cell → under (nameAt T i) ≡ false
+    front-over i m = later-off (st .bound) (nameAt T cell) (nameAt T i) B falls (stand-rise .sorted i cell m h)
+
+    -- a row that is not on the ancestry is not the cell
+    not-cell : (i : ℕ) → onLine i ≡ false → eqb (nameAt T cell) (nameAt T i) ≡ false
+    not-cell i f = ne-eqb (nameAt T cell) (nameAt T i) (λ (e : nameAt T cell ≡ nameAt T i). clash cell-on (ap (λ (x : ℕ). inSubtree x (ancestry B u)) e ∙ f))
+
+    off-line : (i : ℕ) → i < k → onLine i ≡ false → getD relation i 0 ≡ 1 → ⊥
+    off-line i l f e = clash (sym (on .each i l) ∙ eq-eqb (getD relation i 0) 1 e) f
+
+    -- a row elsewhere has 0 or 2
+    value : (i : ℕ) → i < k → onLine i ≡ false → (getD after i 0 ≡ 0) ⊎ (getD after i 0 ≡ 2)
+    value i l f = go (test (leb i cell))
+      where
+        none : (x : ℕ) → x < 2 → (x ≡ 1 → ⊥) → x ≡ 0
+        none zero m d = refl
+        none (suc zero) m d = absurd (d refl)
+        none (suc (suc x)) m d = absurd (omega arith)
+
+        chosen : (b : Bool) (x : ℕ) → x ≡ cond b 2 0 → (x ≡ 0) ⊎ (x ≡ 2)
+        chosen true x e = inr e
+        chosen false x e = inl e
+
+        go : (leb i cell ≡ true) ⊎ (leb i cell ≡ false) → (getD after i 0 ≡ 0) ⊎ (getD after i 0 ≡ 2)
+        go (inl b) = inl (s .front i (leb-true i cell b) ∙ none (getD relation i 0) (on .small i l) (off-line i l f))
+        go (inr b) = chosen (ltb (getD places i 0) i && (leb cell (getD places i 0) && not (eqb (getD after (getD places i 0) 0) 0))) (getD after i 0) (s .other i l (leb-false i cell b) (off-line i l f))
+
+    two-or-none : (x : ℕ) → (x ≡ 0) ⊎ (x ≡ 2) → eqb (cond (not (eqb x 0)) 2 0) 2 ≡ eqb x 2
+    two-or-none x (inl e) = rw e
+    two-or-none x (inr e) = rw e
+
+    -- a row elsewhere has 2 exactly when it is under the cell; n bounds its place
+    inside-below : (n i : ℕ) → i < n → i < k → onLine i ≡ false → eqb (getD after i 0) 2 ≡ under (nameAt T i)
+    inside-below zero i m l f = absurd (not-suc-le-zero m)
+    inside-below (suc n) i m l f = split (test (leb i cell)) (inside-below n)
+      where
+        q : ℕ
+        q = getD places i 0
+
+        goes-on : under (nameAt T i) ≡ under (parentAt T i)
+        goes-on = rw (line-step i l, not-cell i f)
+
+        -- up to the cell no row is under it but the cell itself, which is on the ancestry
+        before-cell : i ≤ cell → eqb (getD after i 0) 2 ≡ under (nameAt T i)
+        before-cell b = ap (λ (x : ℕ). eqb x 2) (s .front i b) ∙ ne-eqb (getD relation i 0) 2 (λ (e : getD relation i 0 ≡ 2). omega (arith, on .small i l)) ∙ sym (front-over i (below (last i cell (omega arith))))
+          where
+            below : (i < cell) ⊎ (i ≡ cell) → i < cell
+            below (inl c) = c
+            below (inr e) = clash cell-on (ap (λ (x : ℕ). inSubtree (nameAt T x) (ancestry B u)) (sym e) ∙ f)
+
+        at-parent : cell < i → q < i → ((j : ℕ) → j < n → j < k → onLine j ≡ false → eqb (getD after j 0) 2 ≡ under (nameAt T j)) → eqb (insideOf after cell q i) 2 ≡ under (nameAt T q)
+        at-parent c b ih = beside (test (leb cell q)) (test (onLine q))
+          where
+            beside : (leb cell q ≡ true) ⊎ (leb cell q ≡ false) → (onLine q ≡ true) ⊎ (onLine q ≡ false) → eqb (insideOf after cell q i) 2 ≡ under (nameAt T q)
+            beside (inr d) o = rw (lt-ltb q i b, d, front-over q (leb-false cell q d))
+            beside (inl d) (inl o) =
+                let one : getD after q 0 ≡ 1 = s .line q (omega arith) (eqb-true (getD relation q 0) 1 (on .each q (omega arith) ∙ o)) in
+                rw (lt-ltb q i b, d, one, line-under q (omega arith) (leb-true cell q d) o)
+            beside (inl d) (inr o) = rw (lt-ltb q i b, d) (two-or-none (getD after q 0) (value q (omega arith) o) ∙ ih q (omega arith) (omega arith) o)
+
+        split : (leb i cell ≡ true) ⊎ (leb i cell ≡ false) → ((j : ℕ) → j < n → j < k → onLine j ≡ false → eqb (getD after j 0) 2 ≡ under (nameAt T j)) → eqb (getD after i 0) 2 ≡ under (nameAt T i)
+        split (inl b) ih = before-cell (leb-true i cell b)
+        split (inr b) ih = ap (λ (x : ℕ). eqb x 2) (s .other i l (leb-false i cell b) (off-line i l f)) ∙ go (test (ltb q i))
+          where
+            go : (ltb q i ≡ true) ⊎ (ltb q i ≡ false) → eqb (insideOf after cell q i) 2 ≡ under (nameAt T i)
+            go (inl t) = let c : q < i = ltb-true q i t in at-parent (leb-false i cell b) c ih ∙ sym (goes-on ∙ ap under (sym (p .each i l .here c)))
+            go (inr g) =
+                let root : parentAt T i ≡ 0 = rootless i l (p .each i l .gone (ltb-false q i g)) in
+                let none : under (parentAt T i) ≡ false = ap under root ∙ rw (no-ancestry (st .bound) (before T k) stand-named (st .rise)) in
+                rw (g, goes-on, none)
+
+    pub related-inside : Related T k u true after
+    related-inside = record {
+      each = λ i l. each i l (test (onLine i));
+      apart = λ i l f. ap not (inside-below (suc i) i (omega arith) l f) ∙ sym (nearest-cell (st .bound) u (nameAt T i) B falls ∙ told i);
+    }
+      where
+        told : (i : ℕ) → (not (eqb (nearestCell (ancestry B u)) 0) && not (inSubtree (nearestCell (ancestry B u)) (ancestry B (nameAt T i)))) ≡ not (under (nameAt T i))
+        told i = rw (nearest, ne-eqb (nameAt T cell) 0 (λ (e : nameAt T cell ≡ 0). omega (arith, st .filled cell h)))
+
+        each : (i : ℕ) → i < k → (onLine i ≡ true) ⊎ (onLine i ≡ false) → eqb (getD after i 0) 1 ≡ onLine i
+        each i l (inl t) = rw (t, s .line i l (eqb-true (getD relation i 0) 1 (on .each i l ∙ t)))
+        each i l (inr f) = rw f (never (getD after i 0) (value i l f))
+          where
+            never : (x : ℕ) → (x ≡ 0) ⊎ (x ≡ 2) → eqb x 1 ≡ false
+            never x (inl e) = rw e
+            never x (inr e) = rw e
 
   -- where each row's mark goes by its own and its parent's, and no parent has mark 0, the marks that spread are these
   module _ (ends lowers : ℕ → Bool) (owned : ℕ → ℕ) (marks : List ℕ) (s : Spread T k owned marks) (none : mark ends lowers 0 ≡ 0)
@@ -206,21 +442,23 @@ module _ (T : List Cap) (k : ℕ) (st : LiveRows T k) where
     marked = record { each = λ i l. marked-below (suc i) i (omega arith) l }
 
   -- an access
-  module _ (a : Access) (sp : Span) (u : ℕ) (onLine marks : List ℕ) (ol : OnAncestry T k u onLine) (s : Spread T k (ownOfAccess T onLine a sp) marks) where
-    none-used : (is : Effect → Bool) → struck is a B u sp 0 ≡ false
+  module _ (a : Access) (sp : Span) (u : ℕ) (inCell : Bool) (relation places marks : List ℕ) (rel : Related T k u inCell relation) (p : Places T k places) (s : Spread T k (ownOfAccess T inCell relation places a sp) marks) where
+    none-used : (is : Effect → Bool) → struck sheet6 is a B u sp 0 ≡ false
     unfolding struck reached onAncestry
     none-used is = rw (no-ancestry (st .bound) (before T k) stand-named (st .rise))
 
-    step-used : (i : ℕ) → i < k → mark (struck isEnd a B u sp) (struck isLower a B u sp) (nameAt T i) ≡ max (ownOfAccess T onLine a sp i) (mark (struck isEnd a B u sp) (struck isLower a B u sp) (parentAt T i))
+    step-used : (i : ℕ) → i < k → mark (struck sheet6 isEnd a B u sp) (struck sheet6 isLower a B u sp) (nameAt T i) ≡ max (ownOfAccess T inCell relation places a sp i) (mark (struck sheet6 isEnd a B u sp) (struck sheet6 isLower a B u sp) (parentAt T i))
     step-used i l =
-        let f : (is : Effect → Bool) → struck is a B u sp (nameAt T i) ≡ is (strike a sp (ancestry B u) (derivation (getD T i emptyRow) ∷ ancestry B (parentAt T i))) || struck is a B u sp (parentAt T i) =
-        λ is. at-before _ T k (struck-step (st .bound) (before T k) stand-named (st .rise) is a u sp) i l in
-        let o : ownOfAccess T onLine a sp i ≡ weight (strike a sp (ancestry B u) (derivation (getD T i emptyRow) ∷ ancestry B (parentAt T i))) =
-        ap (own a sp (span (getD T i emptyRow))) (ol .each i l) ∙ own-weight a sp (ancestry B u) (ancestry B (parentAt T i)) (getD T i emptyRow) in
-        rw (f isEnd, f isLower, o) (sym (greater (strike a sp (ancestry B u) (derivation (getD T i emptyRow) ∷ ancestry B (parentAt T i))) (struck isEnd a B u sp (parentAt T i)) (struck isLower a B u sp (parentAt T i))))
+        let c : Cap = getD T i emptyRow in
+        let above : List Derivation = ancestry B (parentAt T i) in
+        let f : (is : Effect → Bool) → struck sheet6 is a B u sp (nameAt T i) ≡ is (strike sheet6 a sp (ancestry B u) (derivation c ∷ above)) || struck sheet6 is a B u sp (parentAt T i) =
+        λ is. at-before _ T k (struck-step (st .bound) (before T k) stand-named (st .rise) sheet6 is a u sp) i l in
+        let o : ownOfAccess T inCell relation places a sp i ≡ weight (strike sheet6 a sp (ancestry B u) (derivation c ∷ above)) =
+        own-weight a sp (ancestry B u) above c inCell (getD relation i 0) (eqb (valueBelow relation (getD places i 0) i) 1) (rel .each i l) (λ z. rel .apart i l z ∙ ap (inOtherCell (ancestry B u)) (line-step i l)) (kin-told u relation places (rel .each) p i l) in
+        rw (f isEnd, f isLower, o) (sym (greater (strike sheet6 a sp (ancestry B u) (derivation c ∷ above)) (struck sheet6 isEnd a B u sp (parentAt T i)) (struck sheet6 isLower a B u sp (parentAt T i))))
 
-    pub marked-use : Marked T k marks (struck isEnd a B u sp) (struck isLower a B u sp)
-    marked-use = marked (struck isEnd a B u sp) (struck isLower a B u sp) (ownOfAccess T onLine a sp) marks s (rw (none-used isEnd, none-used isLower)) step-used
+    pub marked-use : Marked T k marks (struck sheet6 isEnd a B u sp) (struck sheet6 isLower a B u sp)
+    marked-use = marked (struck sheet6 isEnd a B u sp) (struck sheet6 isLower a B u sp) (ownOfAccess T inCell relation places a sp) marks s (rw (none-used isEnd, none-used isLower)) step-used
 
   -- the place of a name is told by it
   module _ (u q : ℕ) (f : Found T k u q) where
@@ -275,5 +513,16 @@ module _ (T : List Cap) (k : ℕ) (st : LiveRows T k) where
 
 -- ---- the walk begins
 
-pub walk-first : (T : List Cap) (k u q : ℕ) → k ≤ 1024 → Found T k u q → Walk T k u (replicate 1024 0) k q
-walk-first T k u q few f = record { fits = omega arith; long = length-replicate {A = ℕ} 1024 0; name = u; found = f; each = λ j l. rw (getD-replicate {A = ℕ} 1024 j 0 0 (omega arith)) }
+pub walk-first : (T : List Cap) (k u q : ℕ) → k ≤ 1024 → Found T k u q → Walk T k u (replicate 1024 0) k k q
+walk-first T k u q few f = record {
+  fits = omega arith;
+  long = length-replicate {A = ℕ} 1024 0;
+  small = λ j l. rw (zero-at j l) (omega arith);
+  name = u;
+  nearest = rw (le-ltb k k (omega arith));
+  found = f;
+  each = λ j l. rw (zero-at j l);
+}
+  where
+    zero-at : (j : ℕ) → j < k → getD (replicate {A = ℕ} 1024 0) j 0 ≡ 0
+    zero-at j l = getD-replicate {A = ℕ} 1024 j 0 0 (omega arith)

@@ -17,6 +17,7 @@ use Rattle.model.specs.declared.Answer.the-variants.{Refused}
 use Rattle.model.specs.declared.Refusal.the-variants.{Disordered}
 use Rattle.model.specs.Table.{emptyRow}
 use Rattle.model.specs.Requests.{Request}
+use Rattle.model.specs.Sheet6.{sheet6}
 use Rattle.model.specs.Step.{State, after}
 use Rattle.model.specs.Step
 use Rattle.model.specs.Answers.{verdictOf}
@@ -114,7 +115,7 @@ requested-many ws n t q l = record { long = refl; few = λ h. absurd (omega arit
 module _ (ys : List Cap) (t : Tally) (q : Request) (w ws : List (List ℕ)) (r : Outcome) (s : Requested (loaded ys w (held (length ys))) (length ys) t q ws r) where
   abbrev Left : Type 0
   Left =
-      (stored ys ws (held (length ys)) ≡ after (lends ys t) q .table) × (r .tally ≡ after (lends ys t) q .tally)
+      (stored ys ws (held (length ys)) ≡ after sheet6 (lends ys t) q .table) × (r .tally ≡ after sheet6 (lends ys t) q .tally)
       × (verdictOf (r .answer) ≡ Step.answer (lends ys t) q)
 
   module _ (l : length ys ≤ 1024) where
@@ -139,7 +140,7 @@ module _ (ys : List Cap) (t : Tally) (q : Request) (w ws : List (List ℕ)) (r :
     left-few =
         let a : Stepped w₁ t q (take (length ys) ws) r = s .few l in
         let h : lends (rowsIn w₁) t ≡ lends ys t = ap (λ (rows : List Cap). lends rows t) all-loaded in
-        (all-stored ∙ a .table ∙ ap (λ (x : State). after x q .table) h, a .tally ∙ ap (λ (x : State). after x q .tally) h, a .answer ∙ ap (λ (x : State). Step.answer x q) h)
+        (all-stored ∙ a .table ∙ ap (λ (x : State). after sheet6 x q .table) h, a .tally ∙ ap (λ (x : State). after sheet6 x q .tally) h, a .answer ∙ ap (λ (x : State). Step.answer x q) h)
 
   -- a longer table is not in order
   left-many : 1024 < length ys → Left
@@ -148,7 +149,7 @@ module _ (ys : List Cap) (t : Tally) (q : Request) (w ws : List (List ℕ)) (r :
       let d : Stepped (map wordsOf ys) t q (map wordsOf ys) (record { tally = t; answer = Refused Disordered }) = stepped-disordered (map wordsOf ys) t q (too-many (map wordsOf ys) (t .issued) long) in
       let h : lends (rowsIn (map wordsOf ys)) t ≡ lends ys t = ap (λ (rows : List Cap). lends rows t) (rows-words ys) in
       let kept : stored ys ws (held (length ys)) ≡ rowsIn (map wordsOf ys) = ap (stored ys ws) (held-many (length ys) l) ∙ sym (rows-words ys) in
-      (kept ∙ d .table ∙ ap (λ (x : State). after x q .table) h, s .many l .0 ∙ d .tally ∙ ap (λ (x : State). after x q .tally) h, s .many l .1 ∙ d .answer ∙ ap (λ (x : State). Step.answer x q) h)
+      (kept ∙ d .table ∙ ap (λ (x : State). after sheet6 x q .table) h, s .many l .0 ∙ d .tally ∙ ap (λ (x : State). after sheet6 x q .tally) h, s .many l .1 ∙ d .answer ∙ ap (λ (x : State). Step.answer x q) h)
 
   pub left : Left
   left = go (test (leb (length ys) 1024))

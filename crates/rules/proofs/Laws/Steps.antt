@@ -25,8 +25,8 @@ use Rattle.model.specs.declared.Refusal.{Refusal}
 use Rattle.model.specs.declared.Refusal.the-variants.{Disordered}
 use Rattle.model.specs.declared.Answer.the-variants.{Allowed, Refused}
 use Rattle.model.specs.Lists.{first, any, all}
-use Rattle.model.specs.Values.{touches}
-use Rattle.model.specs.Strike.{Keep, isEnd, isLower, effectOf, strike, reached, struck}
+use Rattle.model.specs.Strike.{isEnd, isLower, reached, struck}
+use Rattle.model.specs.Sheet6.{sheet6}
 use Rattle.model.specs.Derivation.{Derivation, ancestry, inSubtree, onAncestry}
 use Rattle.model.specs.Step.{Verdict, State, verdict, outcome, after, answer}
 use Rattle.model.specs.Table.{row, emptyRow, derivations, named, liveRows, lookup, lentTable, inOrder}
@@ -41,7 +41,7 @@ use Rattle.table.specs.Words.{rowsIn}
 use Rattle.table.specs.Rows.{nameAt, before, Filled, Front, Found, Places, Orderly}
 use Rattle.rules.specs.Engine.{Marked, kept, Ready, Settled}
 use Rattle.rules.specs.Steps.{lends, Stepped}
-use Rattle.model.proofs.Offered.{test, and-both, allowed, ordered-not-1, access-fits, Named, live-lent, Ordered, ordered, live-named, access-inOrder, access-named, order-after}
+use Rattle.model.proofs.Offered.{test, and-both, allowed, ordered-not-1, access-fits, Named, live-lent, Ordered, ordered, live-named, access-inOrder, access-named, order-after, reads-end-none}
 use Rattle.table.proofs.Offered.{length-in, before-suc, before-same, length-before, extend, Alike, places-more, found-zero, numbered, orderly-live, orderly-rise, orderly-standing, orderly-judge, orderly-zeros}
 use Rattle.rules.proofs.Laws.Settle.{before-lent, kept-revoke}
 
@@ -73,16 +73,12 @@ appended-settled T n k q c places b few l z f m g p = record {
     new = getD-set-same T k c emptyRow (omega arith)
 
 -- a read ends no row
-no-end : (s : Span) (user holder : List Derivation) → reached isEnd Reading s user holder ≡ false
-unfolding reached onAncestry strike
+no-end : (s : Span) (user holder : List Derivation) → reached sheet6 isEnd Reading s user holder ≡ false
+unfolding reached onAncestry
 no-end s user [] = refl
-no-end s user (d ∷ above) = go (touches s (d .span) && not (inSubtree (d .name) user)) (no-end s user above)
-  where
-    go : (b : Bool) → onAncestry (λ h. isEnd (strike Reading s user h)) above ≡ false → isEnd (cond b (effectOf Reading) Keep) || onAncestry (λ h. isEnd (strike Reading s user h)) above ≡ false
-    go true e = e
-    go false e = e
+no-end s user (d ∷ above) = rw (reads-end-none s user (d ∷ above)) (no-end s user above)
 
-pub read-marks : (marks : List ℕ) (T : List Cap) (k u : ℕ) (s : Span) (lowers : ℕ → Bool) → Marked T k marks (struck isEnd Reading (derivations (before T k)) u s) lowers → (j : ℕ) → j < k → getD marks j 0 < 2
+pub read-marks : (marks : List ℕ) (T : List Cap) (k u : ℕ) (s : Span) (lowers : ℕ → Bool) → Marked T k marks (struck sheet6 isEnd Reading (derivations (before T k)) u s) lowers → (j : ℕ) → j < k → getD marks j 0 < 2
 unfolding struck
 read-marks marks T k u s lowers m j l = go (lowers (nameAt T j)) (m .each j l ∙ ap (λ (b : Bool). cond b 2 (cond (lowers (nameAt T j)) 1 0)) (no-end s (ancestry (derivations (before T k)) u) (ancestry (derivations (before T k)) (nameAt T j))))
   where
@@ -91,10 +87,10 @@ read-marks marks T k u s lowers m j l = go (lowers (nameAt T j)) (m .each j l �
     go false e = omega arith
 
 -- the marks of an access leave what the rules leave
-pub kept-used : (marks : List ℕ) (T : List Cap) (k u : ℕ) (a : Access) (s : Span) → Marked T k marks (struck isEnd a (derivations (before T k)) u s) (struck isLower a (derivations (before T k)) u s)
-    → kept marks T k ≡ afterAccess a u s (before T k)
+pub kept-used : (marks : List ℕ) (T : List Cap) (k u : ℕ) (a : Access) (s : Span) → Marked T k marks (struck sheet6 isEnd a (derivations (before T k)) u s) (struck sheet6 isLower a (derivations (before T k)) u s)
+    → kept marks T k ≡ afterAccess sheet6 a u s (before T k)
 unfolding afterAccess
-kept-used marks T k u a s m = kept-revoke marks (struck isEnd a (derivations (before T k)) u s) (struck isLower a (derivations (before T k)) u s) T k m
+kept-used marks T k u a s m = kept-revoke marks (struck sheet6 isEnd a (derivations (before T k)) u s) (struck sheet6 isLower a (derivations (before T k)) u s) T k m
 
 module _ (ws : List (List ℕ)) (k issued : ℕ) (o : Orderly (rowsIn ws) (length ws) k issued) where
   abbrev T : List Cap
@@ -111,23 +107,23 @@ module _ (ws : List (List ℕ)) (k issued : ℕ) (o : Orderly (rowsIn ws) (lengt
 
   pub room-create : (w : NewName) (s : Span) (r : ℕ) → judge (viewOf T issued) (Single (Create w s r)) ≡ 0 → k < length ws
   unfolding refusals
-  room-create w s r h = room-of (allowed T issued (Single (Create w s r)) h 10)
+  room-create w s r h = room-of (allowed (viewOf T issued) (Single (Create w s r)) h 10)
 
-  pub room-borrow : (w : NewName) (u : Name) (s : Span) (r : ℕ) → judge (viewOf T issued) (Single (Borrow w u s r)) ≡ 0 → k < length ws
+  pub room-borrow : (w : NewName) (u : Name) (s : Span) (r kind : ℕ) → judge (viewOf T issued) (Single (Borrow w u s r kind)) ≡ 0 → k < length ws
   unfolding refusals
-  room-borrow w u s r h = room-of (allowed T issued (Single (Borrow w u s r)) h 10)
+  room-borrow w u s r kind h = room-of (allowed (viewOf T issued) (Single (Borrow w u s r kind)) h 10)
 
-  pub there-borrow : (w : NewName) (u : Name) (s : Span) (r : ℕ) → judge (viewOf T issued) (Single (Borrow w u s r)) ≡ 0 → any (named (u .0)) (before T k) ≡ true
+  pub there-borrow : (w : NewName) (u : Name) (s : Span) (r kind : ℕ) → judge (viewOf T issued) (Single (Borrow w u s r kind)) ≡ 0 → any (named (u .0)) (before T k) ≡ true
   unfolding refusals
-  there-borrow w u s r h = rw live-is at (not-false (any (named (u .0)) (liveRows T)) (allowed T issued (Single (Borrow w u s r)) h 5))
+  there-borrow w u s r kind h = rw live-is at (not-false (any (named (u .0)) (liveRows T)) (allowed (viewOf T issued) (Single (Borrow w u s r kind)) h 5))
 
-  pub depth-borrow : (w : NewName) (u : Name) (s : Span) (r : ℕ) → judge (viewOf T issued) (Single (Borrow w u s r)) ≡ 0 → lookup (u .0) (before T k) .depth < 64
+  pub depth-borrow : (w : NewName) (u : Name) (s : Span) (r kind : ℕ) → judge (viewOf T issued) (Single (Borrow w u s r kind)) ≡ 0 → lookup (u .0) (before T k) .depth < 64
   unfolding refusals
-  depth-borrow w u s r h = leb-false 64 (lookup (u .0) (before T k) .depth) (rw live-is at (allowed T issued (Single (Borrow w u s r)) h 8))
+  depth-borrow w u s r kind h = leb-false 64 (lookup (u .0) (before T k) .depth) (rw live-is at (allowed (viewOf T issued) (Single (Borrow w u s r kind)) h 8))
 
 -- after an access through any name the table is in order, its live rows are those that are left, and they are no more than before
 module _ (ws : List (List ℕ)) (k issued : ℕ) (o : Orderly (rowsIn ws) (length ws) k issued) (a : Access) (u : ℕ) (s : Span) (ws′ : List (List ℕ)) {r : ℕ} {places : List ℕ}
-    (left : Settled (rowsIn ws′) (length ws) r (afterAccess a u s (before (rowsIn ws) k)) places) (long : length ws′ ≡ length ws) where
+    (left : Settled (rowsIn ws′) (length ws) r (afterAccess sheet6 a u s (before (rowsIn ws) k)) places) (long : length ws′ ≡ length ws) where
   abbrev old : List Cap
   old = before (rowsIn ws) k
 
@@ -140,17 +136,17 @@ module _ (ws : List (List ℕ)) (k issued : ℕ) (o : Orderly (rowsIn ws) (lengt
     all = length-in ws′;
     front = rw long (left .front);
     ordered =
-        ap (λ (t : List Cap). inOrder t issued) (left .table ∙ ap₂ (λ (m : ℕ) (rows : List Cap). lentTable m (afterAccess a u s rows)) (sym (o .all)) (sym live-old))
-        ∙ access-inOrder (rowsIn ws) issued (ordered (rowsIn ws) issued (o .ordered)) a u s;
+        ap (λ (t : List Cap). inOrder t issued) (left .table ∙ ap₂ (λ (m : ℕ) (rows : List Cap). lentTable m (afterAccess sheet6 a u s rows)) (sym (o .all)) (sym live-old))
+        ∙ access-inOrder sheet6 (viewOf (rowsIn ws) issued) (ordered (rowsIn ws) issued (o .ordered)) a u s;
   }
 
-  pub access-rows : before (rowsIn ws′) r ≡ afterAccess a u s old
+  pub access-rows : before (rowsIn ws′) r ≡ afterAccess sheet6 a u s old
   access-rows =
       sym (orderly-live (rowsIn ws′) (length ws′) r issued access-orderly) ∙ ap liveRows (left .table)
-      ∙ live-lent (length ws) (afterAccess a u s old) (access-named old (subst Named live-old (live-named (rowsIn ws))) a u s)
+      ∙ live-lent (length ws) (afterAccess sheet6 a u s old) (access-named sheet6 old (subst Named live-old (live-named (rowsIn ws))) a u s)
 
   pub access-few : r ≤ k
-  access-few = omega (arith, length-before (rowsIn ws′) r, ap length access-rows, access-fits a u s old, length-before (rowsIn ws) k)
+  access-few = omega (arith, length-before (rowsIn ws′) r, ap length access-rows, access-fits sheet6 a u s old, length-before (rowsIn ws) k)
 
   pub access-ready : Ready ws′ r
   access-ready = ready ws′ r issued access-orderly
@@ -161,7 +157,7 @@ module _ (ws : List (List ℕ)) (k issued : ℕ) (o : Orderly (rowsIn ws) (lengt
 
 -- ---- the whole step
 
-settled-refused : (h : State) (req : Request) (j : ℕ) → (j ≡ 0 → ⊥) → (j ≡ 1 → ⊥) → (outcome j h req .table ≡ h .table) × (outcome j h req .tally ≡ countRefused (h .tally))
+settled-refused : (h : State) (req : Request) (j : ℕ) → (j ≡ 0 → ⊥) → (j ≡ 1 → ⊥) → (outcome sheet6 j h req .table ≡ h .table) × (outcome sheet6 j h req .tally ≡ countRefused (h .tally))
 settled-refused h req zero a b = absurd (a refl)
 settled-refused h req (suc zero) a b = absurd (b refl)
 settled-refused h req (suc (suc j)) a b = (refl, refl)
@@ -178,10 +174,10 @@ module _ (ws : List (List ℕ)) (t : Tally) (req : Request) where
 
     -- an allowed event
     pub stepped-allowed : (ws′ : List (List ℕ)) (y : Tally) (x : Name) → verdictOf (Allowed x) ≡ verdict (judge (viewOf (rowsIn ws) (t .issued)) req) (newName (t .issued) req)
-        → rowsIn ws′ ≡ lentTable (length ws) (rowsAfter (t .issued) (before (rowsIn ws) k) req) → y ≡ countAllowed req t → Stepped ws t req ws′ (record { tally = y; answer = Allowed x })
+        → rowsIn ws′ ≡ lentTable (length ws) (rowsAfter sheet6 (t .issued) (before (rowsIn ws) k) req) → y ≡ countAllowed req t → Stepped ws t req ws′ (record { tally = y; answer = Allowed x })
     unfolding after answer
     stepped-allowed ws′ y x q h c = record {
-      table = h ∙ rw zero-is (ap₂ (λ (m : ℕ) (rows : List Cap). lentTable m (rowsAfter (t .issued) rows req)) (sym (o .all)) (sym (live-is ws k (t .issued) o)));
+      table = h ∙ rw zero-is (ap₂ (λ (m : ℕ) (rows : List Cap). lentTable m (rowsAfter sheet6 (t .issued) rows req)) (sym (o .all)) (sym (live-is ws k (t .issued) o)));
       tally = c ∙ rw zero-is;
       answer = q;
     }
@@ -206,7 +202,7 @@ module _ (ws : List (List ℕ)) (t : Tally) (req : Request) where
         not-0 z = eqb-false (number x) 0 (numbered x) (sym is ∙ z)
 
         not-1 : judge (viewOf (rowsIn ws) (t .issued)) req ≡ 1 → ⊥
-        not-1 = ordered-not-1 (rowsIn ws) (t .issued) req (o .ordered)
+        not-1 = ordered-not-1 (viewOf (rowsIn ws) (t .issued)) req (o .ordered)
 
 -- the table is in order after it too
 pub orderly-after : (ws : List (List ℕ)) (t : Tally) (req : Request) (k : ℕ) (ws′ : List (List ℕ)) (r : Outcome) (live : ℕ) → length ws′ ≡ length ws → Orderly (rowsIn ws) (length ws) k (t .issued) → Stepped ws t req ws′ r → Front (rowsIn ws′) (length ws) live → Orderly (rowsIn ws′) (length ws′) live (r .tally .issued)
@@ -216,29 +212,29 @@ orderly-after ws t req k ws′ r live long o s f = record {
   front = rw long f;
   ordered =
       ap₂ (λ (rows : List Cap) (y : Tally). inOrder rows (y .issued)) (s .table) (s .tally)
-      ∙ order-after (lends (rowsIn ws) t) req (o .ordered);
+      ∙ order-after sheet6 (lends (rowsIn ws) t) req (o .ordered);
 }
 
 -- ---- the rows after an event
 
 module _ (issued : ℕ) (rows : List Cap) where
-  pub next-create : (w : NewName) (s : Span) (r : ℕ) (c : Cap) → c ≡ row (record { name = issued + 1; parent = 0; span = s }) r 1 → c ∷ afterAccess Writing (issued + 1) s rows ≡ rowsAfter issued rows (Single (Create w s r))
+  pub next-create : (w : NewName) (s : Span) (r : ℕ) (c : Cap) → c ≡ row (record { name = issued + 1; parent = 0; span = s; kind = 0 }) r 1 → c ∷ afterAccess sheet6 Writing (issued + 1) s rows ≡ rowsAfter sheet6 issued rows (Single (Create w s r))
   unfolding rowsAfter
   next-create w s r c e = rw (e, add-one)
 
-  pub next-borrow : (w : NewName) (u : Name) (s : Span) (r d : ℕ) (c : Cap) → d ≡ lookup (u .0) rows .depth → c ≡ row (record { name = issued + 1; parent = u .0; span = s }) r (d + 1) → c ∷ rows ≡ rowsAfter issued rows (Single (Borrow w u s r))
+  pub next-borrow : (w : NewName) (u : Name) (s : Span) (r kind d : ℕ) (c : Cap) → d ≡ lookup (u .0) rows .depth → c ≡ row (record { name = issued + 1; parent = u .0; span = s; kind = kind }) r (d + 1) → c ∷ rows ≡ rowsAfter sheet6 issued rows (Single (Borrow w u s r kind))
   unfolding rowsAfter
-  next-borrow w u s r d c f e = rw (e, f, add-one, add-one)
+  next-borrow w u s r kind d c f e = rw (e, f, add-one, add-one)
 
-  pub next-read : (u : Name) (s : Span) → afterAccess Reading (u .0) s rows ≡ rowsAfter issued rows (Single (Read u s))
+  pub next-read : (u : Name) (s : Span) → afterAccess sheet6 Reading (u .0) s rows ≡ rowsAfter sheet6 issued rows (Single (Read u s))
   unfolding rowsAfter
   next-read u s = refl
 
-  pub next-write : (u : Name) (s : Span) → afterAccess Writing (u .0) s rows ≡ rowsAfter issued rows (Single (Write u s))
+  pub next-write : (u : Name) (s : Span) → afterAccess sheet6 Writing (u .0) s rows ≡ rowsAfter sheet6 issued rows (Single (Write u s))
   unfolding rowsAfter
   next-write u s = refl
 
-  pub next-drop : (u : Name) → rowsWithout (u .0 ∷ []) rows ≡ rowsAfter issued rows (Single (Drop u))
+  pub next-drop : (u : Name) → rowsWithout (u .0 ∷ []) rows ≡ rowsAfter sheet6 issued rows (Single (Drop u))
   unfolding rowsAfter
   next-drop u = refl
 

@@ -23,7 +23,7 @@ use Rattle.table.specs.declared.judge.Place.{Place}
 use Rattle.table.specs.declared.judge.Place.the-variants.{At, Not}
 use Rattle.model.specs.Lists.{first, any, all}
 use Rattle.model.specs.Values.{legal, inside}
-use Rattle.model.specs.Table.{emptyRow, span, named, liveRows, lookup, isRight, isEmptyRow, rowsInOrder}
+use Rattle.model.specs.Table.{emptyRow, span, named, liveRows, lookup, isRight, isKind, isEmptyRow, rowsInOrder}
 use Rattle.model.specs.Refusals.{notARight, illegalSpan, outsideSpan, readOnly, tooDeep, standing, within, usable, room, checks, refusals, judge, viewOf}
 use Rattle.model.specs.Step.{verdict}
 use Rattle.model.specs.Answers.{number}
@@ -160,19 +160,19 @@ module _ (T : List Cap) (n k issued : ℕ) (o : Orderly T n k issued) where
 
 -- ---- a borrow
 
-module _ (T : List Cap) (n k issued : ℕ) (w : NewName) (u : Name) (s : Span) (r : ℕ) (h : isRight r ≡ true) where
+module _ (T : List Cap) (n k issued : ℕ) (w : NewName) (u : Name) (s : Span) (r kind : ℕ) (h : isRight r ≡ true) (g : isKind kind ≡ true) where
   abbrev rest : List (ℕ × Bool)
   rest = (8, tooDeep (before T k) issued u) ∷ room (before T k) issued n w
 
   abbrev first-of : ℕ
-  first-of = first (checks (before T k) issued n (Single (Borrow w u s r)))
+  first-of = first (checks (before T k) issued n (Single (Borrow w u s r kind)))
 
   pub borrow-not : (x : Refusal) → first (usable (before T k) issued u s r) ≡ number x → first-of ≡ number x
-  borrow-not x e = rw h (first-append (usable (before T k) issued u s r) rest refl ∙ rw (e, numbered x))
+  borrow-not x e = rw (h, g) (first-append (usable (before T k) issued u s r) rest refl ∙ rw (e, numbered x))
 
   module _ (c : Cap) (e : first (usable (before T k) issued u s r) ≡ 0) (f : lookup (u .0) (before T k) ≡ c) where
     borrow-rest : first-of ≡ first rest
-    borrow-rest = rw h (first-append (usable (before T k) issued u s r) rest refl ∙ rw e)
+    borrow-rest = rw (h, g) (first-append (usable (before T k) issued u s r) rest refl ∙ rw e)
 
     pub borrow-deep : 64 ≤ c .depth → first-of ≡ 8
     borrow-deep l = borrow-rest ∙ rw (f, le-leb 64 (c .depth) l)

@@ -1,4 +1,4 @@
--- Examples of lines, of document 01 and of cards 1 and 5, computed by the definitions. The program `text_cases` runs these and more on the code.
+-- Examples of lines, of document 01 and of cards 1, 5 and 6, computed by the definitions. The program `text_cases` runs these and more on the code.
 -- Assumes nothing.
 use mathlib.Core.Path.{_≡_, refl}
 use mathlib.Core.List.{List, [], _∷_, map}
@@ -34,7 +34,7 @@ readings k = map (λ s. readEvent k (bytes s))
 -- a line of each kind
 good : readings Plain ("(create 4294967295 1 rw)\n" ∷ "(borrow 1 16 16 ro)\n" ∷ "(read 1 0 4)\n" ∷ "(write 2 0 8)\n" ∷ "(drop 1)\n" ∷ [])
     ≡ value (Create Unwritten (span 4294967295 1) 2)
-    ∷ value (Borrow Unwritten (name 1) (span 16 16) 1)
+    ∷ value (Borrow Unwritten (name 1) (span 16 16) 1 0)
     ∷ value (Read (name 1) (span 0 4))
     ∷ value (Write (name 2) (span 0 8))
     ∷ value (Drop (name 1))
@@ -45,13 +45,26 @@ good = refl
 -- card 1: a line of each kind with names written out
 named : readings Named ("(create 1 0 64 rw)\n" ∷ "(borrow 2 1 0 8 rw)\n" ∷ "(read 1 0 8)\n" ∷ "(write 2 0 8)\n" ∷ "(drop 1)\n" ∷ [])
     ≡ value (Create (Written (name 1)) (span 0 64) 2)
-    ∷ value (Borrow (Written (name 2)) (name 1) (span 0 8) 2)
+    ∷ value (Borrow (Written (name 2)) (name 1) (span 0 8) 2 0)
     ∷ value (Read (name 1) (span 0 8))
     ∷ value (Write (name 2) (span 0 8))
     ∷ value (Drop (name 1))
     ∷ []
 unfolding readEvent guess through classOf numberFrom same hasSpelling writesName spell spaced decimal numeral
 named = refl
+
+-- card 6: borrows of each kind, with names written out and without; proofs/Laws/Rights has more, and lines that are refused
+kinds : (readings Plain ("(borrow 1 0 8 rw)\n" ∷ "(borrow 1 0 8 rw raw)\n" ∷ "(borrow 1 0 8 ro cell)\n" ∷ [])
+    ≡ value (Borrow Unwritten (name 1) (span 0 8) 2 0)
+    ∷ value (Borrow Unwritten (name 1) (span 0 8) 2 1)
+    ∷ value (Borrow Unwritten (name 1) (span 0 8) 1 2)
+    ∷ [])
+    × (readings Named ("(borrow 2 1 0 8 ro raw)\n" ∷ "(borrow 2 1 0 8 ro cell)\n" ∷ [])
+    ≡ value (Borrow (Written (name 2)) (name 1) (span 0 8) 1 1)
+    ∷ value (Borrow (Written (name 2)) (name 1) (span 0 8) 1 2)
+    ∷ [])
+unfolding readEvent guess through classOf numberFrom same hasSpelling writesName spell spaced decimal numeral
+kinds = (refl, refl)
 
 -- refusal 2: a leading zero, a number above the limit, two spaces, a tab, a missing newline, bytes after it, and an empty line
 bad : readings Plain ("(read 01 0 8)\n" ∷ "(drop 4294967296)\n" ∷ "(drop  1)\n" ∷ "(drop\t1)\n" ∷ "(drop 1)" ∷ "(drop 1)\n\n" ∷ "\n" ∷ [])
@@ -75,6 +88,11 @@ no-right : writeEvent Plain (Create Unwritten (span 0 64) 3) (replicate 20 0) �
 unfolding writeEvent written stored hasSpelling writesName spell spaced decimal numeral
 no-right = refl
 
+-- refusal 2: a borrow of any other kind
+no-kind : writeEvent Plain (Borrow Unwritten (name 1) (span 0 8) 2 3) (replicate 25 0) ≡ record { answer = refused 2; buffer = replicate 25 0 }
+unfolding writeEvent written stored hasSpelling writesName spell spaced decimal numeral
+no-kind = refl
+
 -- refusal 2: an event whose name is not written as in the spelling, in no room too
 no-name : writeEvent Named (Create Unwritten (span 0 64) 2) [] ≡ record { answer = refused 2; buffer = [] }
 unfolding writeEvent written stored hasSpelling writesName spell spaced decimal numeral
@@ -90,6 +108,12 @@ name-written : writeEvent Named (Create (Written (name 1)) (span 0 64) 2) (bytes
     ≡ record { answer = value 19; buffer = bytes "(create 1 0 64 rw)\n." }
 unfolding writeEvent written stored hasSpelling writesName spell spaced decimal numeral
 name-written = refl
+
+-- the kind behind the right
+kind-written : writeEvent Plain (Borrow Unwritten (name 1) (span 0 8) 2 1) (bytes ".........................")
+    ≡ record { answer = value 22; buffer = bytes "(borrow 1 0 8 rw raw)\n..." }
+unfolding writeEvent written stored hasSpelling writesName spell spaced decimal numeral
+kind-written = refl
 
 -- the next line of a trace
 line : nextLine (bytes "(drop 1)\n(drop 2)\n") ≡ bytes "(drop 1)\n"

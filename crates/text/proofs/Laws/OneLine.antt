@@ -1,7 +1,6 @@
 -- The spelling of an event is one line, ended by its newline, and none is the line `(trace 2)`: what a text of such lines is cut into.
 -- Assumes nothing.
 use mathlib.Core.Path.{_≡_, refl, ap}
-use mathlib.Core.Bool.{Bool, true, false, cond}
 use mathlib.Core.List.{List, [], _∷_, _++_, append-assoc}
 use Prim.Native.Nat.{ℕ, zero, suc, _+_}
 use lib.Dec.{eqb}
@@ -9,10 +8,11 @@ use Rattle.text.specs.Result.{value, refused}
 use Rattle.text.specs.Class.{classOf}
 use Rattle.text.specs.Line.{through, push, linesOf}
 use Rattle.text.specs.Decimal.{numeral, decimal, numberFrom}
-use Rattle.text.specs.Event.{bytes, spaced, ending, spanNumbers, writtenNumbers, spell, hasSpelling}
+use Rattle.text.specs.Event.{bytes, spaced, kindWord, ending, spanNumbers, writtenNumbers, spell, hasSpelling}
 use Rattle.text.specs.Read.{same, guess, readEvent}
 use Rattle.text.proofs.Laws.Digits.{digits, digitAt, decimal-width}
 use Rattle.text.proofs.Laws.Number.{digit-class, digit-small}
+use Rattle.text.proofs.Laws.Words.{either}
 use Rattle.text.proofs.Laws.OneSpelling.{read-is-spelling}
 use Rattle.text.specs.declared.spelling.Spelling.{Spelling}
 use Rattle.text.specs.declared.spelling.Spelling.the-variants.{Plain, Named}
@@ -41,19 +41,22 @@ numbers-end [] e ends t = ends t
 numbers-end (n ∷ ns) e ends t =
     rw (append-assoc (decimal n) (spaced ns) e) (ap (push 32) (decimal-end n (spaced ns ++ e) (numbers-end ns e ends) t))
 
-ending-ends : (r : ℕ) → Ends (bytes (ending r))
+kind-ends : (k : ℕ) → Ends (kindWord k ++ bytes ")\n")
 unfolding linesOf push classOf
-ending-ends r = go (eqb r 1)
-  where
-    go : (b : Bool) → Ends (bytes (cond b " ro)\n" " rw)\n"))
-    go true t = refl
-    go false t = refl
+kind-ends k =
+    let ends : List ℕ → Type 0 = λ s. Ends (s ++ bytes ")\n") in
+    either ends (eqb k 0) _ _ (λ t. refl) (either ends (eqb k 1) _ _ (λ t. refl) (λ t. refl))
+
+ending-ends : (r k : ℕ) → Ends (ending r k)
+unfolding linesOf push classOf
+ending-ends r k =
+    either (λ s. Ends (s ++ (kindWord k ++ bytes ")\n"))) (eqb r 1) _ _ (λ t. rw (kind-ends k t)) (λ t. rw (kind-ends k t))
 
 -- the lines of a text that begins with an event's spelling are that and the lines of the rest
 pub spell-is-line : (e : Event) (t : List ℕ) → linesOf (spell e ++ t) ≡ spell e ∷ linesOf t
 unfolding spell linesOf push classOf
-spell-is-line (Create w s r) t = rw (numbers-end (writtenNumbers w ++ spanNumbers s) (bytes (ending r)) (ending-ends r) t)
-spell-is-line (Borrow w n s r) t = rw (numbers-end (writtenNumbers w ++ (n .0 ∷ spanNumbers s)) (bytes (ending r)) (ending-ends r) t)
+spell-is-line (Create w s r) t = rw (numbers-end (writtenNumbers w ++ spanNumbers s) (ending r 0) (ending-ends r 0) t)
+spell-is-line (Borrow w n s r kind) t = rw (numbers-end (writtenNumbers w ++ (n .0 ∷ spanNumbers s)) (ending r kind) (ending-ends r kind) t)
 spell-is-line (Read n s) t = rw (numbers-end (n .0 ∷ spanNumbers s) (bytes ")\n") (λ t. refl) t)
 spell-is-line (Write n s) t = rw (numbers-end (n .0 ∷ spanNumbers s) (bytes ")\n") (λ t. refl) t)
 spell-is-line (Drop n) t = rw (numbers-end (n .0 ∷ []) (bytes ")\n") (λ t. refl) t)

@@ -1,4 +1,4 @@
--- Events in range: the longest spelling of one has 56 bytes, and what is guessed of a line is one.
+-- Events in range: the longest spelling of one has 61 bytes, and what is guessed of a line is one.
 -- Assumes nothing.
 use mathlib.Core.Path.{_≡_, refl}
 use mathlib.Core.Bool.{Bool, true, false, cond}
@@ -9,12 +9,13 @@ use lib.Dec.{eqb}
 use lib.ListN.{length, getD, length-append}
 use Rattle.text.specs.Line.{afterSpace}
 use Rattle.text.specs.Decimal.{numberOf}
-use Rattle.text.specs.Event.{bytes, spaced, ending, spanNumbers, writtenNumbers, spell, Below32, InRange}
+use Rattle.text.specs.Event.{bytes, spaced, rightWord, kindWord, ending, spanNumbers, writtenNumbers, spell, Below32, InRange}
 use Rattle.text.specs.Read.{newNameOf, fromName, guess}
 use Rattle.text.specs.declared.spelling.Spelling.{Spelling}
 use Rattle.text.specs.declared.spelling.Spelling.the-variants.{Plain, Named}
 use Rattle.text.proofs.Laws.Digits.{decimal-short}
 use Rattle.text.proofs.Laws.Number.{number-of-small}
+use Rattle.text.proofs.Laws.Words.{either}
 use Rattle.model.specs.declared.NewName.{NewName}
 use Rattle.model.specs.declared.NewName.the-variants.{Unwritten, Written}
 use Rattle.model.specs.declared.Event.{Event}
@@ -28,26 +29,31 @@ spaced-short (n ∷ ns) h = simp length-append (omega (arith, decimal-short n (h
 pub line-short : (w ns e : List ℕ) → Below32 ns → length (w ++ (spaced ns ++ e)) ≤ length w + 11 * length ns + length e
 line-short w ns e h = simp length-append (omega (arith, spaced-short ns h))
 
-ending-length : (r : ℕ) → length (bytes (ending r)) ≡ 5
-ending-length r = go (eqb r 1)
-  where
-    go : (t : Bool) → length (bytes (cond t " ro)\n" " rw)\n")) ≡ 5
-    go true = refl
-    go false = refl
+-- the ending of a line with a right and a kind: 5 bytes and the kind's word, which has at most 5
+pub right-length : (r : ℕ) → length (rightWord r) ≡ 3
+right-length r = either (λ s. length s ≡ 3) (eqb r 1) _ _ refl refl
+
+pub kind-short : (k : ℕ) → length (kindWord k) ≤ 5
+kind-short k =
+    let short : List ℕ → Type 0 = λ s. length s ≤ 5 in
+    either short (eqb k 0) _ _ (omega arith) (either short (eqb k 1) _ _ (omega arith) (omega arith))
+
+pub ending-length : (r k : ℕ) → length (ending r k) ≡ length (kindWord k) + 5
+ending-length r k = simp length-append (omega (arith, right-length r))
 
 -- a new name is at most one number more
 written-short : (w : NewName) (ns : List ℕ) → length (writtenNumbers w ++ ns) ≤ 1 + length ns
 written-short Unwritten ns = omega arith
 written-short (Written x) ns = omega arith
 
-pub spell-short : (e : Event) → InRange e → length (spell e) ≤ 56
+pub spell-short : (e : Event) → InRange e → length (spell e) ≤ 61
 unfolding spell
 spell-short (Create w s r) h =
     let ns = spanNumbers s in
-    omega (arith, line-short (bytes "(create") (writtenNumbers w ++ ns) (bytes (ending r)) h, ending-length r, written-short w ns)
-spell-short (Borrow w n s r) h =
+    omega (arith, line-short (bytes "(create") (writtenNumbers w ++ ns) (ending r 0) h, ending-length r 0, written-short w ns)
+spell-short (Borrow w n s r kind) h =
     let ns = n .0 ∷ spanNumbers s in
-    omega (arith, line-short (bytes "(borrow") (writtenNumbers w ++ ns) (bytes (ending r)) h, ending-length r, written-short w ns)
+    omega (arith, line-short (bytes "(borrow") (writtenNumbers w ++ ns) (ending r kind) h, ending-length r kind, kind-short kind, written-short w ns)
 spell-short (Read n s) h = omega (arith, line-short (bytes "(read") (n .0 ∷ spanNumbers s) (bytes ")\n") h)
 spell-short (Write n s) h = omega (arith, line-short (bytes "(write") (n .0 ∷ spanNumbers s) (bytes ")\n") h)
 spell-short (Drop n) h = omega (arith, line-short (bytes "(drop") (n .0 ∷ []) (bytes ")\n") h)

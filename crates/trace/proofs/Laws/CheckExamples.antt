@@ -2,11 +2,11 @@
 -- Assumes nothing.
 use mathlib.Core.Path.{_≡_, refl}
 use mathlib.Core.Bool.{true}
-use mathlib.Core.List.{List, [], _∷_}
+use mathlib.Core.List.{List, [], _∷_, _++_}
 use Prim.Native.String.{String}
 use Rattle.model.specs.Lists.{all}
 use Rattle.model.specs.Derivation.{ancestry, onAncestry}
-use Rattle.model.specs.Strike.{strike, reached, struck}
+use Rattle.model.specs.Strike.{origin, strike, reached, struck}
 use Rattle.model.specs.Table.{liveRows, lentTable, lookup, isEmptyRow, liveRowsFirst, rowFitsParent, parentInOrder, rowInOrder, rowsInOrder, inOrder}
 use Rattle.model.specs.Requests.{risesAbove, risesStrictly, isGroup}
 use Rattle.model.specs.Refusals.{standings, refusals, judge}
@@ -34,6 +34,21 @@ examples =
     ∷ ("(create 4096 8 rw)\n(borrow 1 4096 8 rw)\n(borrow 2 4096 8 rw)\n(write 2 4096 8)\n(write 3 4096 8)\n", "(refused 5 5)\n(issued 3)\n(1 4096 8 rw (2 4096 8 rw))\n")
     ∷ []
 
-printed : all (λ e. same (checkText (bytes (e .0))) (bytes (e .1))) examples ≡ true
-unfolding examples ancestry onAncestry strike reached struck liveRows lentTable lookup isEmptyRow liveRowsFirst rowFitsParent parentInOrder rowInOrder rowsInOrder inOrder refusals judge revoke afterAccess rowsAfter answer after risesAbove risesStrictly isGroup standings rowsWithout spellGroup namesFrom guessNames readGroup classOf through push linesOf numeral decimal numberFrom spaced spell hasSpelling writesName same guess readEvent pieces form children roots listed runLines runTrace runFrom answerLine checkText
+-- card 6: the traces of docs/EMBEDDING, "Raw pointers and cells", in their order there
+kinds : List (String × String)
+kinds =
+    ("(create 4096 8 rw)\n(borrow 1 4096 8 rw raw)\n(borrow 2 4096 8 rw)\n(write 2 4096 8)\n(write 3 4096 8)\n", "(refused 5 5)\n(issued 3)\n(1 4096 8 rw (2 4096 8 rw raw))\n")
+    ∷ ("(create 0 64 rw)\n(borrow 1 0 8 rw)\n(borrow 2 0 8 rw raw)\n(borrow 2 0 8 rw raw)\n(write 3 0 8)\n(write 4 0 8)\n(write 2 0 8)\n(read 3 0 8)\n(write 4 0 8)\n", "(allowed 9)\n(issued 4)\n(1 0 64 rw (2 0 8 rw (3 0 8 rw raw) (4 0 8 rw raw)))\n")
+    ∷ ("(create 0 64 rw)\n(borrow 1 0 8 rw)\n(borrow 2 0 8 rw raw)\n(borrow 1 4 8 rw)\n(write 4 4 4)\n(write 3 0 8)\n", "(refused 5 6)\n(issued 4)\n(1 0 64 rw (4 4 8 rw))\n")
+    ∷ ("(create 0 64 rw)\n(borrow 1 0 8 rw raw)\n(borrow 2 0 8 rw raw)\n(write 1 0 8)\n(write 2 0 8)\n(read 3 0 8)\n", "(refused 5 6)\n(issued 3)\n(1 0 64 rw (2 0 8 rw raw))\n")
+    ∷ ("(create 0 8 rw)\n(borrow 1 0 8 rw cell)\n(borrow 1 0 8 rw cell)\n(write 2 0 8)\n(write 3 0 8)\n(write 2 0 8)\n", "(allowed 6)\n(issued 3)\n(1 0 8 rw (2 0 8 rw cell) (3 0 8 rw cell))\n")
+    ∷ ("(create 0 8 rw)\n(borrow 1 0 8 rw cell)\n(borrow 1 0 8 rw cell)\n(write 2 0 8)\n(read 3 0 8)\n(write 2 0 8)\n", "(refused 7 6)\n(issued 3)\n(1 0 8 rw (2 0 8 ro cell) (3 0 8 rw cell))\n")
+    ∷ ("(create 0 8 rw)\n(borrow 1 0 8 rw cell)\n(borrow 2 0 8 rw raw)\n(borrow 2 0 8 rw raw)\n(write 3 0 8)\n(read 4 0 8)\n(write 2 0 8)\n(write 3 0 8)\n", "(allowed 8)\n(issued 4)\n(1 0 8 rw (2 0 8 rw cell (3 0 8 rw raw) (4 0 8 rw raw)))\n")
+    ∷ ("(create 0 16 rw)\n(borrow 1 0 16 ro)\n(borrow 1 0 8 rw cell)\n(write 3 0 8)\n(read 2 8 8)\n(read 3 0 8)\n(write 3 0 8)\n", "(allowed 7)\n(issued 3)\n(1 0 16 rw (2 0 16 ro) (3 0 8 rw cell))\n")
+    ∷ ("(create 0 8 rw)\n(borrow 1 0 8 rw cell)\n(borrow 2 0 8 rw)\n(borrow 2 0 8 rw)\n(write 4 0 8)\n(write 3 0 8)\n", "(refused 5 6)\n(issued 4)\n(1 0 8 rw (2 0 8 rw cell (4 0 8 rw)))\n")
+    ∷ ("(create 0 8 rw)\n(borrow 1 0 8 rw)\n(borrow 1 0 8 rw cell)\n(write 3 0 8)\n(write 2 0 8)\n", "(allowed 5)\n(issued 3)\n(1 0 8 rw (2 0 8 rw))\n")
+    ∷ []
+
+printed : all (λ e. same (checkText (bytes (e .0))) (bytes (e .1))) (examples ++ kinds) ≡ true
+unfolding examples kinds ancestry onAncestry origin strike reached struck liveRows lentTable lookup isEmptyRow liveRowsFirst rowFitsParent parentInOrder rowInOrder rowsInOrder inOrder refusals judge revoke afterAccess rowsAfter answer after risesAbove risesStrictly isGroup standings rowsWithout spellGroup namesFrom guessNames readGroup classOf through push linesOf numeral decimal numberFrom spaced spell hasSpelling writesName same guess readEvent pieces form children roots listed runLines runTrace runFrom answerLine checkText
 printed = refl

@@ -58,7 +58,7 @@ standings-most rows i (u ∷ names) = standings-most rows i names
 refusals-most : (t : List Cap) (i : ℕ) (q : Request) → upTo13 (refusals (viewOf t i) q) ≡ true
 unfolding refusals
 refusals-most t i (Single (Create w s r)) = refl
-refusals-most t i (Single (Borrow w u s r)) = refl
+refusals-most t i (Single (Borrow w u s r kind)) = refl
 refusals-most t i (Single (Read u s)) = refl
 refusals-most t i (Single (Write u s)) = refl
 refusals-most t i (Single (Drop u)) = refl
@@ -104,11 +104,11 @@ answer-fits zero n few lines = rw (answer-allowed 0 n refl) (simp length-append 
 answer-fits (suc r) n few lines =
     rw (answer-refused (suc r) n (λ (e : suc r ≡ 0). omega arith)) (simp length-append (omega (arith, decimal-under (suc r) 1 (omega arith), decimal-under n 4 (omega arith))))
 
--- What `capcheck` prints has at most 34,853 bytes.
-pub check-fits : (input : List ℕ) → length (checkText input) ≤ 34853
+-- What `capcheck` prints has at most 39,968 bytes.
+pub check-fits : (input : List ℕ) → length (checkText input) ≤ 39968
 check-fits input = go (leb (length input) 65536) refl
   where
-    go : (t : Bool) → leb (length input) 65536 ≡ t → length (checkText input) ≤ 34853
+    go : (t : Bool) → leb (length input) 65536 ≡ t → length (checkText input) ≤ 39968
     go true e =
         let r = run (initial 1024 noCounts) input in
         let few = leb-true (length input) 65536 e in
@@ -117,19 +117,19 @@ check-fits input = go (leb (length input) 65536) refl
         omega (arith, ap length (ran-report input r refl few), length-append (answerLine (r .refusal) (r .number)) (listing (r .state .table) (r .state .tally .issued)))
     go false e = omega (arith, ap length (long-text input (leb-false (length input) 65536 e)))
 
--- ---- a buffer of 34,853 bytes
+-- ---- a buffer of 39,968 bytes
 
 abbrev buffer : List ℕ
-buffer = replicate 34853 0
+buffer = replicate 39968 0
 
 module _ (input : List ℕ) where
   -- has room for it
   pub room : length (checkText input) ≤ length buffer
-  room = rw (length-replicate {A = ℕ} 34853 0) (check-fits input)
+  room = rw (length-replicate {A = ℕ} 39968 0) (check-fits input)
 
   -- and keeps its length
-  pub kept : {after : List ℕ} {r : Written} → Writes true (checkText input) buffer after r → length after ≡ 34853
+  pub kept : {after : List ℕ} {r : Written} → Writes true (checkText input) buffer after r → length after ≡ 39968
   unfolding stored
   kept {after} w =
       let all : after ≡ checkText input ++ drop (length (checkText input)) buffer = w .buffer ∙ rw (le-leb (length (checkText input)) (length buffer) room) in
-      rw all (simp (length-append, length-drop) (omega (arith, room, length-replicate {A = ℕ} 34853 0)))
+      rw all (simp (length-append, length-drop) (omega (arith, room, length-replicate {A = ℕ} 39968 0)))

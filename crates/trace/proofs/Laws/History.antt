@@ -9,6 +9,7 @@ use Rattle.model.specs.declared.Cap.{Cap}
 use Rattle.model.specs.Requests.{Request}
 use Rattle.model.specs.declared.Tally.{Tally}
 use Rattle.model.specs.Table.{inOrder}
+use Rattle.model.specs.Sheet6.{sheet6}
 use Rattle.model.specs.Step.{Verdict, State, initial}
 use Rattle.model.specs.Step
 use Rattle.model.specs.History.{History, emptyHistory}
@@ -27,22 +28,22 @@ module _ (n : ℕ) where
   -- a line, and a run, of the lent table and of the history
   record SameLine (r : Taken State) (q : Taken History) : Type 0 where
     refusals : r .refusal ≡ q .refusal
-    match : Match n (r .state) (q .state)
+    match : Match sheet6 n (r .state) (q .state)
 
   record Same (r : Ran State) (q : Ran History) : Type 0 where
     refusals : r .refusal ≡ q .refusal
     numbers : r .number ≡ q .number
-    match : Match n (r .state) (q .state)
+    match : Match sheet6 n (r .state) (q .state)
 
-  same-line : (k : Spelling) (h : State) (H : History) → Match n h H → (l : List ℕ) → SameLine (takeLine lent k h l) (takeLine (noted n) k H l)
+  same-line : (k : Spelling) (h : State) (H : History) → Match sheet6 n h H → (l : List ℕ) → SameLine (takeLine lent k h l) (takeLine (noted n) k H l)
   same-line k h H m l = go (readRequest k l)
     where
       go : (r : Result Request) → SameLine (takeRead lent h r) (takeRead (noted n) H r)
       go (value q) =
-          record { refusals = ap (λ (v : Verdict). v .refusal) (match-answer n h H m q); match = match-after n h H m q }
+          record { refusals = ap (λ (v : Verdict). v .refusal) (match-answer sheet6 n h H m q); match = match-after sheet6 n h H m q }
       go (refused x) = record { refusals = refl; match = record { same-table = m .same-table; same-issued = m .same-issued; kept = m .kept } }
 
-  same-lines : (k : Spelling) (before : ℕ) (h : State) (H : History) → Match n h H → (ls : List (List ℕ)) → Same (runLines lent k before h ls) (runLines (noted n) k before H ls)
+  same-lines : (k : Spelling) (before : ℕ) (h : State) (H : History) → Match sheet6 n h H → (ls : List (List ℕ)) → Same (runLines lent k before h ls) (runLines (noted n) k before H ls)
   unfolding runLines
   same-lines k before h H m [] = record { refusals = refl; numbers = refl; match = m }
   same-lines k before h H m (l ∷ ls) = rw (s .refusals) (go (eqb (t .refusal) 0) (same-lines k (before + 1) (takeLine lent k h l .state) (t .state) (s .match) ls))
@@ -59,7 +60,7 @@ module _ (n : ℕ) where
       go true rest = rest
       go false rest = record { refusals = refl; numbers = refl; match = s .match }
 
-  same-trace : (h : State) (H : History) → Match n h H → (ls : List (List ℕ)) → Same (runTrace lent h ls) (runTrace (noted n) H ls)
+  same-trace : (h : State) (H : History) → Match sheet6 n h H → (ls : List (List ℕ)) → Same (runTrace lent h ls) (runTrace (noted n) H ls)
   unfolding runTrace
   same-trace h H m [] = same-lines Plain 0 h H m []
   same-trace h H m (l ∷ ls) = go (same l header)
@@ -68,9 +69,9 @@ module _ (n : ℕ) where
       go true = same-lines Named 1 h H m ls
       go false = same-lines Plain 0 h H m (l ∷ ls)
 
-  same-from : (h : State) (H : History) → Match n h H → (text : List ℕ) → Same (runFrom lent h text) (runFrom (noted n) H text)
+  same-from : (h : State) (H : History) → Match sheet6 n h H → (text : List ℕ) → Same (runFrom lent h text) (runFrom (noted n) H text)
   unfolding runFrom
-  same-from h H m text = rw (ap₂ (λ (t : List Cap) (i : ℕ). inOrder t i) (m .same-table) (m .same-issued)) (go (inOrder (History.table n (H .notes)) (H .count)))
+  same-from h H m text = rw (ap₂ (λ (t : List Cap) (i : ℕ). inOrder t i) (m .same-table) (m .same-issued)) (go (inOrder (History.table sheet6 n (H .notes)) (H .count)))
     where
       go : (b : Bool) → Same (cond b (runTrace lent h (linesOf text)) (record { refusal = 1; number = 0; state = h })) (cond b (runTrace (noted n) H (linesOf text)) (record { refusal = 1; number = 0; state = H }))
       go true = same-trace h H m (linesOf text)
@@ -78,5 +79,5 @@ module _ (n : ℕ) where
 
 pub same-run : (n : ℕ) (t : Tally) → t .issued ≡ 0 → (text : List ℕ) → SameRun n t text
 same-run n t z text =
-    let s = same-from n (initial n t) emptyHistory (at-first n t z) text in
+    let s = same-from n (initial n t) emptyHistory (at-first sheet6 n t z) text in
     record { same-refusal = s .refusals; same-number = s .numbers; same-table = s .match .same-table; same-issued = s .match .same-issued }

@@ -101,11 +101,11 @@ module _ (first second out : List ℕ) (k : ℕ) (is : k ≡ length first) (fits
 
 -- ---- the line of an answer
 
-pub answer-allowed : (r n : ℕ) → r ≡ 0 → answerLine r n ≡ line "(allowed" (n ∷ []) ")\n"
+pub answer-allowed : (r n : ℕ) → r ≡ 0 → answerLine r n ≡ line "(allowed" (n ∷ []) (bytes ")\n")
 unfolding answerLine
 answer-allowed r n e = rw (eq-eqb r 0 e)
 
-pub answer-refused : (r n : ℕ) → (r ≡ 0 → ⊥) → answerLine r n ≡ line "(refused" (r ∷ n ∷ []) ")\n"
+pub answer-refused : (r n : ℕ) → (r ≡ 0 → ⊥) → answerLine r n ≡ line "(refused" (r ∷ n ∷ []) (bytes ")\n")
 unfolding answerLine
 answer-refused r n e = rw (ne-eqb r 0 e)
 
@@ -118,11 +118,15 @@ pub long-text : (input : List ℕ) → 65536 < length input → bytes "(long)\n"
 unfolding checkText
 long-text input l = sym (rw (lt-leb (length input) 65536 l))
 
--- 1,024 rows of zeros are 1,024 empty rows
-abbrev zeros : List (List ℕ)
-zeros = replicate 1024 (replicate 6 0)
+-- a row whose words are zeros
+abbrev pub zeroRow : List ℕ
+zeroRow = replicate 7 0
 
-rows-empty : (n : ℕ) → map capOf (replicate n (replicate 6 0)) ≡ replicate n emptyRow
+-- 1,024 of them are 1,024 empty rows
+abbrev zeros : List (List ℕ)
+zeros = replicate 1024 zeroRow
+
+rows-empty : (n : ℕ) → map capOf (replicate n zeroRow) ≡ replicate n emptyRow
 rows-empty zero = refl
 rows-empty (suc n) = ap (λ (l : List Cap). emptyRow ∷ l) (rows-empty n)
 

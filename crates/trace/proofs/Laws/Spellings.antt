@@ -13,6 +13,7 @@ use borrow.Author.Tests.{leb-true, eqb-true}
 use Rattle.model.specs.declared.Event.the-variants.{Create, Borrow, Read, Write, Drop}
 use Rattle.model.specs.Requests.{Request, Single, Group, risesAbove, risesStrictly, isGroup}
 use Rattle.model.specs.Effects.{issuedAfter}
+use Rattle.model.specs.Sheet6.{sheet6}
 use Rattle.model.specs.Step.{State, initial, answer, after}
 use Rattle.model.specs.Table.{inOrder}
 use Rattle.model.specs.Named.{unnamed, rightlyNamed, allRightlyNamed}
@@ -40,7 +41,7 @@ use Rattle.trace.proofs.Laws.Report.{ran-report}
 named-line : (i : ℕ) → suc i < 2 ^ 32 → (q : Request) → Spellable q → HasLine Named (rightlyNamed i q)
 unfolding hasSpelling writesName unnamed rightlyNamed
 named-line i l (Single (Create w s r)) sp = (sp .0, (l, sp .1))
-named-line i l (Single (Borrow w u s r)) sp = (sp .0, (l, sp .1))
+named-line i l (Single (Borrow w u s r kind)) sp = (sp .0, (l, sp .1))
 named-line i l (Single (Read u s)) sp = sp
 named-line i l (Single (Write u s)) sp = sp
 named-line i l (Single (Drop u)) sp = sp
@@ -99,16 +100,16 @@ module _ {rest rest′ : List ℕ} (rests : Rests rest rest′) where
         answers,
         afters,
       )
-      (go (eqb (answer h (unnamed q) .refusal) 0) refl (same-lines qs (sp .1) (before + 1) (after h (unnamed q)) (order-after h (unnamed q) o) (issuedAfter i q)))
+      (go (eqb (answer h (unnamed q) .refusal) 0) refl (same-lines qs (sp .1) (before + 1) (after sheet6 h (unnamed q)) (order-after sheet6 h (unnamed q) o) (issuedAfter i q)))
     where
       answers : answer h (rightlyNamed i q) ≡ answer h (unnamed q)
       answers = ap (λ (j : ℕ). answer h (rightlyNamed j q)) is ∙ same-answer h q
 
-      afters : after h (rightlyNamed i q) ≡ after h (unnamed q)
-      afters = ap (λ (j : ℕ). after h (rightlyNamed j q)) is ∙ same-after h q
+      afters : after sheet6 h (rightlyNamed i q) ≡ after sheet6 h (unnamed q)
+      afters = ap (λ (j : ℕ). after sheet6 h (rightlyNamed j q)) is ∙ same-after sheet6 h q
 
       next : State
-      next = after h (unnamed q)
+      next = after sheet6 h (unnamed q)
 
       plain : Ran State
       plain = runLines lent Plain (before + 1) next (linesOf (plainText qs ++ rest))
@@ -118,7 +119,7 @@ module _ {rest rest′ : List ℕ} (rests : Rests rest rest′) where
 
       go : (b : Bool) → eqb (answer h (unnamed q) .refusal) 0 ≡ b → (issuedAfter i q ≡ next .tally .issued → Higher named plain)
           → Higher (cond b named (record { refusal = answer h (unnamed q) .refusal; number = before + 1 + 1; state = next })) (cond b plain (record { refusal = answer h (unnamed q) .refusal; number = before + 1; state = next }))
-      go true z ih = ih (ap (λ (j : ℕ). issuedAfter j q) is ∙ sym (issued-allowed h q (eqb-true _ 0 z)))
+      go true z ih = ih (ap (λ (j : ℕ). issuedAfter j q) is ∙ sym (issued-allowed sheet6 h q (eqb-true _ 0 z)))
       go false z ih = record { refusals = refl; numbers = refl; states = refl }
 
 higher-is : (r n : ℕ) → (r ≡ 0) ⊎ (0 < n) → n + 1 ≡ oneHigher r n

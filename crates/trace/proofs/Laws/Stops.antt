@@ -12,7 +12,8 @@ use lib.Seq.{take-nil, take-length}
 use borrow.Author.Tests.{eq-eqb, ne-eqb}
 use Rattle.model.specs.declared.Event.{Event}
 use Rattle.model.specs.Table.{inOrder}
-use Rattle.model.specs.Step.{State, answer}
+use Rattle.model.specs.Sheet6.{sheet6}
+use Rattle.model.specs.Step.{view, State, answer}
 use Rattle.model.specs.Requests.{Request}
 use Rattle.model.proofs.Offered.{test, clash, ordered-not-1, refused-table, refused-tally}
 use Rattle.text.specs.Class.{classOf, newline}
@@ -71,7 +72,7 @@ misread-2 k l x = go (readEvent k l) (readGroup l) refl
 -- on a table in order no answer is 1
 request-not-1 : (h : State) (q : Request) → Ordered h → answer h q .refusal ≡ 1 → ⊥
 unfolding answer
-request-not-1 h q o z = ordered-not-1 (h .table) (h .tally .issued) q o z
+request-not-1 h q o z = ordered-not-1 (view h) q o z
 
 line-not-1 : (k : Spelling) (h : State) (l : List ℕ) → Ordered h → takeLine lent k h l .refusal ≡ 1 → ⊥
 line-not-1 k h l o = go (readRequest k l) refl
@@ -86,7 +87,7 @@ line-refused : (k : Spelling) (h : State) (l : List ℕ) (j : ℕ) → takeLine 
 line-refused k h l j = go (readRequest k l)
   where
     go : (r : Result Request) → takeRead lent h r .refusal ≡ suc (suc j) → takeRead lent h r .state ≡ lent .misspelt h
-    go (value q) z = λ i. record { table = refused-table h q (suc j) z i; tally = refused-tally h q j z i }
+    go (value q) z = λ i. record { table = refused-table sheet6 h q (suc j) z i; tally = refused-tally sheet6 h q j z i }
     go (refused x) z = refl
 
 -- ---- lines

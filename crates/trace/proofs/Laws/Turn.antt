@@ -26,6 +26,7 @@ use Rattle.model.specs.declared.Answer.{Answer}
 use Rattle.model.specs.declared.Answer.the-variants.{Allowed, Refused}
 use Rattle.model.specs.Answers.{number, verdictOf}
 use Rattle.model.specs.Counts.{countRefused}
+use Rattle.model.specs.Sheet6.{sheet6}
 use Rattle.model.specs.Step.{Verdict, State}
 use Rattle.model.specs.Table.{inOrder}
 use Rattle.model.proofs.Offered.{order-after}
@@ -42,7 +43,7 @@ pub line-order : (k : Spelling) (h : State) (l : List ℕ) → inOrder (h .table
 line-order k h l o = go (readRequest k l)
   where
     go : (r : Result Request) → inOrder (takeRead lent h r .state .table) (takeRead lent h r .state .tally .issued) ≡ true
-    go (value q) = order-after h q o
+    go (value q) = order-after sheet6 h q o
     go (refused k) = o
 
 module _ (ws : List (List ℕ)) (t : Tally) (line : List ℕ) where

@@ -15,10 +15,10 @@ use Rattle.rules.proofs.marks.first_struck.Statement.{statement}
 use Rattle.rules.proofs.marks.first_struck.Tie as tie
 
 abbrev Inv-loop : tie.InvT-loop
-Inv-loop table k ancestry s i₀ i = (i ≤ k) × ((j : ℕ) → j < i → (touches s (span (getD (rowsIn table) j emptyRow)) && not (eqb (getD ancestry j 0) 1)) ≡ false)
+Inv-loop table k relation s i₀ i = (i ≤ k) × ((j : ℕ) → j < i → (touches s (span (getD (rowsIn table) j emptyRow)) && not (eqb (getD relation j 0) 1)) ≡ false)
 
 abbrev μ-loop : tie.MeasureT-loop
-μ-loop table k ancestry s i₀ i = k - i
+μ-loop table k relation s i₀ i = k - i
 
 loop-holds : tie.Need-loop-holds Inv-loop μ-loop
 loop-holds c = (omega arith, λ j l. absurd (omega arith))
@@ -32,7 +32,7 @@ returns c = let l = c .before .before .before .before .before .before .loop in r
 loop-again : tie.Need-loop-again Inv-loop μ-loop
 loop-again c =
     let start = c .before .before .before .before .before .before .before in let T = rowsIn (start .args .table .now) in let s = start .args .s in
-    let line = start .args .ancestry .now in
+    let line = start .args .relation .now in
     let l = c .before .before .before .before .before .before .loop in
     let row = c .before .before .before .span-of .ensures ∙ ap span (c .before .before .before .before .row-at .ensures) in
     let e : (touches s (span (getD T (l .i) emptyRow)) && not (eqb (getD line (l .i) 0) 1)) ≡ false = ap (λ (t : Span). touches s t && not (eqb (getD line (l .i) 0) 1)) (sym row) ∙ sym (c .before .is-struck .ensures) ∙ c .if1 .left in

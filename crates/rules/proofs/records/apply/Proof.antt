@@ -59,7 +59,7 @@ use Rattle.model.proofs.Tally as L
 use Rattle.model.proofs.Tally.Laws as L′
 use Rattle.rules.proofs.Laws.Records.{loaded, length-loaded, stored, length-stored, held-least, left}
 use Rattle.rules.proofs.Walks.Shared.{Kept, shares-out, shares-back}
-use Rattle.rules.proofs.Walks.Local.{Row, Ws, arr, lies-in, lies-out}
+use Rattle.rules.proofs.Walks.Local.{width, Row, Ws, arr, lies-in, lies-out}
 use Rattle.rules.proofs.records.held.Symbol as held-def
 use Rattle.rules.proofs.records.held.Symbol.{name as #rules·held}
 use Rattle.rules.proofs.records.held.Met as held-thm
@@ -100,11 +100,11 @@ abbrev rows : ℕ → GName → List (List ℕ) → RefT (List (List ℕ))
 rows l δ ws = record { ptr = (l, 0); name = δ; now = ws }
 
 abbrev zeros : List (List ℕ)
-zeros = replicate 1024 (replicate 6 0)
+zeros = replicate 1024 (replicate width 0)
 
 loaded-long : (ys : List Cap) (m : ℕ) → m ≤ length ys → m ≤ 1024 → length (loaded ys zeros m) ≡ 1024
 loaded-long ys m within few =
-    let long : length zeros ≡ 1024 = length-replicate {A = List ℕ} 1024 (replicate 6 0) in
+    let long : length zeros ≡ 1024 = length-replicate {A = List ℕ} 1024 (replicate width 0) in
     length-loaded ys zeros m within (omega arith) ∙ long
 
 -- ---- the contracts, and what their triples bind
@@ -179,10 +179,10 @@ module _ {M : Type 1} (𝓤 : URA M) (H : Heap 𝓤) (A : Atoms 𝓤) (W : Given
 
 -- a row of zeros, and its machine value and that of all rows
 abbrev none : List ℕ
-none = replicate 6 0
+none = replicate width 0
 
 abbrev no-row : Val
-no-row = arrayVal (replicate 6 (vint w32 0))
+no-row = arrayVal (replicate width (vint w32 0))
 
 abbrev no-rows : Val
 no-rows = arrayVal (replicate 1024 no-row)
@@ -307,10 +307,10 @@ module _ {M : Type 1} (𝓤 : URA M) (H : Heap 𝓤) (A : Atoms 𝓤) (W : Given
         pass1 ! (init ! 34 refl (tt, (tt, (record { fits = room .0 }, tt)))) $ pass1 ! (init ! 32 refl (tt, tt)) $ pass1 ! (init ! 30 refl (EL.lawful Q.the-type Q′.the-laws 𝓤 H A W tt .typed x _ x-is .0)) $ pass1 ! (init ! 28 refl (tt, (tt, (record { fits = room₀ .0 }, tt)))) $ pass0 ! $
         -- the rows, zeros, in memory
         owned ! u32 (Is u32) (uint-makes 𝓤 H A W w32) 0 (vint w32 0 ∷ []) (refl, zero-fits) $
-        use1 W (‵ (Row .own none (no-row ∷ []))) (array-repeat 𝓤 H A W u32 (uint-copy 𝓤 H A W w32) 6 0 (vint w32 0)) $ peeks ! Row (Is Row) (shows 𝓤 H A Row) none (no-row ∷ []) (λ z-is.
-        assigns ! (rep ! 6 (lit ! tt)) (from ! (stop !)) (init ! 19 refl (array-lawful 𝓤 H A W u32 (uint-lawful 𝓤 H A W w32) 6 .typed none _ z-is .0)) $
-        use1 W (‵ (Ws .own zeros (no-rows ∷ []))) (array-repeat 𝓤 H A W Row (array-copy 𝓤 H A W u32 (uint-copy 𝓤 H A W w32) 6) 1024 none no-row) $ peeks ! Ws (Is Ws) (shows 𝓤 H A Ws) zeros (no-rows ∷ []) (λ zs-is.
-        assigns ! (rep ! 1024 (load ! (from ! (stop !)) (look ! 19 refl))) (from ! (stop !)) (init ! 27 refl (array-lawful 𝓤 H A W Row (array-lawful 𝓤 H A W u32 (uint-lawful 𝓤 H A W w32) 6) 1024 .typed zeros _ zs-is .0)) $
+        use1 W (‵ (Row .own none (no-row ∷ []))) (array-repeat 𝓤 H A W u32 (uint-copy 𝓤 H A W w32) width 0 (vint w32 0)) $ peeks ! Row (Is Row) (shows 𝓤 H A Row) none (no-row ∷ []) (λ z-is.
+        assigns ! (rep ! width (lit ! tt)) (from ! (stop !)) (init ! 19 refl (array-lawful 𝓤 H A W u32 (uint-lawful 𝓤 H A W w32) width .typed none _ z-is .0)) $
+        use1 W (‵ (Ws .own zeros (no-rows ∷ []))) (array-repeat 𝓤 H A W Row (array-copy 𝓤 H A W u32 (uint-copy 𝓤 H A W w32) width) 1024 none no-row) $ peeks ! Ws (Is Ws) (shows 𝓤 H A Ws) zeros (no-rows ∷ []) (λ zs-is.
+        assigns ! (rep ! 1024 (load ! (from ! (stop !)) (look ! 19 refl))) (from ! (stop !)) (init ! 27 refl (array-lawful 𝓤 H A W Row (array-lawful 𝓤 H A W u32 (uint-lawful 𝓤 H A W w32) width) 1024 .typed zeros _ zs-is .0)) $
         move ! (27 ∷ 0 ∷ []) $ use2 W (‵ (mem Ws .lies zeros l₅ 0)) (lies-in 𝓤 H A W l₅ zeros no-rows) $
         -- what the parameters own, and the tokens
         move ! (39 ∷ []) $ fsplit ! $ move ! (1 ∷ []) $ fsplit ! $ move ! (1 ∷ []) $ fsplit ! $ drop ! $ fsplit ! $ move ! (1 ∷ []) $ drop ! $ move ! (41 ∷ []) $ split ! $ move ! (1 ∷ []) $ split ! $ move ! (1 ∷ []) $ split ! $ move ! (1 ∷ []) $ drop ! $ move ! (4 ∷ 1 ∷ 2 ∷ 0 ∷ 5 ∷ 3 ∷ []) $ fsplit3 ! $ drop ! $

@@ -54,7 +54,7 @@ use Rattle.model.proofs.Cap as T
 use Rattle.model.proofs.Cap.Laws as T′
 use Rattle.rules.proofs.Walks.Count.{counts, holds, fails}
 use Rattle.rules.proofs.Laws.Records.{loaded, loaded-none, length-loaded, loaded-suc}
-use Rattle.rules.proofs.Walks.Local.{Ws}
+use Rattle.rules.proofs.Walks.Local.{width, recordBytes, Ws}
 use Rattle.rules.proofs.records.put as put
 use Rattle.rules.proofs.records.put.Symbol as put-def
 use Rattle.rules.proofs.records.put.Symbol.{name as #rules·put}
@@ -66,7 +66,7 @@ use Rattle.rules.proofs.records.load.Code as code
 use Rattle.rules.proofs.records.load.Code.Mir as M′
 
 abbrev stayed : Stays (load′.ended .signature .params) (load′.ended .kept)
-stayed = (stay-none-slice (0 ∷ []) tt (plain (λ _. T.the-row)) yes, (stay-none (λ _. usize) yes, (stay-ref (1 ∷ []) tt (ArrayOf (ArrayOf (plain (λ _. u32)) (λ _. tt) 6) (λ _. tt) 1024), tt)))
+stayed = (stay-none-slice (0 ∷ []) tt (plain (λ _. T.the-row)) yes, (stay-none (λ _. usize) yes, (stay-ref (1 ∷ []) tt (ArrayOf (ArrayOf (plain (λ _. u32)) (λ _. tt) width) (λ _. tt) 1024), tt)))
 
 -- the contract that the proof cites
 abbrev Put : {M : Type 1} (𝓤 : URA M) (H : Heap 𝓤) (A : Atoms 𝓤) (mem : Memory → SProp 𝓤) (run : Routine → Fun 𝓤) → Contract 𝓤
@@ -166,7 +166,7 @@ module _ {M : Type 1} (𝓤 : URA M) (H : Heap 𝓤) (A : Atoms 𝓤) (W : Given
       unfolding afterTurn
       more i X l k =
           let small : i < 1024 = omega arith in
-          let times : i * 24 < 2 ^ 64 = omega arith in
+          let times : i * recordBytes < 2 ^ 64 = omega arith in
           let next-fits : i + 1 < 2 ^ 64 = omega arith in
           let one-more : i + 1 ≡ suc i = omega arith in
           let inside : i < length ys = omega arith in
@@ -179,7 +179,7 @@ module _ {M : Type 1} (𝓤 : URA M) (H : Heap 𝓤) (A : Atoms 𝓤) (W : Given
           assigns ! (addr ! (from ! (hop ! (look ! 18 refl) (stop !)))) (from ! (stop !)) (init ! 10 refl (tt, tt)) $
           assigns ! (bin ! (load ! (from ! (stop !)) (look ! 16 refl)) (lit ! tt) (record { fits = times })) (from ! (stop !)) (init ! 8 refl (tt, record { fits = times })) $
           assigns ! (bin ! (load ! (from ! (fld ! refl (stop !))) (look-in ! 22 (sub ! 0 refl (whole !)))) (load ! (from ! (stop !)) (look ! 8 refl)) tt) (from ! (stop !)) (init ! 6 refl (tt, tt)) $
-          rewrite ! 6 (λ (p : ℕ). ‵ (fat fullShare tyPtr l₉ 0 (vptr b p))) (sym (place-is 24 o i)) refl $
+          rewrite ! 6 (λ (p : ℕ). ‵ (fat fullShare tyPtr l₉ 0 (vptr b p))) (sym (place-is recordBytes o i)) refl $
           -- the table is looked into for row i, and shut again
           fsplit ! $ move ! (1 ∷ []) $ fsplit ! $ move ! (1 ∷ 3 ∷ []) $
           looks-slice ! tt T.the-row (Is T.the-row) (shows 𝓤 H A T.the-row) (LL.vals T.the-type T′.the-laws) (LL.tells T.the-type T′.the-laws) (LL.copy T.the-type T′.the-copy 𝓤 H A W) ys b o (λ s.
@@ -244,7 +244,7 @@ module _ {M : Type 1} (𝓤 : URA M) (H : Heap 𝓤) (A : Atoms 𝓤) (W : Given
       walk 𝓤 H A W mem run (κs .0) (κs .1 .0) (qs .0) (qs .1 .0) bounds (a .0 .ptr .0) (a .0 .ptr .1) (a .0 .name) (a .0 .now) (a .1 .0) (a .1 .1 .0 .ptr .0) (a .1 .1 .0 .ptr .1) (a .1 .1 .0 .name) (a .1 .1 .0 .now) (are .0 .0 .1) (few .0) (few .1) 𝓣 known))
 
   load-meets : Meets 𝓤 H A load′.signature (WpFn 𝓤 H (𝓣 .C) (𝓣 .Λ) code.function) (load′.spec 𝓤 H A mem run)
-  load-meets = walk-meets 𝓤 H A load′.ended stayed W (goes-none-slice 𝓤 H A W 2 (0 ∷ []) tt (plain (λ _. T.the-row)) yes, (goes-none 𝓤 H A W 2 (λ _. usize) yes (λ κs x f. refl), (goes-ref 𝓤 H A W 2 1 tt (ArrayOf (ArrayOf (plain (λ _. u32)) (λ _. tt) 6) (λ _. tt) 1024), tt))) (load′.clauses 𝓤 H A mem run)
+  load-meets = walk-meets 𝓤 H A load′.ended stayed W (goes-none-slice 𝓤 H A W 2 (0 ∷ []) tt (plain (λ _. T.the-row)) yes, (goes-none 𝓤 H A W 2 (λ _. usize) yes (λ κs x f. refl), (goes-ref 𝓤 H A W 2 1 tt (ArrayOf (ArrayOf (plain (λ _. u32)) (λ _. tt) width) (λ _. tt) 1024), tt))) (load′.clauses 𝓤 H A mem run)
       (WpFn 𝓤 H (𝓣 .C) (𝓣 .Λ) code.function) (WpFn-mono 𝓤 H (W .laws) 𝓣 code.function) load-walks
 
 pub load-spec : {M : Type 1} → stated.statement M

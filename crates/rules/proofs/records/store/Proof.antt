@@ -53,7 +53,7 @@ use Rattle.table.specs.Words.{rowsIn}
 use Rattle.model.proofs.Cap as T
 use Rattle.model.proofs.Cap.Laws as T′
 use Rattle.rules.proofs.Walks.Count.{counts, holds, fails}
-use Rattle.rules.proofs.Walks.Local.{Ws}
+use Rattle.rules.proofs.Walks.Local.{width, recordBytes, Ws}
 use Rattle.rules.proofs.Laws.Records.{stored, stored-none, stored-suc, length-stored}
 use Rattle.rules.proofs.records.get as get
 use Rattle.rules.proofs.records.get.Symbol as get-def
@@ -66,7 +66,7 @@ use Rattle.rules.proofs.records.store.Code as code
 use Rattle.rules.proofs.records.store.Code.Mir as M′
 
 abbrev stayed : Stays (store′.ended .signature .params) (store′.ended .kept)
-stayed = (stay-slice (0 ∷ []) tt (plain (λ _. T.the-row)), (stay-none (λ _. usize) yes, (stay-none-ref (1 ∷ []) tt (ArrayOf (ArrayOf (plain (λ _. u32)) (λ _. tt) 6) (λ _. tt) 1024) yes, tt)))
+stayed = (stay-slice (0 ∷ []) tt (plain (λ _. T.the-row)), (stay-none (λ _. usize) yes, (stay-none-ref (1 ∷ []) tt (ArrayOf (ArrayOf (plain (λ _. u32)) (λ _. tt) width) (λ _. tt) 1024) yes, tt)))
 
 -- the contract that the proof cites
 abbrev Get : {M : Type 1} (𝓤 : URA M) (H : Heap 𝓤) (A : Atoms 𝓤) (mem : Memory → SProp 𝓤) (run : Routine → Fun 𝓤) → Contract 𝓤
@@ -178,7 +178,7 @@ module _ {M : Type 1} (𝓤 : URA M) (H : Heap 𝓤) (A : Atoms 𝓤) (W : Given
       unfolding afterTurn
       more i X l k =
           let small : i < 1024 = omega arith in
-          let times : i * 24 < 2 ^ 64 = omega arith in
+          let times : i * recordBytes < 2 ^ 64 = omega arith in
           let next-fits : i + 1 < 2 ^ 64 = omega arith in
           let one-more : i + 1 ≡ suc i = omega arith in
           let within : i < length (stored ys ws i) = omega (arith, length-stored ys ws i (omega arith) (omega (arith, long))) in
@@ -196,7 +196,7 @@ module _ {M : Type 1} (𝓤 : URA M) (H : Heap 𝓤) (A : Atoms 𝓤) (W : Given
           -- [κ′'s token; the rows; obs; the table's borrow; κ's token; _8; …; _7; …; _6; …; _5; …; _4; …; _3; …; _2; …; _1; …; _0; …]
           assigns ! (bin ! (load ! (from ! (stop !)) (look ! 13 refl)) (lit ! tt) (record { fits = times })) (from ! (stop !)) (init ! 7 refl (tt, record { fits = times })) $
           assigns ! (bin ! (load ! (from ! (fld ! refl (stop !))) (look-in ! 19 (sub ! 0 refl (whole !)))) (load ! (from ! (stop !)) (look ! 7 refl)) tt) (from ! (stop !)) (init ! 5 refl (tt, tt)) $
-          rewrite ! 5 (λ (p : ℕ). ‵ (fat fullShare tyPtr l₈ 0 (vptr b p))) (sym (place-is 24 o i)) refl $
+          rewrite ! 5 (λ (p : ℕ). ‵ (fat fullShare tyPtr l₈ 0 (vptr b p))) (sym (place-is recordBytes o i)) refl $
           move ! (2 ∷ 3 ∷ 4 ∷ []) $ opens-slice ! tt T.the-row (stored ys ws i) b o $
           elem-out ! T.the-row (Is T.the-row) (shows 𝓤 H A T.the-row) (LL.vals T.the-type T′.the-laws) (LL.tells T.the-type T′.the-laws) fullShare (stored ys ws i) i emptyRow b o within (λ _.
           -- [table[i]; what it owns; the others; the open borrow; obs; auth; κ′'s token; the rows; _8; …; _7; …; _6; …]
@@ -247,7 +247,7 @@ module _ {M : Type 1} (𝓤 : URA M) (H : Heap 𝓤) (A : Atoms 𝓤) (W : Given
       walk 𝓤 H A W mem run (κs .0) (κs .1 .0) (qs .0) (qs .1 .0) bounds (a .0 .ptr .0) (a .0 .ptr .1) (a .0 .name) (a .0 .now) (a .1 .0) (a .1 .1 .0 .ptr .0) (a .1 .1 .0 .ptr .1) (a .1 .1 .0 .name) (a .1 .1 .0 .now) (are .0 .0 .1) (few .0) (few .1) (few .2) 𝓣 known))
 
   store-meets : Meets 𝓤 H A store′.signature (WpFn 𝓤 H (𝓣 .C) (𝓣 .Λ) code.function) (store′.spec 𝓤 H A mem run)
-  store-meets = walk-meets 𝓤 H A store′.ended stayed W (goes-slice 𝓤 H A W 2 0 tt (plain (λ _. T.the-row)), (goes-none 𝓤 H A W 2 (λ _. usize) yes (λ κs x f. refl), (goes-none-ref 𝓤 H A W 2 (1 ∷ []) tt (ArrayOf (ArrayOf (plain (λ _. u32)) (λ _. tt) 6) (λ _. tt) 1024) yes, tt))) (store′.clauses 𝓤 H A mem run)
+  store-meets = walk-meets 𝓤 H A store′.ended stayed W (goes-slice 𝓤 H A W 2 0 tt (plain (λ _. T.the-row)), (goes-none 𝓤 H A W 2 (λ _. usize) yes (λ κs x f. refl), (goes-none-ref 𝓤 H A W 2 (1 ∷ []) tt (ArrayOf (ArrayOf (plain (λ _. u32)) (λ _. tt) width) (λ _. tt) 1024) yes, tt))) (store′.clauses 𝓤 H A mem run)
       (WpFn 𝓤 H (𝓣 .C) (𝓣 .Λ) code.function) (WpFn-mono 𝓤 H (W .laws) 𝓣 code.function) store-walks
 
 pub store-spec : {M : Type 1} → stated.statement M

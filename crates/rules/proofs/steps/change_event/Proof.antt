@@ -13,6 +13,7 @@ use Rattle.model.specs.declared.Access.the-variants.{Reading, Writing}
 use Rattle.model.specs.Derivation.{ancestry, inSubtree}
 use Rattle.model.specs.Table.{derivations}
 use Rattle.model.specs.Requests.{Single}
+use Rattle.model.specs.Sheet6.{sheet6}
 use Rattle.model.specs.Refusals.{viewOf, judge}
 use Rattle.model.specs.Effects.{afterAccess, rowsWithout, rowsAfter}
 use Rattle.table.specs.Words.{rowsIn}
@@ -57,7 +58,7 @@ depth-at-requires : tie.Need-depth-at-requires
 depth-at-requires c κs =
     let s = c .before .before .before .before .before .before in let ws = s .args .table .now in let T = rowsIn ws in
     let j = subst (λ (x : Event). judge (viewOf T (s .args .issued)) (Single x) ≡ 0) (c .before .before .before .before .e2 .given .1) (s .pre .1) in
-    (orderly-few T (length ws) (s .args .k) (s .args .issued) (s .pre .0), orderly-rise T (length ws) (s .args .k) (s .args .issued) (s .pre .0), there-borrow ws (s .args .k) (s .args .issued) (s .pre .0) (c .before .before .before .before .e2 .given .0 .0) (c .before .before .before .before .e2 .given .0 .1 .0) (c .before .before .before .before .e2 .given .0 .1 .1 .0) (c .before .before .before .before .e2 .given .0 .1 .1 .1 .0) j, c .before .find .ensures)
+    (orderly-few T (length ws) (s .args .k) (s .args .issued) (s .pre .0), orderly-rise T (length ws) (s .args .k) (s .args .issued) (s .pre .0), there-borrow ws (s .args .k) (s .args .issued) (s .pre .0) (c .before .before .before .before .e2 .given .0 .0) (c .before .before .before .before .e2 .given .0 .1 .0) (c .before .before .before .before .e2 .given .0 .1 .1 .0) (c .before .before .before .before .e2 .given .0 .1 .1 .1 .0) (c .before .before .before .before .e2 .given .0 .1 .1 .1 .1 .0) j, c .before .find .ensures)
 
 add-new-row-2 : tie.Need-add-new-row-2
 add-new-row-2 c =
@@ -69,13 +70,13 @@ add-new-row-3 : tie.Need-add-new-row-3
 add-new-row-3 c =
     let s = c .before .before .before .before .before .before .before in let ws = s .args .table .now in let T = rowsIn ws in
     let j = subst (λ (x : Event). judge (viewOf T (s .args .issued)) (Single x) ≡ 0) (c .before .before .before .before .before .e2 .given .1) (s .pre .1) in
-    omega (arith, c .depth-at .ensures, depth-borrow ws (s .args .k) (s .args .issued) (s .pre .0) (c .before .before .before .before .before .e2 .given .0 .0) (c .before .before .before .before .before .e2 .given .0 .1 .0) (c .before .before .before .before .before .e2 .given .0 .1 .1 .0) (c .before .before .before .before .before .e2 .given .0 .1 .1 .1 .0) j)
+    omega (arith, c .depth-at .ensures, depth-borrow ws (s .args .k) (s .args .issued) (s .pre .0) (c .before .before .before .before .before .e2 .given .0 .0) (c .before .before .before .before .before .e2 .given .0 .1 .0) (c .before .before .before .before .before .e2 .given .0 .1 .1 .0) (c .before .before .before .before .before .e2 .given .0 .1 .1 .1 .0) (c .before .before .before .before .before .e2 .given .0 .1 .1 .1 .1 .0) j)
 
 append-requires-2 : tie.Need-append-requires-2
 append-requires-2 c κs =
     let s = c .before .before .before .before .before .before .before .before .before .before in let ws = s .args .table .now in let T = rowsIn ws in
     let j = subst (λ (x : Event). judge (viewOf T (s .args .issued)) (Single x) ≡ 0) (c .before .before .before .before .before .before .before .before .e2 .given .1) (s .pre .1) in
-    (room-borrow ws (s .args .k) (s .args .issued) (s .pre .0) (c .before .before .before .before .before .before .before .before .e2 .given .0 .0) (c .before .before .before .before .before .before .before .before .e2 .given .0 .1 .0) (c .before .before .before .before .before .before .before .before .e2 .given .0 .1 .1 .0) (c .before .before .before .before .before .before .before .before .e2 .given .0 .1 .1 .1 .0) j, ready ws (s .args .k) (s .args .issued) (s .pre .0), s .pre .2, subst (λ (d : Cap). Found T (s .args .k) (d .parent .0) (c .before .before .before .before .before .find .result)) (sym (c .before .before .new-row2 .ensures)) (c .before .before .before .before .before .find .ensures), subst (λ (d : Cap). 0 < d .name .0) (sym (c .before .before .new-row2 .ensures)) (omega arith))
+    (room-borrow ws (s .args .k) (s .args .issued) (s .pre .0) (c .before .before .before .before .before .before .before .before .e2 .given .0 .0) (c .before .before .before .before .before .before .before .before .e2 .given .0 .1 .0) (c .before .before .before .before .before .before .before .before .e2 .given .0 .1 .1 .0) (c .before .before .before .before .before .before .before .before .e2 .given .0 .1 .1 .1 .0) (c .before .before .before .before .before .before .before .before .e2 .given .0 .1 .1 .1 .1 .0) j, ready ws (s .args .k) (s .args .issued) (s .pre .0), s .pre .2, subst (λ (d : Cap). Found T (s .args .k) (d .parent .0) (c .before .before .before .before .before .find .result)) (sym (c .before .before .new-row2 .ensures)) (c .before .before .before .before .before .find .ensures), subst (λ (d : Cap). 0 < d .name .0) (sym (c .before .before .new-row2 .ensures)) (omega arith))
 
 read-rows-requires : tie.Need-read-rows-requires
 read-rows-requires c κs =
@@ -98,31 +99,31 @@ returns c =
     let span = c .before .before .before .before .before .before .before .before .before .before .e .given .0 .1 .0 in
     let new = c .before .before .before .before .before .before .before .before .new-row .result in
     let rows = access-rows ws (s .args .k) (s .args .issued) (s .pre .0) Writing (s .args .issued + 1) span (c .before .before .before .before .before .write-rows .last .0) (c .before .before .before .before .before .write-rows .ensures) (c .before .before .before .before .table .given) in
-    let e = ap (λ (l : List Cap). new ∷ l) rows ∙ next-create (s .args .issued) (before T (s .args .k)) (c .before .before .before .before .before .before .before .before .before .before .e .given .0 .0) span (c .before .before .before .before .before .before .before .before .before .before .e .given .0 .1 .1 .0) new (c .before .before .before .before .before .before .before .before .new-row .ensures) ∙ ap (λ (x : Event). rowsAfter (s .args .issued) (before T (s .args .k)) (Single x)) (sym (c .before .before .before .before .before .before .before .before .before .before .e .given .1)) in
+    let e = ap (λ (l : List Cap). new ∷ l) rows ∙ next-create (s .args .issued) (before T (s .args .k)) (c .before .before .before .before .before .before .before .before .before .before .e .given .0 .0) span (c .before .before .before .before .before .before .before .before .before .before .e .given .0 .1 .1 .0) new (c .before .before .before .before .before .before .before .before .new-row .ensures) ∙ ap (λ (x : Event). rowsAfter sheet6 (s .args .issued) (before T (s .args .k)) (Single x)) (sym (c .before .before .before .before .before .before .before .before .before .before .e .given .1)) in
     rw (← e, ← (c .before .before .before .before .table .given)) (c .before .append .ensures)
 
 returns-2 : tie.Need-returns-2
 returns-2 c =
     let s = c .before .before .before .before .before .before .before .before .before .before .before .before in let ws = s .args .table .now in let T = rowsIn ws in
-    let e : (c .before .before .before .before .new-row2 .result ∷ before T (s .args .k)) ≡ rowsAfter (s .args .issued) (before T (s .args .k)) (Single (s .args .e)) = next-borrow (s .args .issued) (before T (s .args .k)) (c .before .before .before .before .before .before .before .before .before .before .e2 .given .0 .0) (c .before .before .before .before .before .before .before .before .before .before .e2 .given .0 .1 .0) (c .before .before .before .before .before .before .before .before .before .before .e2 .given .0 .1 .1 .0) (c .before .before .before .before .before .before .before .before .before .before .e2 .given .0 .1 .1 .1 .0) (c .before .before .before .before .before .depth-at .result) (c .before .before .before .before .new-row2 .result) (c .before .before .before .before .before .depth-at .ensures) (c .before .before .before .before .new-row2 .ensures) ∙ ap (λ (x : Event). rowsAfter (s .args .issued) (before T (s .args .k)) (Single x)) (sym (c .before .before .before .before .before .before .before .before .before .before .e2 .given .1)) in
+    let e : (c .before .before .before .before .new-row2 .result ∷ before T (s .args .k)) ≡ rowsAfter sheet6 (s .args .issued) (before T (s .args .k)) (Single (s .args .e)) = next-borrow (s .args .issued) (before T (s .args .k)) (c .before .before .before .before .before .before .before .before .before .before .e2 .given .0 .0) (c .before .before .before .before .before .before .before .before .before .before .e2 .given .0 .1 .0) (c .before .before .before .before .before .before .before .before .before .before .e2 .given .0 .1 .1 .0) (c .before .before .before .before .before .before .before .before .before .before .e2 .given .0 .1 .1 .1 .0) (c .before .before .before .before .before .before .before .before .before .before .e2 .given .0 .1 .1 .1 .1 .0) (c .before .before .before .before .before .depth-at .result) (c .before .before .before .before .new-row2 .result) (c .before .before .before .before .before .depth-at .ensures) (c .before .before .before .before .new-row2 .ensures) ∙ ap (λ (x : Event). rowsAfter sheet6 (s .args .issued) (before T (s .args .k)) (Single x)) (sym (c .before .before .before .before .before .before .before .before .before .before .e2 .given .1)) in
     rw (← e) (c .before .append2 .ensures)
 
 returns-3 : tie.Need-returns-3
 returns-3 c =
     let s = c .before .before .before .before .before .before .before in let ws = s .args .table .now in let T = rowsIn ws in
-    let e : afterAccess Reading (c .before .before .before .before .before .e3 .given .0 .0 .0) (c .before .before .before .before .before .e3 .given .0 .1 .0) (before T (s .args .k)) ≡ rowsAfter (s .args .issued) (before T (s .args .k)) (Single (s .args .e)) = next-read (s .args .issued) (before T (s .args .k)) (c .before .before .before .before .before .e3 .given .0 .0) (c .before .before .before .before .before .e3 .given .0 .1 .0) ∙ ap (λ (x : Event). rowsAfter (s .args .issued) (before T (s .args .k)) (Single x)) (sym (c .before .before .before .before .before .e3 .given .1)) in
+    let e : afterAccess sheet6 Reading (c .before .before .before .before .before .e3 .given .0 .0 .0) (c .before .before .before .before .before .e3 .given .0 .1 .0) (before T (s .args .k)) ≡ rowsAfter sheet6 (s .args .issued) (before T (s .args .k)) (Single (s .args .e)) = next-read (s .args .issued) (before T (s .args .k)) (c .before .before .before .before .before .e3 .given .0 .0) (c .before .before .before .before .before .e3 .given .0 .1 .0) ∙ ap (λ (x : Event). rowsAfter sheet6 (s .args .issued) (before T (s .args .k)) (Single x)) (sym (c .before .before .before .before .before .e3 .given .1)) in
     rw (← e) (c .before .read-rows .ensures)
 
 returns-4 : tie.Need-returns-4
 returns-4 c =
     let s = c .before .before .before .before .before .before .before in let ws = s .args .table .now in let T = rowsIn ws in
-    let e : afterAccess Writing (c .before .before .before .before .before .e4 .given .0 .0 .0) (c .before .before .before .before .before .e4 .given .0 .1 .0) (before T (s .args .k)) ≡ rowsAfter (s .args .issued) (before T (s .args .k)) (Single (s .args .e)) = next-write (s .args .issued) (before T (s .args .k)) (c .before .before .before .before .before .e4 .given .0 .0) (c .before .before .before .before .before .e4 .given .0 .1 .0) ∙ ap (λ (x : Event). rowsAfter (s .args .issued) (before T (s .args .k)) (Single x)) (sym (c .before .before .before .before .before .e4 .given .1)) in
+    let e : afterAccess sheet6 Writing (c .before .before .before .before .before .e4 .given .0 .0 .0) (c .before .before .before .before .before .e4 .given .0 .1 .0) (before T (s .args .k)) ≡ rowsAfter sheet6 (s .args .issued) (before T (s .args .k)) (Single (s .args .e)) = next-write (s .args .issued) (before T (s .args .k)) (c .before .before .before .before .before .e4 .given .0 .0) (c .before .before .before .before .before .e4 .given .0 .1 .0) ∙ ap (λ (x : Event). rowsAfter sheet6 (s .args .issued) (before T (s .args .k)) (Single x)) (sym (c .before .before .before .before .before .e4 .given .1)) in
     rw (← e) (c .before .write-rows2 .ensures)
 
 returns-5 : tie.Need-returns-5
 returns-5 c =
     let s = c .before .before .before .before .before .before .before .before in let ws = s .args .table .now in let T = rowsIn ws in
-    let e : rowsWithout (c .before .before .before .before .before .before .e5 .given .0 .0 .0 ∷ []) (before T (s .args .k)) ≡ rowsAfter (s .args .issued) (before T (s .args .k)) (Single (s .args .e)) = next-drop (s .args .issued) (before T (s .args .k)) (c .before .before .before .before .before .before .e5 .given .0 .0) ∙ ap (λ (x : Event). rowsAfter (s .args .issued) (before T (s .args .k)) (Single x)) (sym (c .before .before .before .before .before .before .e5 .given .1)) in
+    let e : rowsWithout (c .before .before .before .before .before .before .e5 .given .0 .0 .0 ∷ []) (before T (s .args .k)) ≡ rowsAfter sheet6 (s .args .issued) (before T (s .args .k)) (Single (s .args .e)) = next-drop (s .args .issued) (before T (s .args .k)) (c .before .before .before .before .before .before .e5 .given .0 .0) ∙ ap (λ (x : Event). rowsAfter sheet6 (s .args .issued) (before T (s .args .k)) (Single x)) (sym (c .before .before .before .before .before .before .e5 .given .1)) in
     rw (← e) (c .before .drop-names .ensures)
 
 pub change-event-spec : {M : Type 1} → statement M
@@ -142,6 +143,7 @@ change-event-spec =
     add-new-row-2
     (λ c. search needs)
     add-new-row-3
+    (λ c. search needs)
     (λ c κs. search needs)
     append-requires-2
     (λ c. search needs)

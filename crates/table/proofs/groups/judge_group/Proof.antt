@@ -7,6 +7,7 @@ use lib.ListN.{length, take}
 use lib.ListN.{length}
 use borrow.Author.Needs.{needs}
 use borrow.Author.Tests.{not-true, not-false}
+use Rattle.model.specs.Refusals.{viewOf}
 use Rattle.model.specs.Step.{verdict}
 use Rattle.model.proofs.Offered.{misgrouped-next}
 use Rattle.table.specs.Words.{rowsIn}
@@ -18,7 +19,7 @@ use Rattle.table.proofs.groups.judge_group.Tie as tie
 returns : tie.Need-returns
 returns c =
     let s = c .before .before .before in
-    rw (misgrouped-next (rowsIn (s .args .table .now)) (s .args .issued) (s .args .names .now) (s .pre .ordered) (sym (c .before .is-group .ensures) ∙ not-true (c .before .is-group .result) (c .if1 .taken)))
+    rw (misgrouped-next (viewOf (rowsIn (s .args .table .now)) (s .args .issued)) (s .args .names .now) (s .pre .ordered) (sym (c .before .is-group .ensures) ∙ not-true (c .before .is-group .result) (c .if1 .taken)))
 
 judge-names-requires : tie.Need-judge-names-requires
 judge-names-requires c κs =

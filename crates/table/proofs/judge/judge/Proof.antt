@@ -46,7 +46,7 @@ returns c =
 returns-2 : tie.Need-returns-2
 returns-2 c =
     let s = c .before .before .before .before in let T = rowsIn (s .args .table .now) in
-    rw (c .before .before .e2 .given .1) (c .judge-borrow .ensures ∙ answer-other T (length (s .args .table .now)) (s .args .k) (s .args .issued) (s .pre) (Borrow (c .before .before .e2 .given .0 .0) (c .before .before .e2 .given .0 .1 .0) (c .before .before .e2 .given .0 .1 .1 .0) (c .before .before .e2 .given .0 .1 .1 .1 .0)) (suc (s .args .issued)))
+    rw (c .before .before .e2 .given .1) (c .judge-borrow .ensures ∙ answer-other T (length (s .args .table .now)) (s .args .k) (s .args .issued) (s .pre) (Borrow (c .before .before .e2 .given .0 .0) (c .before .before .e2 .given .0 .1 .0) (c .before .before .e2 .given .0 .1 .1 .0) (c .before .before .e2 .given .0 .1 .1 .1 .0) (c .before .before .e2 .given .0 .1 .1 .1 .1 .0)) (suc (s .args .issued)))
 
 returns-3 : tie.Need-returns-3
 returns-3 c =

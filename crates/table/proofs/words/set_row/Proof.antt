@@ -1,4 +1,4 @@
--- `set_row` meets its contract: a row's six words set it.
+-- `set_row` meets its contract: a row's words set it.
 -- Assumes nothing.
 use mathlib.Core.Path.{refl}
 use Rattle.table.proofs.Laws.Words.{in-set}

@@ -14,7 +14,7 @@ use Rattle.listing.specs.Listing.{listing}
 use Rattle.trace.specs.declared.run.RunAnswer.the-variants.{Allowed, Refused}
 use Rattle.trace.specs.Run.{ranOf}
 use Rattle.trace.specs.Check.{answerLine}
-use Rattle.trace.proofs.Laws.Report.{long-text, ran-is, ran-order, ran-number, ran-report}
+use Rattle.trace.proofs.Laws.Report.{zeroRow, long-text, ran-is, ran-order, ran-number, ran-report}
 use Rattle.trace.proofs.report.check.Statement.{statement}
 use Rattle.trace.proofs.report.check.Tie as tie
 
@@ -76,13 +76,13 @@ returns-3 c =
     subst (λ (l : List ℕ). Writes true l (s .args .out .now) (c .before .before .write-report2 .last .1 .1 .1 .1 .0) (c .before .before .write-report2 .result)) (ap (λ (k : ℕ). answerLine k (answer .0 .1 .0) ++ listing (rowsIn (run .last .0)) (run .result .tally .issued)) (c .before .before .before .before .number-of .ensures) ∙ ran-report (s .args .input .now) ran is (c .before .before .before .before .before .before .before .before .before .before .before .before .if1 .left)) (c .before .before .write-report2 .ensures)
 
 slice-aggregate-run-lent : tie.Need-slice-aggregate-run-lent
-slice-aggregate-run-lent c = sym (length-replicate {A = List ℕ} 1024 (replicate 6 0))
+slice-aggregate-run-lent c = sym (length-replicate {A = List ℕ} 1024 zeroRow)
 
 slice-aggregate-write-report : tie.Need-slice-aggregate-write-report
-slice-aggregate-write-report c = sym (c .before .before .before .before .table2 .given ∙ length-replicate {A = List ℕ} 1024 (replicate 6 0))
+slice-aggregate-write-report c = sym (c .before .before .before .before .table2 .given ∙ length-replicate {A = List ℕ} 1024 zeroRow)
 
 slice-aggregate-write-report-2 : tie.Need-slice-aggregate-write-report-2
-slice-aggregate-write-report-2 c = sym (c .before .before .before .before .table2 .given ∙ length-replicate {A = List ℕ} 1024 (replicate 6 0))
+slice-aggregate-write-report-2 c = sym (c .before .before .before .before .table2 .given ∙ length-replicate {A = List ℕ} 1024 zeroRow)
 
 pub check-spec : {M : Type 1} → statement M
 check-spec =
