@@ -6,6 +6,7 @@
 # make uninstall      takes away what was installed there
 # make test           the gate
 # make bench          each call's time beside the Rust baseline's
+# make stack          each call's stack
 # make clean          takes away what was built
 
 PREFIX ?= /usr/local
@@ -21,7 +22,7 @@ archives := $(libraries)/libkelzoud.a $(libraries)/libkelzoud-events.a
 packages := kelzoud.pc kelzoud-events.pc
 root := $(DESTDIR)$(PREFIX)
 
-.PHONY: all library archives program install install-built uninstall test bench clean
+.PHONY: all library archives program install install-built uninstall test bench stack clean
 
 all: library program
 
@@ -74,6 +75,10 @@ test:
 
 bench: library
 	KELZOUD_LIB=$(libraries) $(CARGO) run --quiet --release --manifest-path bench/Cargo.toml
+
+stack: library
+	$(CC) -std=gnu99 -O1 -Wall -Wextra -Werror -Iinclude bench/stack.c $(libraries)/libkelzoud.a -o target/stack
+	target/stack
 
 clean:
 	rm -rf target tests/target bindings/rust/target

@@ -38,11 +38,11 @@ enum {
     KZ_MAX_DEPTH = 64,      /* depth of a capability */
     KZ_MAX_GROUP = 64,      /* names that are dropped together */
     KZ_MAX_INPUT = 65536,   /* bytes of input that kz_check runs */
-    KZ_MAX_LINE = 45,       /* bytes of an event line, its newline included */
-    KZ_MAX_NAMED_LINE = 56, /* the same where new names are written out */
+    KZ_MAX_LINE = 50,       /* bytes of an event line, its newline included */
+    KZ_MAX_NAMED_LINE = 61, /* the same where new names are written out */
     KZ_MAX_DROP_LINE = 711, /* the same of a line of KZ_MAX_GROUP names */
-    KZ_MAX_LISTING = 34834, /* bytes of a listing */
-    KZ_MAX_CHECK = 34853    /* bytes that kz_check writes */
+    KZ_MAX_LISTING = 39949, /* bytes of a listing */
+    KZ_MAX_CHECK = 39968    /* bytes that kz_check writes */
 };
 
 /* The first line of a text in which new names are written out. */
@@ -52,6 +52,13 @@ enum {
 enum {
     KZ_RO = 1, /* read-only */
     KZ_RW = 2  /* read-write */
+};
+
+/* Kinds of capabilities: what kz_event says of reads and writes goes by them. */
+enum {
+    KZ_REFERENCE = 0, /* as of &T and &mut T */
+    KZ_RAW = 1,       /* as of *const T and *mut T */
+    KZ_CELL = 2       /* as of &UnsafeCell<T> */
 };
 
 /* Kinds of events. */
@@ -66,9 +73,9 @@ enum {
 
 /* The refusals in the order in which they are judged: where several apply, the first is given. */
 enum kz_refusal {
-    KZ_DISORDERED = 1,       /* the table is not in order, or has more than KZ_MAX_ROWS rows */
+    KZ_DISORDERED = 1,       /* the table is not in order, as kz_cap says, or has too many rows */
     KZ_MISGROUPED = 13,      /* lent names: none, more than KZ_MAX_GROUP, or not strictly rising */
-    KZ_MISSPELT = 2,         /* a line or listing not in the one spelling; an unknown kind or right */
+    KZ_MISSPELT = 2,         /* not in the one spelling; an unknown kind, right or cap_kind */
     KZ_ILLEGAL_SPAN = 3,     /* an end above 4,294,967,296 */
     KZ_UNISSUED = 4,         /* name 0, or a name above the issued number */
     KZ_ENDED = 5,            /* a name that was issued, and whose capability has ended */
@@ -83,7 +90,10 @@ enum kz_refusal {
 
 /*
  * A capability. A table is a run of these: live capabilities stand first, in rising order of name,
- * and every later row is all zeros.
+ * and every later row is all zeros. A table is in order when it is so arranged, has at most
+ * KZ_MAX_ROWS rows, and each row is as is said here, with no name above the issued number, nor that
+ * above KZ_MAX_NAME; no span ends above 4,294,967,296; and what was borrowed has its parent in an
+ * earlier row, a span inside the parent's, and a right not above it.
  */
 typedef struct kz_cap {
     uint32_t name;   /* 1 to KZ_MAX_NAME, given out in order and never twice */
@@ -92,6 +102,7 @@ typedef struct kz_cap {
     uint32_t length; /* the number of addresses in its span, which may be 0 */
     uint32_t right;  /* KZ_RO or KZ_RW */
     uint32_t depth;  /* 1 for a created one, one more for each borrow, at most KZ_MAX_DEPTH */
+    uint32_t kind;   /* KZ_REFERENCE, KZ_RAW or KZ_CELL; a created one is a reference */
 } kz_cap;
 
 /*
@@ -125,18 +136,29 @@ typedef struct kz_part {
  * One event. What a kind lacks is 0 where an event is read, and not looked at where one is given:
  *
  *   KZ_CREATE    start length right        a new root, freshly allocated: ends every capability that
- *                                          is touched, and its subtree
- *   KZ_BORROW    name start length right   a new capability under a live one; takes nothing away
- *   KZ_READ      name start length         lowers to read-only every capability that is touched and
- *                                          is neither the reader nor an ancestor of it, and its
- *                                          subtree
- *   KZ_WRITE     name start length         ends the same capabilities and their subtrees
+ *                                          is touched, of whatever kind, and its subtree
+ *   KZ_BORROW    name start length right   a new capability of kind `cap_kind` under a live one; takes
+ *                cap_kind                  nothing away
+ *   KZ_READ      name start length         lowers to read-only every capability that it strikes, and
+ *                                          its subtree
+ *   KZ_WRITE     name start length         ends every capability that it strikes, and its subtree
  *   KZ_DROP      name                      ends the capability and its subtree
  *   KZ_DROP_ALL  start length              ends several, which stand in a list of names beside the
  *                                          event: `length` names, from the place `start` on
  *
- * A span of length 0 touches nothing, so a create of length 0 ends nothing. Any other kind, and any
- * other right than KZ_RO and KZ_RW, is KZ_MISSPELT.
+ * A read or write strikes what is touched and is neither its user nor an ancestor of its user, except:
+ *
+ *   - No read strikes a raw capability, and no write does whose user is the raw one's parent or below
+ *     that parent. So a raw one, its parent, and others borrowed from that parent are used in turn.
+ *   - A write whose user is a cell, or below one, strikes nothing outside that cell's subtree. So cells
+ *     over the same memory are written through in turn, and what stands beside them stays. A read from
+ *     there strikes as any other does, other cells too.
+ *
+ * A subtree goes along whatever the kinds in it: a raw one is lowered and ends with an ancestor. Where
+ * all are references there is no exception.
+ *
+ * A span of length 0 touches nothing, so a create of length 0 ends nothing. Any other kind, any other
+ * right than KZ_RO and KZ_RW, and in a borrow any other `cap_kind` than the three, is KZ_MISSPELT.
  *
  * A log may write out the name of what a create or borrow makes. Then `named` is not 0, and `written`
  * is that name. Where it is not the issued number plus one, as 0 never is, the event is refused
@@ -145,13 +167,14 @@ typedef struct kz_part {
  * Begin with all zeros: later releases add fields, in which 0 asks for what is said here.
  */
 typedef struct kz_event {
-    uint32_t kind;    /* KZ_CREATE to KZ_DROP_ALL */
-    uint32_t name;    /* the capability that the event goes through */
-    uint32_t start;   /* the first address of its span, or the first place of its names, from 0 */
-    uint32_t length;  /* how many addresses, or how many names */
-    uint32_t right;   /* KZ_RO or KZ_RW */
-    uint32_t named;   /* not 0 where a new name is written out */
-    uint32_t written; /* the new name that is written out */
+    uint32_t kind;     /* KZ_CREATE to KZ_DROP_ALL */
+    uint32_t name;     /* the capability that the event goes through */
+    uint32_t start;    /* the first address of its span, or the first place of its names, from 0 */
+    uint32_t length;   /* how many addresses, or how many names */
+    uint32_t right;    /* KZ_RO or KZ_RW */
+    uint32_t named;    /* not 0 where a new name is written out */
+    uint32_t written;  /* the new name that is written out */
+    uint32_t cap_kind; /* of what a borrow makes: KZ_REFERENCE, KZ_RAW or KZ_CELL */
 } kz_event;
 
 /* An answer. */
@@ -190,11 +213,14 @@ static inline kz_answer kz_apply(const kz_lent *lent, const kz_event *event);
 static inline size_t kz_apply_all(const kz_lent *lent, const kz_event *events, size_t count,
                                   const uint32_t *names, size_t names_len, kz_answer *answers);
 
-/* kz_apply for each kind, with the values that the kind has, and no written name. */
+/* kz_apply for each kind, with the values that the kind has, and no written name. What kz_borrow makes
+   is a reference; kz_borrow_as is told the kind. */
 static inline kz_answer kz_create(const kz_lent *lent, uint32_t start, uint32_t length,
                                   uint32_t right);
 static inline kz_answer kz_borrow(const kz_lent *lent, uint32_t name, uint32_t start,
                                   uint32_t length, uint32_t right);
+static inline kz_answer kz_borrow_as(const kz_lent *lent, uint32_t name, uint32_t start,
+                                     uint32_t length, uint32_t right, uint32_t kind);
 static inline kz_answer kz_read(const kz_lent *lent, uint32_t name, uint32_t start,
                                 uint32_t length);
 static inline kz_answer kz_write(const kz_lent *lent, uint32_t name, uint32_t start,
@@ -234,14 +260,15 @@ static inline kz_answer kz_run(const kz_lent *lent, const uint8_t *text, size_t 
  * `(borrow NAME START LENGTH RIGHT)`, `(read NAME START LENGTH)`, `(write NAME START LENGTH)` and
  * `(drop NAME)`; with a written name `(create WRITTEN START LENGTH RIGHT)` and
  * `(borrow WRITTEN NAME START LENGTH RIGHT)`; and `(drop NAME .. NAME)` of a KZ_DROP_ALL, whose names
- * stand in `names` as for kz_apply_all. Of one name that is the line of KZ_DROP. Any numbers may be
- * written; whether they are right is judged on a table.
+ * stand in `names` as for kz_apply_all. Of one name that is the line of KZ_DROP. The line of a borrow
+ * ends in ` raw)` or ` cell)` where that is its `cap_kind`; that it is a reference is not written. Any
+ * numbers may be written; whether they are right is judged on a table.
  *
  * Allowed: the value is the length written, at most KZ_MAX_LINE, KZ_MAX_NAMED_LINE with a written
  * name, and KZ_MAX_DROP_LINE of a KZ_DROP_ALL.
  * Refused: KZ_MISGROUPED for a KZ_DROP_ALL of no name, of more than KZ_MAX_GROUP, or of names that do
- * not rise strictly; KZ_MISSPELT for an unknown kind or right; else KZ_BUFFER_TOO_SHORT. `out` is
- * untouched.
+ * not rise strictly; KZ_MISSPELT for an unknown kind, right or `cap_kind`; else KZ_BUFFER_TOO_SHORT.
+ * `out` is untouched.
  */
 static inline kz_answer kz_write_event(const kz_event *event, const uint32_t *names,
                                        size_t names_len, uint8_t *out, size_t out_len);
@@ -262,7 +289,9 @@ static inline kz_answer kz_read_event(uint32_t named, const uint8_t *line, size_
 
 /*
  * Writes the listing of a table and of its tally's issued number to the start of `out`; the bytes
- * after it stay.
+ * after it stay. It is `(issued N)`, then a line for each created capability by rising name: its name,
+ * start, length, right, `raw` or `cell` where that is its kind, and those borrowed from it in the same
+ * form, as in `(1 0 64 rw (2 0 8 rw raw (3 0 4 ro)) (4 8 8 ro cell))`.
  *
  * Allowed: the value is the length written.
  * Refused: KZ_DISORDERED, else KZ_BUFFER_TOO_SHORT. `out` is untouched.
@@ -355,30 +384,35 @@ static inline size_t kz_apply_all(const kz_lent *lent, const kz_event *events, s
 
 static inline kz_answer kz_create(const kz_lent *lent, uint32_t start, uint32_t length,
                                   uint32_t right) {
-    const kz_event event = {KZ_CREATE, 0, start, length, right, 0, 0};
+    const kz_event event = {KZ_CREATE, 0, start, length, right, 0, 0, 0};
     return kz_apply(lent, &event);
 }
 
 static inline kz_answer kz_borrow(const kz_lent *lent, uint32_t name, uint32_t start,
                                   uint32_t length, uint32_t right) {
-    const kz_event event = {KZ_BORROW, name, start, length, right, 0, 0};
+    return kz_borrow_as(lent, name, start, length, right, KZ_REFERENCE);
+}
+
+static inline kz_answer kz_borrow_as(const kz_lent *lent, uint32_t name, uint32_t start,
+                                     uint32_t length, uint32_t right, uint32_t kind) {
+    const kz_event event = {KZ_BORROW, name, start, length, right, 0, 0, kind};
     return kz_apply(lent, &event);
 }
 
 static inline kz_answer kz_read(const kz_lent *lent, uint32_t name, uint32_t start,
                                 uint32_t length) {
-    const kz_event event = {KZ_READ, name, start, length, 0, 0, 0};
+    const kz_event event = {KZ_READ, name, start, length, 0, 0, 0, 0};
     return kz_apply(lent, &event);
 }
 
 static inline kz_answer kz_write(const kz_lent *lent, uint32_t name, uint32_t start,
                                  uint32_t length) {
-    const kz_event event = {KZ_WRITE, name, start, length, 0, 0, 0};
+    const kz_event event = {KZ_WRITE, name, start, length, 0, 0, 0, 0};
     return kz_apply(lent, &event);
 }
 
 static inline kz_answer kz_drop(const kz_lent *lent, uint32_t name) {
-    const kz_event event = {KZ_DROP, name, 0, 0, 0, 0, 0};
+    const kz_event event = {KZ_DROP, name, 0, 0, 0, 0, 0, 0};
     return kz_apply(lent, &event);
 }
 
@@ -386,7 +420,7 @@ static inline kz_answer kz_drop_all(const kz_lent *lent, const uint32_t *names, 
     /* No list above KZ_MAX_GROUP is a group, so that of a longer one, which may be longer than 32 bits
        can say, one name more than that is enough to be refused. */
     const size_t length = count <= KZ_MAX_GROUP ? count : KZ_MAX_GROUP + 1;
-    const kz_event event = {KZ_DROP_ALL, 0, 0, (uint32_t)length, 0, 0, 0};
+    const kz_event event = {KZ_DROP_ALL, 0, 0, (uint32_t)length, 0, 0, 0, 0};
     return kz_abi_answer(
         kz_abi_apply(lent->table, lent->rows, lent->tally, &event, names, length));
 }

@@ -2,7 +2,7 @@
 //! both print the same.
 
 use kelzoud::{
-    apply, write_listing, Addr, Answer, Cap, Event, Name, Right, Span, Tally, MAX_LISTING,
+    apply, write_listing, Addr, Answer, Cap, Event, Kind, Name, Right, Span, Tally, MAX_LISTING,
 };
 
 const ROWS: usize = 16;
@@ -109,6 +109,7 @@ impl Simulator {
                 parent: name(from),
                 span,
                 right,
+                kind: Kind::Reference,
             },
             Load { from } => Event::Read {
                 name: name(from),

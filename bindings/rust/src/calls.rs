@@ -198,7 +198,7 @@ pub fn read_event(spelling: Spelling, line: &[u8]) -> Result<Line, Refusal> {
     };
     value(answer)?;
     let line = request.line(names);
-    Ok(line.expect("a line that is read has a known kind and right"))
+    Ok(line.expect("a line that is read has known kinds and a known right"))
 }
 
 /// Writes the listing of a table and its issued number to the start of the buffer, and answers its

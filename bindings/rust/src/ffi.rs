@@ -3,7 +3,7 @@
 use crate::{Cap, Tally};
 
 /// `kz_event`, word for word.
-pub type EventWords = [u32; 7];
+pub type EventWords = [u32; 8];
 
 /// `kz_answer`, word for word.
 pub type AnswerWords = [u32; 2];

@@ -4,10 +4,11 @@
 //! drop) is allowed or refused, and the table follows the allowed ones: a read lowers to read-only,
 //! and a write ends, every capability that it touches and that is neither its user nor an ancestor
 //! of its user, with their subtrees. A create is a fresh allocation and ends every capability that it
-//! touches. Nothing is taken away when a borrow is made.
+//! touches. Nothing is taken away when a borrow is made. Borrows that stand for raw pointers and cells
+//! say so, and are struck by less, or strike less ([`Kind`]).
 //!
 //! ```
-//! use kelzoud::{apply, Addr, Answer, Cap, Event, Name, Refusal, Right, Span, Tally};
+//! use kelzoud::{apply, Addr, Answer, Cap, Event, Kind, Name, Refusal, Right, Span, Tally};
 //!
 //! let mut table = [Cap::EMPTY; 16];
 //! let mut tally = Tally::default();
@@ -16,8 +17,8 @@
 //! let create = Event::Create { written: None, span, right: Right::ReadWrite };
 //! assert_eq!(apply(&mut table, &mut tally, create), Answer::Allowed(Some(Name(1))));
 //!
-//! let right = Right::ReadWrite;
-//! let borrow = Event::Borrow { written: None, parent: Name(1), span, right };
+//! let (right, kind) = (Right::ReadWrite, Kind::Reference);
+//! let borrow = Event::Borrow { written: None, parent: Name(1), span, right, kind };
 //! assert_eq!(apply(&mut table, &mut tally, borrow), Answer::Allowed(Some(Name(2))));
 //!
 //! // A write through the parent ends the borrow.
@@ -65,6 +66,21 @@
 //! assert_eq!((table[0].name, tally.drops), (2, 1));
 //! ```
 //!
+//! A raw pointer and what it was made from are used in turn. Here 2 stands for a `&mut`, and 3 for a
+//! `*mut` made from it; a write through 1, from which the `&mut` was borrowed, ends both:
+//!
+//! ```
+//! use kelzoud::{run, Cap, Refusal, RunAnswer, Tally};
+//!
+//! let mut table = [Cap::EMPTY; 16];
+//! let mut tally = Tally::default();
+//! let text = b"(create 0 64 rw)\n(borrow 1 0 8 rw)\n(borrow 2 0 8 rw raw)\n\
+//!     (write 3 0 8)\n(write 2 0 8)\n(write 3 0 8)\n";
+//! assert_eq!(run(&mut table, &mut tally, text), RunAnswer::Allowed { lines: 6 });
+//! let answer = run(&mut table, &mut tally, b"(write 1 0 8)\n(read 3 0 8)\n");
+//! assert_eq!(answer, RunAnswer::Refused { refusal: Refusal::Ended, line: 2 });
+//! ```
+//!
 //! Many events are handed over in one call by [`apply_all`], and a log is read line by line by
 //! [`read_event`].
 //!
@@ -86,7 +102,7 @@ pub use calls::{
     write_listing,
 };
 pub use requests::{Group, Line, Request, Spelling};
-pub use values::{Addr, Cap, Event, Name, Right, Span, Tally};
+pub use values::{Addr, Cap, Event, Kind, Name, Right, Span, Tally};
 
 /// The most rows of a table.
 pub const MAX_ROWS: usize = 1_024;
@@ -104,10 +120,10 @@ pub const MAX_GROUP: usize = 64;
 pub const MAX_INPUT: usize = 65_536;
 
 /// The most bytes of a line of [`write_event`] without a written name, its newline included.
-pub const MAX_LINE: usize = 45;
+pub const MAX_LINE: usize = 50;
 
 /// The most bytes of a line of [`write_event`] with a written name, its newline included.
-pub const MAX_NAMED_LINE: usize = 56;
+pub const MAX_NAMED_LINE: usize = 61;
 
 /// The most bytes of a line of [`write_drop`], its newline included.
 pub const MAX_DROP_LINE: usize = 711;
@@ -116,7 +132,7 @@ pub const MAX_DROP_LINE: usize = 711;
 pub const NAMED_HEADER: &[u8] = b"(trace 2)\n";
 
 /// The most bytes of a listing.
-pub const MAX_LISTING: usize = 34_834;
+pub const MAX_LISTING: usize = 39_949;
 
 /// The most bytes that [`check`] writes.
-pub const MAX_CHECK: usize = 34_853;
+pub const MAX_CHECK: usize = 39_968;

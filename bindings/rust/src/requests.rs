@@ -3,7 +3,7 @@
 use core::fmt;
 use core::ops::{Deref, Range};
 
-use crate::{Addr, Event, Name, Right, Span, MAX_GROUP};
+use crate::{Addr, Event, Kind, Name, Right, Span, MAX_GROUP};
 
 const CREATE: u32 = 1;
 const BORROW: u32 = 2;
@@ -31,6 +31,7 @@ pub struct Request {
     right: u32,
     named: u32,
     written: u32,
+    cap_kind: u32,
 }
 
 impl Request {
@@ -43,6 +44,7 @@ impl Request {
         right: 0,
         named: 0,
         written: 0,
+        cap_kind: 0,
     };
 
     /// Drops the names together that stand at these places of the list. Places past its end, and places
@@ -59,8 +61,8 @@ impl Request {
         }
     }
 
-    /// What a line asks for that was read into this request and these names; nothing for a kind or right
-    /// that no line has.
+    /// What a line asks for that was read into this request and these names; nothing for a kind, right
+    /// or kind of capability that no line has.
     pub(crate) fn line(self, names: [Name; MAX_GROUP]) -> Option<Line> {
         let name = Name(self.name);
         let written = (self.named != 0).then_some(Name(self.written));
@@ -79,6 +81,7 @@ impl Request {
                 parent: name,
                 span,
                 right: Right::from_number(self.right)?,
+                kind: Kind::from_number(self.cap_kind)?,
             },
             READ => Event::Read { name, span },
             WRITE => Event::Write { name, span },
@@ -118,6 +121,7 @@ impl From<Event> for Request {
             right,
             named: event.written().is_some().into(),
             written: event.written().map_or(0, |written| written.0),
+            cap_kind: event.kind().unwrap_or_default() as u32,
         }
     }
 }

@@ -41,6 +41,35 @@ impl Right {
     }
 }
 
+/// What a capability stands for, which decides what strikes it and what is struck through it:
+/// [`Event::Read`] and [`Event::Write`] say how. There is no bond between kind and right.
+#[derive(Clone, Copy, Debug, Default, PartialEq, Eq, Hash)]
+#[repr(u8)]
+pub enum Kind {
+    /// A reference, `&T` or `&mut T`: the kind of all that is created. It is not written in lines and
+    /// listings.
+    #[default]
+    Reference = 0,
+    /// `raw`, a raw pointer, `*const T` or `*mut T`: it is used in turn with its parent, and with others
+    /// that are borrowed from its parent.
+    Raw = 1,
+    /// `cell`, a reference to an `UnsafeCell`: writes through it, or from below it, strike nothing
+    /// outside its subtree.
+    Cell = 2,
+}
+
+impl Kind {
+    /// The kind with this number, if there is one.
+    pub const fn from_number(number: u32) -> Option<Kind> {
+        match number {
+            0 => Some(Kind::Reference),
+            1 => Some(Kind::Raw),
+            2 => Some(Kind::Cell),
+            _ => None,
+        }
+    }
+}
+
 /// An event. Names and spans may be any; those that are wrong are refused.
 ///
 /// A log may write out the name of what a create or borrow makes. A written name that is not the one
@@ -48,8 +77,8 @@ impl Right {
 /// [`Misnamed`](crate::Refusal::Misnamed).
 #[derive(Clone, Copy, Debug, PartialEq, Eq, Hash)]
 pub enum Event {
-    /// Makes a new root, as a fresh allocation: ends every capability that its span touches, with
-    /// their subtrees. One of length 0 ends nothing.
+    /// Makes a new root, a reference, as a fresh allocation: ends every capability that its span
+    /// touches, of whatever kind, with their subtrees. One of length 0 ends nothing.
     Create {
         /// The root's name, where it is written out.
         written: Option<Name>,
@@ -68,16 +97,22 @@ pub enum Event {
         span: Span,
         /// The new capability's right, not above its parent's.
         right: Right,
+        /// The new capability's kind.
+        kind: Kind,
     },
-    /// Lowers to read-only every capability that is touched and is neither the reader nor an
-    /// ancestor of it, with its subtree.
+    /// Lowers to read-only every capability that it strikes, with its subtree: each that is touched and
+    /// is neither the reader nor an ancestor of it, but for [raw](Kind::Raw) ones, which no read
+    /// strikes. A raw one is lowered only with an ancestor.
     Read {
         /// The reader.
         name: Name,
         /// What it reads, inside its own span.
         span: Span,
     },
-    /// Ends the capabilities that a read would lower, with their subtrees.
+    /// Ends every capability that it strikes, with its subtree: each that is touched and is neither the
+    /// writer nor an ancestor of it. But a write does not strike a [raw](Kind::Raw) one whose parent is
+    /// the writer or an ancestor of the writer; and one through a [cell](Kind::Cell), or from below it,
+    /// strikes nothing outside that cell's subtree.
     Write {
         /// The writer.
         name: Name,
@@ -95,6 +130,15 @@ impl Event {
     /// Whether the event makes a capability, and so a name.
     pub const fn makes(self) -> bool {
         matches!(self, Event::Create { .. } | Event::Borrow { .. })
+    }
+
+    /// The kind of what the event makes, where it makes something. All that is created is a reference.
+    pub const fn kind(self) -> Option<Kind> {
+        match self {
+            Event::Create { .. } => Some(Kind::Reference),
+            Event::Borrow { kind, .. } => Some(kind),
+            _ => None,
+        }
     }
 
     /// The name of what the event makes, where it is written out.
@@ -125,6 +169,8 @@ pub struct Cap {
     pub right: u32,
     /// 1 for a created one, one more for each borrow.
     pub depth: u32,
+    /// The number of its [`Kind`].
+    pub kind: u32,
 }
 
 impl Cap {
@@ -136,6 +182,7 @@ impl Cap {
         length: 0,
         right: 0,
         depth: 0,
+        kind: 0,
     };
 }
 

@@ -2,8 +2,8 @@
 
 use kelzoud::{
     apply, apply_all, check, drop_all, read_event, read_listing, run, write_drop, write_event,
-    write_listing, Addr, Answer, Cap, Event, Line, Name, Outcome, Refusal, Request, Right,
-    RunAnswer, Span, Spelling, Tally, MAX_CHECK, MAX_DROP_LINE, MAX_GROUP, MAX_LINE,
+    write_listing, Addr, Answer, Cap, Event, Kind, Line, Name, Outcome, Refusal, Request, Right,
+    RunAnswer, Span, Spelling, Tally, MAX_CHECK, MAX_DROP_LINE, MAX_GROUP, MAX_LINE, MAX_LISTING,
     MAX_NAMED_LINE, MAX_ROWS, NAMED_HEADER,
 };
 
@@ -14,8 +14,8 @@ fn span(start: u32, length: u32) -> Span {
     }
 }
 
-/// One event of each kind, its line, and its line with the name 40 written out.
-fn spellings() -> [(Event, &'static str, &'static str); 5] {
+/// Events of each kind, each with its line, and its line with the name 40 written out.
+fn spellings() -> [(Event, &'static str, &'static str); 7] {
     let name = Name(7);
     let wide = span(0, 64);
     let create = Event::Create {
@@ -23,18 +23,28 @@ fn spellings() -> [(Event, &'static str, &'static str); 5] {
         span: wide,
         right: Right::ReadWrite,
     };
-    let borrow = Event::Borrow {
+    let borrow = |right, kind| Event::Borrow {
         written: None,
         parent: name,
         span: span(8, 4),
-        right: Right::ReadOnly,
+        right,
+        kind,
     };
+    let shared = borrow(Right::ReadOnly, Kind::Reference);
+    let raw = borrow(Right::ReadWrite, Kind::Raw);
+    let cell = borrow(Right::ReadOnly, Kind::Cell);
     let read = Event::Read { name, span: wide };
     let write = Event::Write { name, span: wide };
     let drop = Event::Drop { name };
     [
         (create, "(create 0 64 rw)\n", "(create 40 0 64 rw)\n"),
-        (borrow, "(borrow 7 8 4 ro)\n", "(borrow 40 7 8 4 ro)\n"),
+        (shared, "(borrow 7 8 4 ro)\n", "(borrow 40 7 8 4 ro)\n"),
+        (raw, "(borrow 7 8 4 rw raw)\n", "(borrow 40 7 8 4 rw raw)\n"),
+        (
+            cell,
+            "(borrow 7 8 4 ro cell)\n",
+            "(borrow 40 7 8 4 ro cell)\n",
+        ),
         (read, "(read 7 0 64)\n", "(read 7 0 64)\n"),
         (write, "(write 7 0 64)\n", "(write 7 0 64)\n"),
         (drop, "(drop 7)\n", "(drop 7)\n"),
@@ -54,12 +64,14 @@ fn with_name(event: Event, name: u32) -> Event {
             parent,
             span,
             right,
+            kind,
             ..
         } => Event::Borrow {
             written,
             parent,
             span,
             right,
+            kind,
         },
         other => other,
     }
@@ -88,6 +100,16 @@ fn events_are_written_and_read() {
             assert_eq!(read_event(spelling, line), Err(Refusal::Misspelt));
         }
     }
+    // A reference is not written as such, and a create has no kind.
+    for line in [
+        "(borrow 7 8 4 rw reference)\n",
+        "(borrow 7 8 4 raw rw)\n",
+        "(borrow 7 8 4 rw raw cell)\n",
+        "(create 0 64 rw raw)\n",
+    ] {
+        let read = read_event(Spelling::Plain, line.as_bytes());
+        assert_eq!(read, Err(Refusal::Misspelt));
+    }
 }
 
 #[test]
@@ -112,6 +134,7 @@ fn lines_have_their_longest_lengths() {
         parent: Name(u32::MAX),
         span: span(u32::MAX, u32::MAX),
         right: Right::ReadWrite,
+        kind: Kind::Cell,
     };
     let mut out = [0; 64];
     assert_eq!(write_event(borrow, &mut out), Ok(MAX_LINE));
@@ -136,6 +159,7 @@ fn events_change_the_table() {
         parent: Name(1),
         span: whole,
         right,
+        kind: Kind::Reference,
     };
     let drop = Event::Drop { name: Name(1) };
     assert_eq!(take(root), Answer::Allowed(Some(Name(1))));
@@ -188,6 +212,7 @@ fn a_create_ends_what_it_touches() {
         parent: Name(1),
         span: span(0, 8),
         right: Right::ReadWrite,
+        kind: Kind::Reference,
     };
     let read = Event::Read {
         name: Name(2),
@@ -204,6 +229,126 @@ fn a_create_ends_what_it_touches() {
     assert_eq!(take(read), Answer::Refused(Refusal::Ended));
     assert_eq!((table[0].name, table[1]), (4, Cap::EMPTY));
     assert_eq!((tally.creates, tally.writes, tally.drops), (3, 0, 1));
+}
+
+/// A table of which the first root is made, over 16 addresses, and what is done to it.
+struct Part {
+    table: [Cap; 8],
+    tally: Tally,
+}
+
+impl Part {
+    fn new() -> Part {
+        let mut part = Part {
+            table: [Cap::EMPTY; 8],
+            tally: Tally::default(),
+        };
+        let root = part.take(Event::Create {
+            written: None,
+            span: span(0, 16),
+            right: Right::ReadWrite,
+        });
+        assert_eq!(root, Answer::Allowed(Some(Name(1))));
+        part
+    }
+
+    fn take(&mut self, event: Event) -> Answer {
+        apply(&mut self.table, &mut self.tally, event)
+    }
+
+    /// A borrow of the first 8 addresses.
+    fn borrow(&mut self, parent: u32, kind: Kind) -> Answer {
+        self.take(Event::Borrow {
+            written: None,
+            parent: Name(parent),
+            span: span(0, 8),
+            right: Right::ReadWrite,
+            kind,
+        })
+    }
+
+    /// A read of the first 8 addresses, and a write to them.
+    fn read(&mut self, name: u32) -> Answer {
+        self.take(Event::Read {
+            name: Name(name),
+            span: span(0, 8),
+        })
+    }
+
+    fn write(&mut self, name: u32) -> Answer {
+        self.take(Event::Write {
+            name: Name(name),
+            span: span(0, 8),
+        })
+    }
+}
+
+#[test]
+fn a_raw_one_and_its_parent_are_used_in_turn() {
+    let mut part = Part::new();
+    assert_eq!(
+        part.borrow(1, Kind::Reference),
+        Answer::Allowed(Some(Name(2)))
+    );
+    assert_eq!(part.borrow(2, Kind::Raw), Answer::Allowed(Some(Name(3))));
+    assert_eq!(part.borrow(2, Kind::Raw), Answer::Allowed(Some(Name(4))));
+    let kinds = part.table.map(|row| Kind::from_number(row.kind).unwrap());
+    assert_eq!(kinds[1..4], [Kind::Reference, Kind::Raw, Kind::Raw]);
+    for name in [3, 2, 4, 3] {
+        assert_eq!(part.read(name), Answer::Allowed(None));
+        assert_eq!(part.write(name), Answer::Allowed(None));
+    }
+    // Raw below raw: 2 is a stranger to 5, whose parent is 3. No read strikes it, and the write does.
+    assert_eq!(part.borrow(3, Kind::Raw), Answer::Allowed(Some(Name(5))));
+    assert_eq!(part.read(2), Answer::Allowed(None));
+    assert_eq!(part.write(5), Answer::Allowed(None));
+    assert_eq!(part.write(2), Answer::Allowed(None));
+    assert_eq!(part.write(5), Answer::Refused(Refusal::Ended));
+    // A stranger's read lowers their parent, and they go along; its write ends them.
+    assert_eq!(part.read(1), Answer::Allowed(None));
+    assert_eq!(part.write(3), Answer::Refused(Refusal::ReadOnly));
+    assert_eq!(part.read(3), Answer::Allowed(None));
+    assert_eq!(part.write(1), Answer::Allowed(None));
+    assert_eq!(part.read(3), Answer::Refused(Refusal::Ended));
+    assert_eq!(part.table[1], Cap::EMPTY);
+}
+
+#[test]
+fn cells_are_written_through_in_turn() {
+    let mut part = Part::new();
+    assert_eq!(part.borrow(1, Kind::Cell), Answer::Allowed(Some(Name(2))));
+    assert_eq!(part.borrow(1, Kind::Cell), Answer::Allowed(Some(Name(3))));
+    assert_eq!(
+        part.borrow(1, Kind::Reference),
+        Answer::Allowed(Some(Name(4)))
+    );
+    for name in [2, 3, 2] {
+        assert_eq!(part.write(name), Answer::Allowed(None));
+    }
+    assert_eq!(part.table[3].right, Right::ReadWrite as u32);
+    // A read from inside one lowers the other, and the reference beside them.
+    assert_eq!(part.read(2), Answer::Allowed(None));
+    assert_eq!(part.write(3), Answer::Refused(Refusal::ReadOnly));
+    assert_eq!(part.write(4), Answer::Refused(Refusal::ReadOnly));
+    assert_eq!(part.write(2), Answer::Allowed(None));
+    assert_eq!(part.read(3), Answer::Allowed(None));
+}
+
+#[test]
+fn rows_of_unknown_kind_are_disordered() {
+    let mut part = Part::new();
+    assert_eq!(part.borrow(1, Kind::Cell), Answer::Allowed(Some(Name(2))));
+    let disordered = Answer::Refused(Refusal::Disordered);
+    for number in [3, 256, u32::MAX] {
+        part.table[1].kind = number;
+        assert_eq!(Kind::from_number(number), None);
+        assert_eq!(part.read(1), disordered);
+    }
+    part.table[1].kind = Kind::Raw as u32;
+    assert_eq!(part.read(1), Answer::Allowed(None));
+    // All that is created is a reference.
+    part.table[0].kind = Kind::Raw as u32;
+    assert_eq!(part.read(1), disordered);
 }
 
 #[test]
@@ -364,6 +509,29 @@ fn listings_are_written_and_read() {
         read_listing(listing, many, &mut tally),
         Err(Refusal::Disordered)
     );
+}
+
+#[test]
+fn listings_have_kinds() {
+    let listing = b"(issued 4)\n(1 0 64 rw (2 0 8 rw raw (3 0 4 ro)) (4 8 8 ro cell))\n";
+    let mut table = [Cap::EMPTY; 5];
+    let mut tally = Tally::default();
+    assert_eq!(read_listing(listing, &mut table, &mut tally), Ok(()));
+    let kinds = table.map(|row| Kind::from_number(row.kind).unwrap());
+    assert_eq!(kinds[..3], [Kind::Reference, Kind::Raw, Kind::Reference]);
+    assert_eq!((kinds[3], table[4]), (Kind::Cell, Cap::EMPTY));
+    let mut out = [0; MAX_LISTING];
+    assert_eq!(write_listing(&table, 4, &mut out), Ok(listing.len()));
+    assert!(out.starts_with(listing));
+    for wrong in [
+        "(issued 1)\n(1 0 64 rw cell)\n",
+        "(issued 2)\n(1 0 64 rw (2 0 8 rw reference))\n",
+        "(issued 2)\n(1 0 64 rw (2 0 8 raw rw))\n",
+    ] {
+        let read = read_listing(wrong.as_bytes(), &mut table, &mut tally);
+        assert_eq!(read, Err(Refusal::Misspelt));
+    }
+    assert_eq!(tally.issued, 4);
 }
 
 #[test]
