@@ -20,24 +20,39 @@ int main(void) {
     static kz_part part;
     static const uint32_t names[] = {1, 3};
     static const kz_event events[] = {
-        {KZ_CREATE, 0, 64, 64, KZ_RW, 1, 3},
-        {KZ_READ, 3, 128, 1, 0, 0, 0},
-        {KZ_DROP_ALL, 0, 0, 2, 0, 0, 0},
+        {KZ_CREATE, 0, 64, 64, KZ_RW, 1, 3, 0},
+        {KZ_READ, 3, 128, 1, 0, 0, 0, 0},
+        {KZ_DROP_ALL, 0, 0, 2, 0, 0, 0, 0},
+        {KZ_CREATE, 0, 0, 8, KZ_RW, 0, 0, 0},
+        {KZ_BORROW, 4, 0, 8, KZ_RW, 1, 5, KZ_RAW},
+        {KZ_WRITE, 4, 0, 8, 0, 0, 0, 0},
+        {KZ_WRITE, 5, 0, 8, 0, 0, 0, 0},
+        {KZ_BORROW, 4, 0, 8, KZ_RW, 0, 0, 3},
     };
+    enum { COUNT = sizeof events / sizeof events[0] };
     const kz_lent lent = kz_lend(&part);
-    kz_answer answers[3];
+    kz_answer answers[COUNT];
     check("create", kz_create(&lent, 0, 64, KZ_RW), 0, 1);
     check("borrow", kz_borrow(&lent, 1, 0, 16, KZ_RW), 0, 2);
     check("read", kz_read(&lent, 2, 0, 8), 0, 0);
     check("write", kz_write(&lent, 1, 0, 8), 0, 0);
     check("drop", kz_drop(&lent, 2), KZ_ENDED, 0);
-    if (kz_apply_all(&lent, events, 3, names, 2, answers) != 3) {
+    if (kz_apply_all(&lent, events, COUNT, names, 2, answers) != COUNT) {
         puts("events.c: not all events were taken");
         failures++;
     }
     check("create in many", answers[0], 0, 3);
     check("read in many", answers[1], KZ_OUTSIDE_SPAN, 0);
     check("drop in many", answers[2], 0, 0);
+    check("create after it", answers[3], 0, 4);
+    check("raw borrow in many", answers[4], 0, 5);
+    check("write through its parent", answers[5], 0, 0);
+    check("write through the raw one", answers[6], 0, 0);
+    check("borrow of an unknown kind", answers[7], KZ_MISSPELT, 0);
+    check("borrow as a cell", kz_borrow_as(&lent, 4, 0, 8, KZ_RW, KZ_CELL), 0, 6);
+    check("write through the cell", kz_write(&lent, 6, 0, 8), 0, 0);
+    check("read through the raw one", kz_read(&lent, 5, 0, 8), 0, 0);
+    check("write through the cell again", kz_write(&lent, 6, 0, 8), KZ_READ_ONLY, 0);
     check("apply", kz_apply(&lent, events), KZ_MISNAMED, 0);
     check("drop all", kz_drop_all(&lent, names, 2), KZ_ENDED, 0);
     return failures != 0;

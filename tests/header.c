@@ -33,13 +33,18 @@ static int refused(kz_answer answer, enum kz_refusal refusal) {
 
 static kz_event event_of(uint32_t kind, uint32_t name, uint32_t start, uint32_t length,
                          uint32_t right) {
-    const kz_event event = {kind, name, start, length, right, 0, 0};
+    const kz_event event = {kind, name, start, length, right, 0, 0, 0};
     return event;
 }
 
 static kz_event named_event(uint32_t kind, uint32_t written, uint32_t name, uint32_t start,
                             uint32_t length, uint32_t right) {
-    const kz_event event = {kind, name, start, length, right, 1, written};
+    const kz_event event = {kind, name, start, length, right, 1, written, 0};
+    return event;
+}
+
+static kz_event with_kind(kz_event event, uint32_t kind) {
+    event.cap_kind = kind;
     return event;
 }
 
@@ -48,12 +53,13 @@ static int same_event(const kz_event *one, const kz_event *other) {
 }
 
 static void check_layout(void) {
-    CHECK(sizeof(kz_cap) == 24);
+    CHECK(sizeof(kz_cap) == 28);
     CHECK(sizeof(kz_tally) == 28);
-    CHECK(sizeof(kz_event) == 28);
+    CHECK(sizeof(kz_event) == 32);
     CHECK(sizeof(kz_answer) == 8);
-    CHECK(sizeof(kz_part) == KZ_MAX_ROWS * 24 + 28);
+    CHECK(sizeof(kz_part) == KZ_MAX_ROWS * 28 + 28);
     CHECK(offsetof(kz_cap, depth) == 20);
+    CHECK(offsetof(kz_cap, kind) == 24);
     CHECK(offsetof(kz_tally, refused) == 24);
     CHECK(offsetof(kz_event, kind) == 0);
     CHECK(offsetof(kz_event, name) == 4);
@@ -62,6 +68,7 @@ static void check_layout(void) {
     CHECK(offsetof(kz_event, right) == 16);
     CHECK(offsetof(kz_event, named) == 20);
     CHECK(offsetof(kz_event, written) == 24);
+    CHECK(offsetof(kz_event, cap_kind) == 28);
     CHECK(offsetof(kz_answer, value) == 4);
 }
 
@@ -139,6 +146,119 @@ static void check_reused_memory(void) {
     CHECK(table[0].name == 5 && table[1].name == 0);
     CHECK(refused(kz_read(&lent, 2, 0, 8), KZ_ENDED));
     CHECK(tally.creates == 4 && tally.writes == 0 && tally.drops == 2 && tally.refused == 2);
+}
+
+/* A raw capability and its parent are used in turn, and so are two raw ones; it ends with its parent,
+   and by a stranger's write where its parent stays. */
+static void check_raw(void) {
+    static kz_cap table[5];
+    static kz_tally tally;
+    const kz_lent lent = {table, 5, &tally};
+    CHECK(allowed(kz_create(&lent, 0, 64, KZ_RW), 1));
+    CHECK(allowed(kz_borrow(&lent, 1, 0, 16, KZ_RW), 2));
+    CHECK(allowed(kz_borrow_as(&lent, 2, 0, 8, KZ_RW, KZ_RAW), 3));
+    CHECK(allowed(kz_borrow_as(&lent, 2, 4, 8, KZ_RW, KZ_RAW), 4));
+    CHECK(table[0].kind == KZ_REFERENCE && table[1].kind == KZ_REFERENCE);
+    CHECK(table[2].kind == KZ_RAW && table[3].kind == KZ_RAW && table[4].kind == 0);
+    CHECK(allowed(kz_write(&lent, 2, 0, 16), 0));
+    CHECK(allowed(kz_write(&lent, 3, 0, 8), 0));
+    CHECK(allowed(kz_write(&lent, 4, 4, 8), 0));
+    CHECK(allowed(kz_read(&lent, 2, 0, 16), 0));
+    CHECK(allowed(kz_write(&lent, 3, 0, 8), 0));
+    CHECK(table[2].right == KZ_RW && table[3].right == KZ_RW);
+    /* A reference below a raw one is struck as ever. */
+    CHECK(allowed(kz_borrow(&lent, 3, 0, 4, KZ_RW), 5));
+    CHECK(allowed(kz_write(&lent, 2, 0, 16), 0));
+    CHECK(refused(kz_read(&lent, 5, 0, 1), KZ_ENDED));
+    /* Raw below raw: of 6 the parent is 3, and 2 is a stranger. */
+    CHECK(allowed(kz_borrow_as(&lent, 3, 0, 4, KZ_RW, KZ_RAW), 6));
+    CHECK(allowed(kz_write(&lent, 3, 0, 4), 0));
+    CHECK(allowed(kz_read(&lent, 2, 0, 8), 0));
+    CHECK(table[4].name == 6 && table[4].right == KZ_RW);
+    CHECK(allowed(kz_write(&lent, 2, 0, 8), 0));
+    CHECK(refused(kz_read(&lent, 6, 0, 1), KZ_ENDED));
+    CHECK(table[2].name == 3 && table[3].name == 4 && table[4].name == 0);
+    /* Its parent is struck, and it goes along. */
+    CHECK(allowed(kz_read(&lent, 1, 0, 1), 0));
+    CHECK(table[1].right == KZ_RO && table[2].right == KZ_RO && table[3].right == KZ_RO);
+    CHECK(refused(kz_write(&lent, 3, 0, 1), KZ_READ_ONLY));
+    CHECK(allowed(kz_write(&lent, 1, 12, 1), 0));
+    CHECK(table[0].name == 1 && table[1].name == 0);
+    CHECK(refused(kz_read(&lent, 4, 4, 1), KZ_ENDED));
+    CHECK(tally.issued == 6 && tally.borrows == 5 && tally.reads == 3 && tally.writes == 8);
+    CHECK(tally.refused == 4);
+}
+
+/* Two cells side by side are written through in turn, and a reference beside them stays; a read from
+   inside one lowers the other. */
+static void check_cells(void) {
+    static kz_cap table[5];
+    static kz_tally tally;
+    const kz_lent lent = {table, 5, &tally};
+    uint32_t i;
+    CHECK(allowed(kz_create(&lent, 0, 16, KZ_RW), 1));
+    CHECK(allowed(kz_borrow_as(&lent, 1, 0, 8, KZ_RW, KZ_CELL), 2));
+    CHECK(allowed(kz_borrow_as(&lent, 1, 0, 8, KZ_RW, KZ_CELL), 3));
+    CHECK(allowed(kz_borrow(&lent, 1, 0, 16, KZ_RW), 4));
+    CHECK(allowed(kz_borrow(&lent, 2, 0, 8, KZ_RW), 5));
+    CHECK(table[1].kind == KZ_CELL && table[2].kind == KZ_CELL);
+    CHECK(allowed(kz_write(&lent, 3, 0, 8), 0));
+    CHECK(allowed(kz_write(&lent, 5, 0, 8), 0));
+    for (i = 0; i < 5; i++) CHECK(table[i].name == i + 1 && table[i].right == KZ_RW);
+    /* Inside a cell a write ends what it touches. */
+    CHECK(allowed(kz_write(&lent, 2, 0, 8), 0));
+    CHECK(table[3].name == 4 && table[4].name == 0);
+    CHECK(allowed(kz_write(&lent, 3, 0, 8), 0));
+    CHECK(allowed(kz_read(&lent, 2, 0, 8), 0));
+    CHECK(table[1].right == KZ_RW && table[2].right == KZ_RO && table[3].right == KZ_RO);
+    CHECK(refused(kz_write(&lent, 3, 0, 8), KZ_READ_ONLY));
+    CHECK(refused(kz_write(&lent, 4, 0, 1), KZ_READ_ONLY));
+    CHECK(allowed(kz_write(&lent, 1, 8, 8), 0));
+    CHECK(table[1].name == 2 && table[2].name == 3 && table[3].name == 0);
+    CHECK(allowed(kz_write(&lent, 1, 0, 1), 0));
+    CHECK(table[0].name == 1 && table[1].name == 0);
+    CHECK(allowed(kz_borrow_as(&lent, 1, 0, 8, KZ_RW, KZ_CELL), 6));
+    CHECK(allowed(kz_borrow_as(&lent, 6, 0, 8, KZ_RO, KZ_RAW), 7));
+    CHECK(allowed(kz_create(&lent, 0, 1, KZ_RW), 8));
+    CHECK(table[0].name == 8 && table[1].name == 0 && table[1].kind == 0);
+    CHECK(tally.creates == 2 && tally.borrows == 6 && tally.reads == 1 && tally.writes == 6);
+    CHECK(tally.refused == 2);
+}
+
+/* Kinds that are none, in an event and in a row; and a kind where no event has one. */
+static void check_wrong_kinds(void) {
+    static const uint32_t wrong[] = {3, 255, 256, KZ_RAW + 256, 4294967295u};
+    static kz_cap table[3];
+    static kz_tally tally;
+    const kz_lent lent = {table, 3, &tally};
+    uint8_t out[64];
+    kz_event event = with_kind(event_of(KZ_CREATE, 0, 0, 64, KZ_RW), KZ_CELL);
+    size_t i;
+    CHECK(allowed(kz_apply(&lent, &event), 1));
+    CHECK(table[0].kind == KZ_REFERENCE);
+    event = with_kind(event_of(KZ_READ, 1, 0, 8, 0), 7);
+    CHECK(allowed(kz_apply(&lent, &event), 0));
+    for (i = 0; i < sizeof wrong / sizeof wrong[0]; i++) {
+        CHECK(refused(kz_borrow_as(&lent, 1, 0, 8, KZ_RW, wrong[i]), KZ_MISSPELT));
+        CHECK(refused(kz_borrow_as(&lent, 9, 4294967295u, 2, KZ_RW, wrong[i]), KZ_MISSPELT));
+    }
+    CHECK(tally.refused == 10);
+    CHECK(allowed(kz_borrow_as(&lent, 1, 0, 8, KZ_RW, KZ_RAW), 2));
+    for (i = 0; i < sizeof wrong / sizeof wrong[0]; i++) {
+        table[1].kind = wrong[i];
+        CHECK(refused(kz_read(&lent, 1, 0, 8), KZ_DISORDERED));
+        CHECK(refused(kz_write_listing(&lent, out, sizeof out), KZ_DISORDERED));
+    }
+    table[1].kind = KZ_CELL;
+    CHECK(allowed(kz_read(&lent, 1, 0, 8), 0));
+    table[0].kind = KZ_RAW;
+    CHECK(refused(kz_read(&lent, 1, 0, 8), KZ_DISORDERED));
+    table[0].kind = KZ_CELL;
+    CHECK(refused(kz_read(&lent, 1, 0, 8), KZ_DISORDERED));
+    table[0].kind = KZ_REFERENCE;
+    table[2].kind = KZ_RAW;
+    CHECK(refused(kz_read(&lent, 1, 0, 8), KZ_DISORDERED));
+    CHECK(tally.reads == 2 && tally.refused == 10);
 }
 
 /* An event with a new name written out, by itself. */
@@ -365,6 +485,83 @@ static void check_grouped_text(void) {
     CHECK(memcmp(out, "(refused 5 4)\n(issued 2)\n", 14 + 11) == 0);
 }
 
+static int reads_as(uint32_t named, const char *line, const kz_event *expected) {
+    uint32_t names[KZ_MAX_GROUP];
+    kz_event event;
+    memset(&event, 255, sizeof event);
+    return allowed(kz_read_event(named, (const uint8_t *)line, strlen(line), &event, names), 0) &&
+           same_event(&event, expected);
+}
+
+static int writes_as(const kz_event *event, const char *line) {
+    uint8_t out[KZ_MAX_NAMED_LINE];
+    const size_t length = strlen(line);
+    return allowed(kz_write_event(event, NULL, 0, out, length), (uint32_t)length) &&
+           memcmp(out, line, length) == 0;
+}
+
+static void check_kinds_text(void) {
+    static const char *const wrong[] = {
+        "(borrow 1 0 8 rw reference)\n",
+        "(borrow 1 0 8 raw)\n",
+        "(borrow 1 0 8 raw rw)\n",
+        "(borrow 1 0 8 rw raw cell)\n",
+        "(borrow 1 0 8 rw raw raw)\n",
+        "(borrow 1 0 8 rw  raw)\n",
+        "(borrow 1 0 8 rwraw)\n",
+        "(borrow 1 0 8 rw ra)\n",
+        "(borrow 1 0 8 rw cells)\n",
+        "(borrow 1 0 8 rw 1)\n",
+        "(create 0 8 rw raw)\n",
+        "(read 1 0 8 raw)\n",
+    };
+    static const char trace[] =
+        "(create 0 64 rw)\n(borrow 1 0 8 rw raw)\n(borrow 2 0 4 ro)\n(borrow 1 8 8 ro cell)\n";
+    static const char named_trace[] =
+        KZ_NAMED_HEADER "(create 1 0 64 rw)\n(borrow 2 1 0 8 rw raw)\n(write 1 0 8)\n(read 2 0 8)\n";
+    static const char listing[] =
+        "(issued 4)\n(1 0 64 rw (2 0 8 rw raw (3 0 4 ro)) (4 8 8 ro cell))\n";
+    static const char root[] = "(issued 1)\n(1 0 64 rw raw)\n";
+    const size_t length = sizeof listing - 1;
+    const kz_event raw = with_kind(event_of(KZ_BORROW, 1, 0, 8, KZ_RW), KZ_RAW);
+    const kz_event cell = with_kind(named_event(KZ_BORROW, 2, 1, 0, 8, KZ_RO), KZ_CELL);
+    const kz_event created = with_kind(event_of(KZ_CREATE, 0, 0, 8, KZ_RW), KZ_RAW);
+    const kz_event unknown = with_kind(event_of(KZ_BORROW, 1, 0, 8, KZ_RW), 3);
+    uint32_t names[KZ_MAX_GROUP];
+    kz_event event;
+    uint8_t out[96];
+    static kz_cap table[5], other[5];
+    static kz_tally tally, copied;
+    const kz_lent lent = {table, 5, &tally}, copy = {other, 5, &copied};
+    size_t i;
+    CHECK(writes_as(&raw, "(borrow 1 0 8 rw raw)\n"));
+    CHECK(reads_as(0, "(borrow 1 0 8 rw raw)\n", &raw));
+    CHECK(writes_as(&cell, "(borrow 2 1 0 8 ro cell)\n"));
+    CHECK(reads_as(1, "(borrow 2 1 0 8 ro cell)\n", &cell));
+    CHECK(writes_as(&created, "(create 0 8 rw)\n"));
+    memset(out, '?', sizeof out);
+    CHECK(refused(kz_write_event(&unknown, NULL, 0, out, sizeof out), KZ_MISSPELT));
+    CHECK(refused(kz_write_event(&unknown, NULL, 0, NULL, 0), KZ_MISSPELT));
+    CHECK(out[0] == '?');
+    for (i = 0; i < sizeof wrong / sizeof wrong[0]; i++) {
+        const uint8_t *line = (const uint8_t *)wrong[i];
+        CHECK(refused(kz_read_event(0, line, strlen(wrong[i]), &event, names), KZ_MISSPELT));
+    }
+    CHECK(allowed(kz_run(&lent, (const uint8_t *)trace, sizeof trace - 1), 4));
+    CHECK(allowed(kz_write_listing(&lent, out, sizeof out), (uint32_t)length));
+    CHECK(memcmp(out, listing, length) == 0);
+    memset(other, 255, sizeof other);
+    CHECK(allowed(kz_read_listing(&copy, out, length), 0));
+    CHECK(memcmp(table, other, sizeof table) == 0 && copied.issued == 4);
+    CHECK(refused(kz_read_listing(&copy, (const uint8_t *)root, sizeof root - 1), KZ_MISSPELT));
+    CHECK(allowed(kz_check((const uint8_t *)trace, sizeof trace - 1, out, sizeof out),
+                  (uint32_t)(12 + length)));
+    CHECK(memcmp(out, "(allowed 4)\n", 12) == 0 && memcmp(out + 12, listing, length) == 0);
+    CHECK(allowed(kz_check((const uint8_t *)named_trace, sizeof named_trace - 1, out, sizeof out),
+                  12 + 11 + 27));
+    CHECK(memcmp(out, "(allowed 5)\n(issued 2)\n(1 0 64 rw (2 0 8 rw raw))\n", 12 + 11 + 27) == 0);
+}
+
 static void check_null(void) {
     static const char listing[] = "(issued 0)\n";
     const uint8_t *text = (const uint8_t *)listing;
@@ -401,14 +598,15 @@ static void check_null(void) {
     CHECK(allowed(kz_check(NULL, 0, out, sizeof out), sizeof listing - 1 + 12));
 }
 
-/* A table whose listing is as long as a listing can be, and the longest lines. */
+/* A table whose listing is as long as a listing can be, and the longest lines. No root has a kind to
+   be written, so one root has all others below it. */
 static void check_longest(void) {
     static kz_part part;
     static uint8_t out[KZ_MAX_LISTING];
     const uint32_t most = 4294967295u;
     const kz_lent lent = kz_lend(&part);
-    const kz_event borrow = event_of(KZ_BORROW, most, most, most, KZ_RW);
-    const kz_event named = named_event(KZ_BORROW, most, most, most, most, KZ_RW);
+    const kz_event borrow = with_kind(event_of(KZ_BORROW, most, most, most, KZ_RW), KZ_CELL);
+    const kz_event named = with_kind(named_event(KZ_BORROW, most, most, most, most, KZ_RW), KZ_CELL);
     const kz_event group = event_of(KZ_DROP_ALL, 0, 0, KZ_MAX_GROUP, 0);
     uint32_t names[KZ_MAX_GROUP];
     kz_event event;
@@ -418,11 +616,18 @@ static void check_longest(void) {
         part.table[i].start = 1000000000;
         part.table[i].length = 1000000000;
         part.table[i].right = KZ_RW;
-        part.table[i].depth = 1;
+        part.table[i].depth = i == 0 ? 1 : 2;
+        part.table[i].parent = i == 0 ? 0 : part.table[0].name;
+        part.table[i].kind = i == 0 ? KZ_REFERENCE : KZ_CELL;
     }
     part.tally.issued = KZ_MAX_NAME;
     CHECK(allowed(kz_write_listing(&lent, out, sizeof out), sizeof out));
+    CHECK(allowed(kz_read_listing(&lent, out, sizeof out), 0));
+    CHECK(refused(kz_write_listing(&lent, out, sizeof out - 1), KZ_BUFFER_TOO_SHORT));
     CHECK(allowed(kz_write_event(&borrow, NULL, 0, out, KZ_MAX_LINE), KZ_MAX_LINE));
+    CHECK(refused(kz_write_event(&borrow, NULL, 0, out, KZ_MAX_LINE - 1), KZ_BUFFER_TOO_SHORT));
+    CHECK(allowed(kz_read_event(0, out, KZ_MAX_LINE, &event, names), 0));
+    CHECK(same_event(&event, &borrow));
     CHECK(allowed(kz_write_event(&named, NULL, 0, out, KZ_MAX_NAMED_LINE), KZ_MAX_NAMED_LINE));
     for (i = 0; i < KZ_MAX_GROUP; i++) names[i] = most - KZ_MAX_GROUP + 1 + i;
     CHECK(allowed(kz_write_event(&group, names, KZ_MAX_GROUP, out, KZ_MAX_DROP_LINE),
@@ -437,6 +642,9 @@ int main(void) {
     check_lend();
     check_events();
     check_reused_memory();
+    check_raw();
+    check_cells();
+    check_wrong_kinds();
     check_named_events();
     check_grouped_events();
     check_many_events();
@@ -444,6 +652,7 @@ int main(void) {
     check_text();
     check_named_text();
     check_grouped_text();
+    check_kinds_text();
     check_null();
     check_longest();
     return failures != 0;

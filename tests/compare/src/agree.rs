@@ -6,6 +6,7 @@ use interface::{AnswerWords, Cap, DROP_ALL, Event, Interface, MAX_GROUP, Words};
 use oracle::{Refused, Row, Span, Spelling, Tally};
 
 use crate::report::{Checked, Met, MetAnswers, check_few};
+use crate::strikes;
 
 /// The implementation under test.
 pub type Subject = &'static dyn Interface;
@@ -52,8 +53,15 @@ pub fn span_of(event: Event) -> Span {
 }
 
 pub fn oracle_event(event: Event) -> oracle::Event {
-    let span = span_of(event);
-    oracle::Event::from_fields(event.kind, event.written, event.name, span, event.right)
+    let Event {
+        kind,
+        written,
+        name,
+        right,
+        cap_kind,
+        ..
+    } = event;
+    oracle::Event::from_fields(kind, written, name, span_of(event), right, cap_kind.into())
 }
 
 /// What words ask for: an event, or names to drop together.
@@ -81,7 +89,12 @@ pub fn asked<'a>(words: &Words, names: &'a [u32]) -> Asked<'a> {
         length: words.length,
     };
     Asked::Event(oracle::Event::from_fields(
-        kind, written, words.name, span, right,
+        kind,
+        written,
+        words.name,
+        span,
+        right,
+        words.cap_kind,
     ))
 }
 
@@ -127,6 +140,7 @@ const GUARD_ROW: Cap = Cap {
     length: 3,
     right: 4,
     depth: 5,
+    kind: 6,
 };
 
 fn cap_of(row: &Row) -> Cap {
@@ -137,6 +151,7 @@ fn cap_of(row: &Row) -> Cap {
         length: row.length,
         right: row.right,
         depth: row.depth,
+        kind: row.kind,
     }
 }
 
@@ -220,11 +235,12 @@ pub fn oracle_apply(lent: &mut Lent, event: Event) -> Result<u32, Refused> {
 /// One event on what is lent, which is then as the event leaves it.
 pub fn apply(subject: Subject, lent: &mut Lent, event: Event) -> Result<u64, String> {
     let (answer, found) = lend(lent, |table, tally| subject.apply(table, tally, event))?;
-    let before = (event.kind == 1).then(|| lent.rows.clone());
+    let before = lent.clone();
     let verdict = oracle_apply(lent, event);
-    if let Some(before) = before {
-        count_create(&before, lent, event, verdict);
+    if event.kind == 1 {
+        count_create(&before.rows, lent, event, verdict);
     }
+    strikes::count(&before, lent, event, verdict);
     MET.count_answer(verdict);
     same_answer(packed(verdict), answer)?;
     same_lent(lent, &found)?;
@@ -338,9 +354,10 @@ pub fn run(subject: Subject, lent: &mut Lent, text: &[u8]) -> Result<u64, String
 /// What words and names hold before a line is read into them, and after a refusal.
 const UNTOUCHED: u32 = 0xA5A5_A5A5;
 
-const UNTOUCHED_WORDS: Words = words_of([UNTOUCHED; 7]);
+const UNTOUCHED_WORDS: Words = words_of([UNTOUCHED; 8]);
 
-const fn words_of([kind, name, start, length, right, named, written]: [u32; 7]) -> Words {
+const fn words_of(words: [u32; 8]) -> Words {
+    let [kind, name, start, length, right, named, written, cap_kind] = words;
     Words {
         kind,
         name,
@@ -349,6 +366,7 @@ const fn words_of([kind, name, start, length, right, named, written]: [u32; 7]) 
         right,
         named,
         written,
+        cap_kind,
     }
 }
 
@@ -389,7 +407,7 @@ fn expected_line(line: &[u8], named: u32) -> Option<(Words, Vec<u32>)> {
     }
     let names = oracle::read_drop_line(line)?;
     let count = names.len() as u32;
-    Some((words_of([DROP_ALL, 0, 0, count, 0, 0, 0]), names))
+    Some((words_of([DROP_ALL, 0, 0, count, 0, 0, 0, 0]), names))
 }
 
 /// The line of what words ask for.

@@ -2,7 +2,7 @@
 //! another does, that have length 0 there, and that end at the last address or above it.
 
 use interface::Event;
-use oracle::{Row, Span};
+use oracle::{CELL, RAW, Row, Span};
 
 use crate::agree::{self, Agreed, Lent, Subject};
 use crate::events::chain;
@@ -87,6 +87,14 @@ fn event(kind: u8, name: u32, span: Span) -> Event {
         start: span.start,
         length: span.length,
         right: 2,
+        cap_kind: 0,
+    }
+}
+
+fn borrow_as(cap_kind: u32, parent: u32, span: Span) -> Event {
+    Event {
+        cap_kind: cap_kind as u8,
+        ..event(2, parent, span)
     }
 }
 
@@ -140,8 +148,8 @@ fn listed(subject: Subject, lent: &Lent) -> Agreed {
     agree::read_listing(subject, text.as_bytes(), &Lent::empty(2))
 }
 
-/// Both borrowed from a capability of all the places, and the one from the other, with accesses to
-/// what they share and at last a create over it.
+/// Both borrowed from a capability of all the places, once as a cell and a raw one, and the one from the
+/// other, with accesses to what they share and at last a create over it.
 fn in_lists(subject: Subject, whole: Span, one: Span, other: Span) -> Checked {
     let side_by_side = [
         event(1, 0, whole),
@@ -159,9 +167,21 @@ fn in_lists(subject: Subject, whole: Span, one: Span, other: Span) -> Checked {
         event(4, 1, other),
         event(1, 0, other),
     ];
-    for events in [side_by_side, nested] {
-        let requests = events.map(Request::Single);
+    let of_kinds = [
+        event(1, 0, whole),
+        borrow_as(CELL, 1, one),
+        borrow_as(RAW, 1, other),
+        event(4, 2, one),
+        event(4, 1, other),
+        event(3, 3, other),
+        event(4, 3, other),
+        event(1, 0, one),
+    ];
+    let mut cases = 0;
+    for events in [&side_by_side[..], &nested, &of_kinds] {
+        let requests: Vec<Request> = events.iter().copied().map(Request::Single).collect();
         check_list(subject, &Lent::empty(6), &requests)?;
+        cases += events.len() as u64;
     }
-    Ok((side_by_side.len() + nested.len()) as u64)
+    Ok(cases)
 }

@@ -16,7 +16,7 @@ pub struct Tables {
     pub table: fn(&mut Random) -> Lent,
 }
 
-pub const TABLES: [Tables; 9] = [
+pub const TABLES: [Tables; 10] = [
     Tables {
         name: "ordered tables",
         count: 8_000,
@@ -54,6 +54,16 @@ pub const TABLES: [Tables; 9] = [
             let rows = live + random.index(3);
             let deep = true;
             generate::ordered(random, &Shape { rows, live, deep })
+        },
+    },
+    Tables {
+        name: "tables of raw capabilities and cells",
+        count: 4_000,
+        events: 4,
+        table: |random| {
+            let live = random.between(2, 16);
+            let rows = live + random.index(4);
+            generate::crowded(random, rows, live)
         },
     },
     Tables {
@@ -150,6 +160,7 @@ pub fn chain(first_name: u32, rows: usize) -> Vec<Row> {
         length: 8,
         right: 2,
         depth,
+        kind: 0,
     };
     (1..=rows as u32).map(row).collect()
 }

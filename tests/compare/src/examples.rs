@@ -1,11 +1,12 @@
-//! Every trace and example of document 01 and of cards 1, 2 and 4, with the answers written out.
+//! Every trace and example of document 01 and of cards 1, 2, 4 and 6, with the answers written out.
 
 use interface::{Event, Words};
-use oracle::{MAX_DEPTH, MAX_GROUP, MAX_NAME, MAX_ROWS, Spelling, Tally};
+use oracle::{MAX_DEPTH, MAX_GROUP, MAX_NAME, MAX_ROWS, Spelling, Tally, traces};
 
 use crate::agree::{self, Agreed, Lent, Subject, packed, same_answer};
 use crate::generate::{self, Request};
 use crate::histories::check_list;
+use crate::kinds;
 use crate::report::{Checked, Report};
 
 /// A line and its answer.
@@ -192,6 +193,9 @@ const REFUSALS: [(&str, &[Step], &str); 6] = [
         "(issued 2)\n(1 0 64 rw (2 0 8 ro))\n",
     ),
 ];
+
+/// Tables with room for the traces of raw capabilities and cells.
+const KINDS_ROOM: &[usize] = &[6, 16, 64, MAX_ROWS];
 
 /// Tables with room for the traces of reused memory.
 const ROOM: &[usize] = &[4, 16, MAX_ROWS];
@@ -382,6 +386,12 @@ pub fn groups(report: &mut Report, subject: Subject) {
     report.group("capcheck on reused memory", |_| {
         capcheck(subject, REUSED_INPUT, REUSED_OUTPUT)
     });
+    for (name, steps, listing) in traces::KINDS {
+        report.group(name, |_| in_sizes(subject, KINDS_ROOM, steps, listing));
+    }
+    report.group("capcheck on raw capabilities and cells", |_| {
+        capcheck(subject, kinds::INPUT, kinds::OUTPUT)
+    });
     report.group("named traces and refusals", |_| named_traces(subject));
     report.group("refusal 12, misnamed", |_| misnamed(subject));
     report.group("capcheck's examples, named", |_| named_capcheck(subject));
@@ -500,6 +510,7 @@ fn read(subject: Subject, line: &str) -> Result<Event, String> {
         start: words.start,
         length: words.length,
         right: words.right as u8,
+        cap_kind: words.cap_kind as u8,
     })
 }
 
@@ -647,7 +658,9 @@ fn named_traces(subject: Subject) -> Checked {
     let in_room = TRACES.map(|(_, steps, listing)| (16, steps, listing));
     let in_two = REFUSALS.map(|(_, steps, listing)| (2, steps, listing));
     let reused = REUSED.map(|(_, sizes, steps, listing)| (sizes[0], steps, listing));
+    let of_kinds = traces::KINDS.map(|(_, steps, listing)| (KINDS_ROOM[0], steps, listing));
     let traces = in_room.into_iter().chain(in_two).chain(reused);
+    let traces = traces.chain(of_kinds);
     let traces = traces.map(|(rows, steps, listing)| Trace {
         rows,
         issued: 0,

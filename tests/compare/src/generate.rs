@@ -131,6 +131,24 @@ pub fn ordered(random: &mut Random, shape: &Shape) -> Lent {
     Lent { rows, tally }
 }
 
+/// A table in order with one tree, whose capabilities have one span and most of them a kind: whatever
+/// strikes one meets them all.
+pub fn crowded(random: &mut Random, rows: usize, live: usize) -> Lent {
+    let deep = false;
+    let mut lent = ordered(random, &Shape { rows, live, deep });
+    for at in 1..live {
+        let parent = random.pick(&lent.rows[..at]);
+        lent.rows[at] = Row {
+            name: lent.rows[at].name,
+            parent: parent.name,
+            depth: parent.depth + 1,
+            kind: random.pick(&[0, 1, 1, 2, 2]),
+            ..parent
+        };
+    }
+    lent
+}
+
 fn parent(random: &mut Random, rows: &[Row], deep: bool) -> Option<Row> {
     let rarely_a_root = if deep { 200 } else { 3 };
     if rows.is_empty() || random.one_in(rarely_a_root) {
@@ -154,8 +172,15 @@ fn row(random: &mut Random, name: u32, parent: Option<Row>, area: Span) -> Row {
         length: span.length,
         right: if random.one_in(10) { 1 } else { highest },
         depth: parent.map_or(0, |parent| parent.depth) + 1,
+        kind: parent.map_or(0, |_| random.pick(&KINDS)),
     }
 }
+
+/// The kinds of what is borrowed: raw ones and cells are a third.
+const KINDS: [u32; 6] = [0, 0, 0, 0, 1, 2];
+
+/// Numbers that are no kind, of which some end in the byte of one.
+pub const NO_KINDS: [u32; 10] = [3, 4, 128, 255, 256, 257, 258, 65_537, 1 << 31, u32::MAX];
 
 fn issued(random: &mut Random, last_name: u32) -> u32 {
     let highest = match random.below(4) {
@@ -175,6 +200,7 @@ pub fn noise_row(random: &mut Random) -> Row {
         length: random.number(),
         right: random.number(),
         depth: random.number(),
+        kind: random.number(),
     }
 }
 
@@ -195,7 +221,7 @@ pub fn disturb(random: &mut Random, lent: &mut Lent) {
         return;
     }
     let (one, other) = (random.index(lent.rows.len()), random.index(lent.rows.len()));
-    match random.below(12) {
+    match random.below(14) {
         0 => lent.rows.swap(one, other),
         1 => lent.rows[one] = lent.rows[other],
         2 => lent.rows[one] = Row::default(),
@@ -203,17 +229,20 @@ pub fn disturb(random: &mut Random, lent: &mut Lent) {
         4 => lent
             .rows
             .resize(random.between(1_024, 1_026), Row::default()),
+        5 => lent.rows[one].kind = random.pick(&NO_KINDS),
+        6 => lent.rows[one].kind = random.pick(&[1, 2]),
         _ => disturb_field(random, &mut lent.rows[one]),
     }
 }
 
 fn disturb_field(random: &mut Random, row: &mut Row) {
-    let field = match random.below(6) {
+    let field = match random.below(7) {
         0 => &mut row.name,
         1 => &mut row.parent,
         2 => &mut row.start,
         3 => &mut row.length,
         4 => &mut row.right,
+        5 => &mut row.kind,
         _ => &mut row.depth,
     };
     *field = near(random, *field);
@@ -277,6 +306,15 @@ fn event(random: &mut Random, lent: &Lent, area: Span, spelling: Spelling) -> Ev
             true => random.pick(&[0, 3, 4, 128, 254, 255]),
             false => random.pick(&[1, 2, 2, 2]),
         },
+        cap_kind: cap_kind(random, kind),
+    }
+}
+
+/// The kind that an event of this sort has for what it borrows, and anything where it borrows nothing.
+pub fn cap_kind(random: &mut Random, kind: u8) -> u8 {
+    match kind != 2 || random.one_in(25) {
+        true => random.pick(&[0, 1, 2, 3, 4, 128, 254, 255]),
+        false => random.pick(&KINDS) as u8,
     }
 }
 
@@ -494,19 +532,23 @@ pub fn trace(events: &[Event], spelling: Spelling) -> Vec<u8> {
 }
 
 /// Bytes that mean something somewhere in a text, and some that mean nothing.
-const BYTES: &[u8] = b"0123456789abcdeoprstuw ()\n\t\r-+.,\0\x7f\x80\xffRWA";
+const BYTES: &[u8] = b"0123456789abcdeloprstuw ()\n\t\r-+.,\0\x7f\x80\xffRWA";
+
+/// Words that are kinds somewhere, and some that are none anywhere.
+const WORDS: [&[u8]; 6] = [b" raw", b" cell", b" raw", b" cell", b" reference", b" rw"];
 
 /// Cuts, inserts or changes bytes.
 pub fn damage(random: &mut Random, text: &mut Vec<u8>) {
     let at = random.index(text.len() + 1);
     let rest = text.len() - at;
-    match random.below(8) {
+    match random.below(9) {
         0 => text.truncate(at),
         1 => drop(text.drain(..at)),
         2 => text.insert(at, random.pick(BYTES)),
         3 | 4 if rest > 0 => text[at] = random.pick(BYTES),
         5 if rest > 0 => drop(text.remove(at)),
         6 if rest > 1 => text.swap(at, at + 1),
+        7 => drop(text.splice(at..at, random.pick(&WORDS).iter().copied())),
         _ => {
             let end = at + random.index(rest.min(24) + 1);
             let part = text[at..end].to_vec();
@@ -541,8 +583,21 @@ fn put_forms(text: &mut String, rows: &[Row], names: &[u32], parents: &[u32], pa
     for at in (0..rows.len()).filter(|at| parents[*at] == parent) {
         let row = &rows[at];
         let right = if row.right == 1 { "ro" } else { "rw" };
+        let kind = match row.kind {
+            0 => "",
+            1 => " raw",
+            2 => " cell",
+            3 => " reference",
+            _ => " raw cell",
+        };
         let opening = if parent == 0 { "(" } else { " (" };
-        *text += &format!("{opening}{} {} {} {right}", row.name, row.start, row.length);
+        let Row {
+            name,
+            start,
+            length,
+            ..
+        } = row;
+        *text += &format!("{opening}{name} {start} {length} {right}{kind}");
         put_forms(text, rows, names, parents, names[at]);
         *text += if parent == 0 { ")\n" } else { ")" };
     }

@@ -218,6 +218,7 @@ fn demand_three(
                     start: span.start,
                     length: span.length,
                     right: 0,
+                    cap_kind: u8::MAX,
                 };
                 let answer = agree::apply(subject, &mut lent.clone(), event)?;
                 if (answer >> 32 == 0) != expected {

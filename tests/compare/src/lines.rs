@@ -9,10 +9,12 @@ use crate::random::Random;
 use crate::report::{Checked, Report, check_few};
 
 /// One line of each kind and some that are nearly lines.
-const SAMPLES: [&str; 12] = [
+const SAMPLES: [&str; 14] = [
     "(create 0 64 rw)\n",
     "(create 4294967295 1 ro)\n",
     "(borrow 1 10 8 rw)\n",
+    "(borrow 1 0 8 rw raw)\n",
+    "(borrow 20 0 0 ro cell)\n",
     "(borrow 1000000 4294967295 4294967295 ro)\n",
     "(read 1 0 8)\n",
     "(read 20 4096 4294967290)\n",
@@ -25,11 +27,13 @@ const SAMPLES: [&str; 12] = [
 ];
 
 /// The same for the named spelling, and lines of the plain one.
-const NAMED_SAMPLES: [&str; 14] = [
+const NAMED_SAMPLES: [&str; 16] = [
     "(create 1 0 64 rw)\n",
     "(create 4294967295 4294967295 1 ro)\n",
     "(create 0 0 0 rw)\n",
     "(borrow 2 1 10 8 rw)\n",
+    "(borrow 2 1 0 8 ro cell)\n",
+    "(borrow 3 1 10 8 rw raw)\n",
     "(borrow 1000001 1000000 4294967295 4294967295 ro)\n",
     "(read 1 0 8)\n",
     "(write 7 100 1)\n",
@@ -106,11 +110,13 @@ pub fn groups(report: &mut Report, subject: Subject) {
 
 /// An event of any numbers.
 fn random_event(random: &mut Random, spelling: Spelling) -> Event {
+    let kind = match random.one_in(20) {
+        true => random.pick(&[0, 7, 8, 9, 100, 127, 128, 254, 255]),
+        false => random.between(1, 5) as u8,
+    };
+    let cap_kind = generate::cap_kind(random, kind);
     Event {
-        kind: match random.one_in(20) {
-            true => random.pick(&[0, 7, 8, 9, 100, 127, 128, 254, 255]),
-            false => random.between(1, 5) as u8,
-        },
+        kind,
         name: random.number(),
         start: random.number(),
         length: random.number(),
@@ -122,6 +128,7 @@ fn random_event(random: &mut Random, spelling: Spelling) -> Event {
             Spelling::Plain => None,
             Spelling::Named => Some(random.number()),
         },
+        cap_kind,
     }
 }
 

@@ -8,12 +8,13 @@ use crate::lines::{check_text, each_byte};
 use crate::random::Random;
 use crate::report::{Checked, Report};
 
-const SAMPLES: [&str; 5] = [
+const SAMPLES: [&str; 6] = [
     "(issued 0)\n",
     "(issued 3)\n(1 0 64 rw (2 0 16 ro) (3 16 16 rw))\n",
     "(issued 12)\n(2 0 8 rw (5 0 8 ro (9 1 2 ro)))\n(10 4294967295 1 ro)\n",
     "(issued 1000000)\n(999999 0 1 rw)\n(1000000 0 1 ro)\n",
     "(issued 2)\n(2 0 8 rw (1 0 8 rw))\n",
+    "(issued 4)\n(1 0 64 rw (2 0 8 rw raw (3 0 4 ro)) (4 8 8 ro cell))\n",
 ];
 
 pub fn groups(report: &mut Report, subject: Subject) {
@@ -29,7 +30,7 @@ pub fn groups(report: &mut Report, subject: Subject) {
     });
     report.group("every change of one byte of a listing", |_| {
         each_byte(&SAMPLES, |text| {
-            agree::read_listing(subject, text, &Lent::empty(3))
+            agree::read_listing(subject, text, &Lent::empty(4))
         })
     });
     report.group("listings at their limits", |_| limits(subject));

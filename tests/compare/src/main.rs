@@ -11,6 +11,7 @@ mod examples;
 mod generate;
 mod grouped_text;
 mod histories;
+mod kinds;
 mod lines;
 mod listings;
 mod many;
@@ -18,6 +19,7 @@ mod random;
 mod report;
 mod runs;
 mod spellings;
+mod strikes;
 mod together;
 
 use std::env;
@@ -79,6 +81,9 @@ fn main() -> ExitCode {
     together::groups(&mut report, subject);
     grouped_text::groups(&mut report, subject);
     many::groups(&mut report, subject);
+    // Before the trees of kinds, which would meet every sort by themselves.
+    strikes::groups(&mut report);
+    kinds::groups(&mut report, subject);
     report.met("every answer of an event was met", agree::every_answer_met);
     report.met(
         "every answer of the history was met",

@@ -43,7 +43,7 @@ pub fn groups(report: &mut Report, subject: Subject) {
 }
 
 /// Sorts of calls with many events, for what they meet.
-const SORTS: [&str; 22] = [
+const SORTS: [&str; 25] = [
     "a refused event between allowed ones",
     "allowed, names within the list",
     "refused 5, names that an allowed event before it has in the list too",
@@ -57,6 +57,9 @@ const SORTS: [&str; 22] = [
     "refused 2, a kind above a byte whose last byte is known",
     "refused 2, a kind of 0 or from 7 to 255",
     "refused 2, a right above a byte whose last byte is known",
+    "allowed, what is borrowed has a kind",
+    "refused 2, a kind of what is borrowed above a byte whose last byte is known",
+    "allowed, another event with a number that is no kind",
     "allowed, a number above 1 says that a name is written",
     "refused 12, a number above a byte whose last byte is 0 says so",
     "every event allowed, two or more",
@@ -69,7 +72,7 @@ const SORTS: [&str; 22] = [
 ];
 
 /// How often calls were of each sort.
-static SORTS_MET: Met<22> = Met::none();
+static SORTS_MET: Met<25> = Met::none();
 
 /// Events, and the list in which their names stand.
 #[derive(Clone, Debug)]
@@ -106,6 +109,8 @@ fn count_sorts(lent: &Lent, many: &Many, room: usize, answers: &[AnswerWords]) {
     let disordered = any(&|_, refusal| refusal == 1);
     let last_byte = |number: u32| number > 255 && matches!(number & 255, 1..=6);
     let last_right = |number: u32| number > 255 && matches!(number & 255, 1 | 2);
+    let last_kind = |number: u32| number > 255 && number & 255 <= 2;
+    let borrows = |words: &Words| words.kind == 2;
     SORTS_MET.count([
         between.is_some_and(|between| between.contains(&false)),
         any(&|words, refusal| refusal == 0 && inner(words)),
@@ -125,6 +130,12 @@ fn count_sorts(lent: &Lent, many: &Many, room: usize, answers: &[AnswerWords]) {
         any(&|words, refusal| refusal == 2 && last_byte(words.kind)),
         any(&|words, refusal| refusal == 2 && matches!(words.kind, 0 | 7..=255)),
         any(&|words, refusal| refusal == 2 && makes(words) && last_right(words.right)),
+        any(&|words, refusal| refusal == 0 && borrows(words) && words.cap_kind != 0),
+        any(&|words, refusal| {
+            let is_known_right = matches!(words.right, 1 | 2);
+            refusal == 2 && borrows(words) && is_known_right && last_kind(words.cap_kind)
+        }),
+        any(&|words, refusal| refusal == 0 && !borrows(words) && words.cap_kind > 2),
         any(&|words, refusal| refusal == 0 && makes(words) && words.named > 1),
         any(&|words, refusal| refusal == 12 && words.named > 255 && words.named & 255 == 0),
         allowed.len() > 1 && !allowed.contains(&false),
@@ -141,7 +152,7 @@ fn count_sorts(lent: &Lent, many: &Many, room: usize, answers: &[AnswerWords]) {
 const NAMED: [u32; 8] = [1, 2, 3, 255, 256, 65_536, 1 << 31, u32::MAX];
 
 /// Kinds: the known ones, and others of which some end in the byte of a known one.
-const KINDS: [u32; 24] = [
+pub const KINDS: [u32; 24] = [
     0,
     1,
     2,
@@ -197,12 +208,17 @@ fn words_of_event(random: &mut Random, event: interface::Event) -> Words {
         words.written = random.number();
         words.right = random.pick(&RIGHTS);
     }
+    if words.kind != 2 && random.one_in(2) {
+        words.cap_kind = random.number();
+    }
     match random.below(60) {
         0 | 1 => words.kind = random.pick(&KINDS),
         2 => words.kind |= 1 << random.between(8, 31),
         3 | 4 => words.right = random.pick(&RIGHTS),
         5 => words.right |= 1 << random.between(8, 31),
         6..=9 => words.written = random.number(),
+        10 | 11 => words.cap_kind = random.pick(&generate::NO_KINDS),
+        12 => words.cap_kind |= 1 << random.between(8, 31),
         _ => {}
     }
     words
@@ -227,6 +243,7 @@ fn place(random: &mut Random, list: &mut Vec<u32>, names: &[u32]) -> Words {
         right: random.number(),
         named: random.pick(&[0, 1, u32::MAX]),
         written: random.number(),
+        cap_kind: random.number(),
         ..Words::drop_all(start as u32, names.len() as u32)
     }
 }
@@ -382,7 +399,7 @@ fn every_room(random: &mut Random, subject: Subject) -> Checked {
 }
 
 /// One event by itself, in a call of many, and as a line.
-fn check_words(subject: Subject, lent: &Lent, words: &Words, names: &[u32]) -> Agreed {
+pub fn check_words(subject: Subject, lent: &Lent, words: &Words, names: &[u32]) -> Agreed {
     let one = [*words];
     let outcome = agree::apply_all(subject, &mut lent.clone(), &one, names, 1)
         .and_then(|_| agree::write_words(subject, words, names));
@@ -435,6 +452,7 @@ fn edges(subject: Subject) -> Checked {
                         right,
                         named,
                         written,
+                        cap_kind: 0,
                     };
                     check_words(subject, &lent, &words, &[1, 2])?;
                     cases += 1;

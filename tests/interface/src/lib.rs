@@ -1,7 +1,7 @@
 //! The C interface as a trait, over the library or over the baseline, so that whatever tests or
 //! measures the one can test or measure the other.
 
-pub use baseline::{Cap, Event, MAX_GROUP, Tally};
+pub use baseline::{CELL, Cap, Event, MAX_GROUP, RAW, REFERENCE, Tally};
 pub use words::{AnswerWords, DROP_ALL, Words};
 
 #[cfg(library)]
@@ -75,22 +75,6 @@ pub trait Interface {
     /// The line of names dropped together.
     fn write_drop(&self, names: &[u32], out: &mut [u8]) -> u64 {
         self.write_words(&Words::drop_all(0, names.len() as u32), names, out)
-    }
-
-    /// A line in the plain spelling: kind, name, start, length and right.
-    fn read_event(&self, line: &[u8], fields: &mut [u32; 5]) -> u64 {
-        let mut words = Words::default();
-        let answer = self.read_line(0, line, &mut words, &mut [0; MAX_GROUP]);
-        if answer == 0 {
-            *fields = [
-                words.kind,
-                words.name,
-                words.start,
-                words.length,
-                words.right,
-            ];
-        }
-        answer
     }
 }
 

@@ -7,6 +7,9 @@ use crate::{AnswerWords, Cap, Interface, MAX_GROUP, Tally, Words, ffi};
 
 pub struct Library;
 
+// A call reads and writes as many words of an event as the C struct has.
+const _: () = assert!(size_of::<Words>() == size_of::<ffi::EventWords>());
+
 // SAFETY, of each call below: a slice gives a pointer to as many elements as its length says, the
 // exclusive ones are borrowed for the call alone, and `Cap`, `Tally` and `Words` are laid out as the
 // C structs are.

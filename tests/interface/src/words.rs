@@ -17,6 +17,7 @@ pub struct Words {
     pub right: u32,
     pub named: u32,
     pub written: u32,
+    pub cap_kind: u32,
 }
 
 impl Words {
@@ -41,11 +42,13 @@ impl From<Event> for Words {
             right: event.right.into(),
             named: event.written.is_some().into(),
             written: event.written.unwrap_or(0),
+            cap_kind: event.cap_kind.into(),
         }
     }
 }
 
-/// Kinds and rights above what the baseline's have room for are as unknown as 0 is.
+/// Kinds and rights above what the baseline's have room for are as unknown as 0 is, and kinds of
+/// capabilities, of which 0 is known, as the last that there is room for.
 impl From<Words> for Event {
     fn from(words: Words) -> Event {
         Event {
@@ -55,6 +58,7 @@ impl From<Words> for Event {
             start: words.start,
             length: words.length,
             right: words.right.try_into().unwrap_or(0),
+            cap_kind: words.cap_kind.try_into().unwrap_or(u8::MAX),
         }
     }
 }

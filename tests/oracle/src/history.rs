@@ -4,7 +4,8 @@
 
 use crate::span::{ADDRESSES, Span};
 use crate::values::{
-    Event, MAX_DEPTH, MAX_GROUP, MAX_NAME, MAX_ROWS, READ_ONLY, READ_WRITE, Refused, Row,
+    CELL, Event, MAX_DEPTH, MAX_GROUP, MAX_NAME, MAX_ROWS, RAW, READ_ONLY, READ_WRITE, REFERENCE,
+    Refused, Row,
 };
 
 /// An allowed event. A create or borrow is noted with the name that it made, the others with 0.
@@ -21,6 +22,7 @@ struct Made {
     parent: u32,
     span: Span,
     right: u8,
+    kind: u32,
 }
 
 /// Nothing, or the refusal.
@@ -35,6 +37,11 @@ fn refuse(number: Refused, applies: bool) -> Judged {
 
 fn judge_right(right: u8) -> Judged {
     refuse(2, ![READ_ONLY, READ_WRITE].contains(&right))
+}
+
+/// Card 6: kinds are 0, 1 and 2.
+fn judge_kind(kind: u32) -> Judged {
+    refuse(2, kind > CELL)
 }
 
 fn judge_span(span: Span) -> Judged {
@@ -104,8 +111,10 @@ impl History {
                 parent,
                 span,
                 right,
+                kind,
             } => {
                 judge_right(right)?;
+                judge_kind(kind)?;
                 self.judge_use(parent, span)?;
                 refuse(7, right == READ_WRITE && !self.is_read_write(parent))?;
                 refuse(8, self.depth(parent) == MAX_DEPTH)?;
@@ -178,6 +187,7 @@ impl History {
             length: made.span.length,
             right: right.into(),
             depth: self.depth(name),
+            kind: made.kind,
         })
     }
 
@@ -190,7 +200,13 @@ impl History {
             parent: event.user().unwrap_or(0),
             span: event.span()?,
             right: event.right()?,
+            kind: event.kind().unwrap_or(REFERENCE),
         })
+    }
+
+    /// Whether the name was noted with this kind.
+    fn is_of_kind(&self, name: u32, kind: u32) -> bool {
+        self.made(name).is_some_and(|made| made.kind == kind)
     }
 
     /// The name, its noted parent, and so on up to its root.
@@ -208,15 +224,40 @@ impl History {
         self.ancestry(name).len() as u32
     }
 
-    /// Whether a read, write or create through `user`, of a create the name that it made, touches the
-    /// name's span from outside the name's subtree.
-    fn strikes(&self, user: u32, span: Span, name: u32) -> bool {
-        let touches = self.made(name).is_some_and(|made| made.span.touches(span));
-        touches && !self.ancestry(user).contains(&name)
+    /// Whether the one name is in the subtree of the other.
+    fn is_in_subtree(&self, name: u32, of: u32) -> bool {
+        self.ancestry(name).contains(&of)
     }
 
-    fn strikes_any(&self, user: u32, span: Span, names: &[u32]) -> bool {
-        names.iter().any(|name| self.strikes(user, span, *name))
+    /// Whether a read, write or create through `user`, of a create the name that it made, touches the
+    /// name's span from outside the name's subtree.
+    fn meets(&self, user: u32, span: Span, name: u32) -> bool {
+        let touches = self.made(name).is_some_and(|made| made.span.touches(span));
+        touches && !self.is_in_subtree(user, name)
+    }
+
+    /// Card 6: no read strikes a raw name.
+    fn read_strikes(&self, user: u32, span: Span, name: u32) -> bool {
+        self.meets(user, span, name) && !self.is_of_kind(name, RAW)
+    }
+
+    /// Card 6: a write strikes no raw name from the subtree of its parent, and from the subtree of a cell
+    /// no name that is not in it.
+    fn write_strikes(&self, user: u32, span: Span, name: u32) -> bool {
+        self.meets(user, span, name)
+            && !self.is_raw_beside(user, name)
+            && !self.is_outside_a_cell_of(user, name)
+    }
+
+    fn is_raw_beside(&self, user: u32, name: u32) -> bool {
+        let of_raw = self.made(name).filter(|made| made.kind == RAW);
+        of_raw.is_some_and(|made| self.is_in_subtree(user, made.parent))
+    }
+
+    fn is_outside_a_cell_of(&self, user: u32, name: u32) -> bool {
+        let path = self.ancestry(user);
+        let mut cells = path.iter().filter(|above| self.is_of_kind(**above, CELL));
+        cells.any(|cell| !self.is_in_subtree(name, *cell))
     }
 
     /// Whether a note later than the one that made the name is one of those that take something from
@@ -228,10 +269,11 @@ impl History {
     /// Card 4: a create counts as a write through the name that it made.
     pub fn lives(&self, name: u32) -> bool {
         let path = self.ancestry(name);
+        let strikes = |user, span| path.iter().any(|at| self.write_strikes(user, span, *at));
         let ends = |note: &Note| match note.event {
             Event::Drop { name } => path.contains(&name),
-            Event::Write { name, span } => self.strikes_any(name, span, &path),
-            Event::Create { span, .. } => self.strikes_any(note.made, span, &path),
+            Event::Write { name, span } => strikes(name, span),
+            Event::Create { span, .. } => strikes(note.made, span),
             _ => false,
         };
         self.made(name)
@@ -241,8 +283,9 @@ impl History {
     /// Whether the name was made writable and no later read took that away.
     pub fn is_read_write(&self, name: u32) -> bool {
         let path = self.ancestry(name);
+        let strikes = |user, span| path.iter().any(|at| self.read_strikes(user, span, *at));
         let lowers = |note: &Note| match note.event {
-            Event::Read { name, span } => self.strikes_any(name, span, &path),
+            Event::Read { name, span } => strikes(name, span),
             _ => false,
         };
         self.made(name)

@@ -1,4 +1,4 @@
-//! A second checker, written from document 01 and cards 1, 2, 4 and 5 alone and for clarity alone.
+//! A second checker, written from document 01 and cards 1, 2, 4, 5 and 6 alone and for clarity alone.
 //!
 //! It shares no code and no plan with what it judges: the history derives everything from its notes
 //! each time it is asked, the rows of a lent table are searched from end to end, and text is taken
@@ -10,6 +10,7 @@ mod span;
 mod table;
 mod text;
 mod together;
+pub mod traces;
 mod values;
 
 pub use history::History;
@@ -21,6 +22,6 @@ pub use text::{
 };
 pub use together::{drop_all, is_group};
 pub use values::{
-    Event, MAX_DEPTH, MAX_GROUP, MAX_INPUT, MAX_NAME, MAX_ROWS, READ_ONLY, READ_WRITE, Refused,
-    Row, Tally,
+    CELL, Event, MAX_DEPTH, MAX_GROUP, MAX_INPUT, MAX_NAME, MAX_ROWS, RAW, READ_ONLY, READ_WRITE,
+    REFERENCE, Refused, Row, Tally,
 };

@@ -3,7 +3,7 @@
 use crate::span::Span;
 use crate::table::is_unknown;
 use crate::together::is_group;
-use crate::values::{Event, READ_ONLY, READ_WRITE};
+use crate::values::{CELL, Event, RAW, READ_ONLY, READ_WRITE, REFERENCE};
 
 /// How a create or borrow is spelt: without its new name, or with it after the word.
 #[derive(Clone, Copy, Debug, PartialEq, Eq)]
@@ -26,7 +26,16 @@ pub fn right_word(right: u32) -> &'static str {
     }
 }
 
-/// The event's one spelling of this sort, newline included; none where its right or its kind is
+/// The last word of a capability of this kind, with the space before it. A reference has none.
+pub fn kind_word(kind: u32) -> &'static str {
+    match kind {
+        RAW => " raw",
+        CELL => " cell",
+        _ => "",
+    }
+}
+
+/// The event's one spelling of this sort, newline included; none where it, its right or its kind is
 /// unknown, and none for a create or borrow with a name in the plain one or without in the other.
 pub fn event_line(event: Event, spelling: Spelling) -> Option<String> {
     if is_unknown(event) || !spelling.suits(event) {
@@ -36,9 +45,12 @@ pub fn event_line(event: Event, spelling: Spelling) -> Option<String> {
     let new_name = event.written().map(|written| format!("{written} "));
     let new_name = new_name.unwrap_or_default();
     let right = right_word(right);
+    let kind = event.kind().map_or("", kind_word);
     Some(match event {
         Event::Create { .. } => format!("(create {new_name}{start} {length} {right})\n"),
-        Event::Borrow { .. } => format!("(borrow {new_name}{name} {start} {length} {right})\n"),
+        Event::Borrow { .. } => {
+            format!("(borrow {new_name}{name} {start} {length} {right}{kind})\n")
+        }
         Event::Read { .. } => format!("(read {name} {start} {length})\n"),
         Event::Write { .. } => format!("(write {name} {start} {length})\n"),
         Event::Drop { .. } | Event::Unknown => format!("(drop {name})\n"),
@@ -68,11 +80,12 @@ fn made(kind: &[u8], written: Option<u32>, values: &[&[u8]]) -> Option<Event> {
             span: span(start, length)?,
             right: self::right(right)?,
         },
-        (b"borrow", [name, start, length, right]) => Event::Borrow {
+        (b"borrow", [name, start, length, right, last @ ..]) => Event::Borrow {
             written,
             parent: number(name)?,
             span: span(start, length)?,
             right: self::right(right)?,
+            kind: kind_of(last)?,
         },
         _ => return None,
     })
@@ -132,6 +145,16 @@ pub fn right(word: &[u8]) -> Option<u8> {
     match word {
         b"ro" => Some(READ_ONLY),
         b"rw" => Some(READ_WRITE),
+        _ => None,
+    }
+}
+
+/// The kind that the words after a right say: none for a reference, and one for the others.
+fn kind_of(words: &[&[u8]]) -> Option<u32> {
+    match words {
+        [] => Some(REFERENCE),
+        [b"raw"] => Some(RAW),
+        [b"cell"] => Some(CELL),
         _ => None,
     }
 }

@@ -1,8 +1,11 @@
 //! The lent table and tally: when a table is in order, what refuses an event, what an event does.
 
+use std::collections::BTreeSet;
+
 use crate::span::Span;
 use crate::values::{
-    Event, MAX_DEPTH, MAX_NAME, MAX_ROWS, READ_ONLY, READ_WRITE, Refused, Row, Tally,
+    CELL, Event, MAX_DEPTH, MAX_NAME, MAX_ROWS, RAW, READ_ONLY, READ_WRITE, REFERENCE, Refused,
+    Row, Tally,
 };
 
 /// The rows up to the last that is not all zeros.
@@ -11,7 +14,7 @@ pub fn live_rows(rows: &[Row]) -> &[Row] {
     &rows[..last.map_or(0, |last| last + 1)]
 }
 
-/// Document 01's sentence, 'A table is in order when', clause by clause.
+/// Document 01's sentence, 'A table is in order when', clause by clause, and card 6 on kinds.
 pub fn in_order(rows: &[Row], issued: u32) -> bool {
     if rows.len() > MAX_ROWS || issued > MAX_NAME {
         return false;
@@ -25,8 +28,9 @@ pub fn in_order(rows: &[Row], issued: u32) -> bool {
 fn row_is_in_order(row: &Row, earlier: &[Row]) -> bool {
     row.span().is_legal()
         && (row.right == u32::from(READ_ONLY) || row.right == u32::from(READ_WRITE))
+        && is_kind(row.kind)
         && if row.parent == 0 {
-            row.depth == 1
+            row.depth == 1 && row.kind == REFERENCE
         } else {
             find(earlier, row.parent).is_some_and(|parent| row_fits_parent(row, parent))
         }
@@ -37,6 +41,10 @@ fn row_fits_parent(row: &Row, parent: &Row) -> bool {
         && row.right <= parent.right
         && row.depth == parent.depth + 1
         && row.depth <= MAX_DEPTH
+}
+
+fn is_kind(number: u32) -> bool {
+    number == REFERENCE || number == RAW || number == CELL
 }
 
 fn find(rows: &[Row], name: u32) -> Option<&Row> {
@@ -81,12 +89,13 @@ fn refusal(rows: &[Row], issued: u32, event: Event) -> Option<Refused> {
     holding.next().map(|(number, _)| number)
 }
 
-/// An unknown kind, or a right that is neither 1 nor 2.
+/// An unknown event, a right that is neither 1 nor 2, or a kind that is none of the three.
 pub fn is_unknown(event: Event) -> bool {
     event == Event::Unknown
         || event
             .right()
             .is_some_and(|right| right != READ_ONLY && right != READ_WRITE)
+        || event.kind().is_some_and(|kind| !is_kind(kind))
 }
 
 pub fn is_issued(name: u32, issued: u32) -> bool {
@@ -144,16 +153,17 @@ fn rows_after(live: &[Row], event: Event, new_name: u32) -> Vec<Row> {
     match event {
         Event::Create { span, right, .. } => {
             let left = without(live, &reclaimed(live, span));
-            with_new(&left, new_name, None, span, right)
+            with_new(&left, new_name, None, span, right, REFERENCE)
         }
         Event::Borrow {
             parent,
             span,
             right,
+            kind,
             ..
-        } => with_new(live, new_name, find(live, parent), span, right),
+        } => with_new(live, new_name, find(live, parent), span, right, kind),
         Event::Read { name, span } => {
-            let lowered = revoked(live, name, span);
+            let lowered = below(live, &struck_by_read(live, name, span));
             let right_of = |row: &Row| match lowered.contains(&row.name) {
                 true => u32::from(READ_ONLY),
                 false => row.right,
@@ -164,13 +174,22 @@ fn rows_after(live: &[Row], event: Event, new_name: u32) -> Vec<Row> {
             });
             rows.collect()
         }
-        Event::Write { name, span } => without(live, &revoked(live, name, span)),
+        Event::Write { name, span } => {
+            without(live, &below(live, &struck_by_write(live, name, span)))
+        }
         Event::Drop { name } => without(live, &subtrees(live, |row| row.name == name)),
         Event::Unknown => live.to_vec(),
     }
 }
 
-fn with_new(live: &[Row], name: u32, parent: Option<&Row>, span: Span, right: u8) -> Vec<Row> {
+fn with_new(
+    live: &[Row],
+    name: u32,
+    parent: Option<&Row>,
+    span: Span,
+    right: u8,
+    kind: u32,
+) -> Vec<Row> {
     let mut rows = live.to_vec();
     rows.push(Row {
         name,
@@ -179,6 +198,7 @@ fn with_new(live: &[Row], name: u32, parent: Option<&Row>, span: Span, right: u8
         length: span.length,
         right: right.into(),
         depth: parent.map_or(0, |parent| parent.depth) + 1,
+        kind,
     });
     rows
 }
@@ -194,16 +214,63 @@ pub fn subtrees(live: &[Row], passes: impl Fn(&Row) -> bool) -> Vec<u32> {
     live.iter().filter(below).map(|row| row.name).collect()
 }
 
-/// The names that an access takes something from: every one that it touches and that is neither
-/// the user nor an ancestor of it, and their subtrees.
-fn revoked(live: &[Row], user: u32, span: Span) -> Vec<u32> {
-    let spared = find(live, user).map_or(Vec::new(), |user| ancestry(live, user));
-    subtrees(live, |row| {
-        row.span().touches(span) && !spared.contains(&row)
-    })
+/// The names in the subtrees of these.
+fn below(live: &[Row], names: &BTreeSet<u32>) -> Vec<u32> {
+    subtrees(live, |row| names.contains(&row.name))
 }
 
-/// Card 4: the names that a create ends, which are all that its span touches, and their subtrees.
+/// The names of one subtree. A parent's row stands before its children's.
+fn subtree(live: &[Row], name: u32) -> BTreeSet<u32> {
+    let mut names = BTreeSet::from([name]);
+    for row in live {
+        if names.contains(&row.parent) {
+            names.insert(row.name);
+        }
+    }
+    names
+}
+
+/// The user of an access and its ancestors, none of which is struck.
+fn at_or_above(live: &[Row], user: u32) -> Vec<&Row> {
+    find(live, user).map_or(Vec::new(), |user| ancestry(live, user))
+}
+
+/// The rows that an access touches, and that are neither its user nor an ancestor of it.
+fn touched(live: &[Row], user: u32, span: Span) -> Vec<&Row> {
+    let spared = at_or_above(live, user);
+    let touched = live.iter().filter(|row| row.span().touches(span));
+    touched.filter(|row| !spared.contains(row)).collect()
+}
+
+fn names_of(rows: Vec<&Row>) -> BTreeSet<u32> {
+    rows.iter().map(|row| row.name).collect()
+}
+
+/// The names that a read strikes. Card 6: of a raw capability, 'no read strikes it'.
+fn struck_by_read(live: &[Row], user: u32, span: Span) -> BTreeSet<u32> {
+    let mut struck = touched(live, user, span);
+    struck.retain(|row| row.kind != RAW);
+    names_of(struck)
+}
+
+/// The names that a write strikes, by card 6.
+fn struck_by_write(live: &[Row], user: u32, span: Span) -> BTreeSet<u32> {
+    let mut struck = touched(live, user, span);
+    // 'A write through a user below the parent of a raw capability, or that parent, doesn't strike the
+    // raw one.'
+    let above = at_or_above(live, user);
+    let is_of_kin = |row: &Row| above.iter().any(|one| one.name == row.parent);
+    struck.retain(|row| row.kind != RAW || !is_of_kin(row));
+    // 'A write through a cell, or from below it, strikes nothing outside that cell's subtree.'
+    for cell in above.iter().filter(|row| row.kind == CELL) {
+        let inside = subtree(live, cell.name);
+        struck.retain(|row| inside.contains(&row.name));
+    }
+    names_of(struck)
+}
+
+/// Card 4: the names that a create ends, which are all that its span touches, and their subtrees. It is
+/// a write from outside every subtree but its own, so that card 6 spares no raw one and no cell of it.
 fn reclaimed(live: &[Row], span: Span) -> Vec<u32> {
     subtrees(live, |row| row.span().touches(span))
 }

@@ -1,11 +1,14 @@
 //! Listings, runs, and what `capcheck` prints.
 
 use crate::lines::{
-    Spelling, drop_line, event_line, number, read_drop_line, read_event_line, right, right_word,
+    Spelling, drop_line, event_line, kind_word, number, read_drop_line, read_event_line, right,
+    right_word,
 };
 use crate::table::{apply, in_order, live_rows};
 use crate::together::drop_all;
-use crate::values::{Event, MAX_DEPTH, MAX_INPUT, MAX_ROWS, Refused, Row, Tally};
+use crate::values::{
+    CELL, Event, MAX_DEPTH, MAX_INPUT, MAX_ROWS, RAW, REFERENCE, Refused, Row, Tally,
+};
 
 /// The number of lines allowed, or the refusal and its line.
 pub type Run = Result<u32, (Refused, u32)>;
@@ -23,8 +26,14 @@ fn form(live: &[Row], row: &Row) -> String {
     let inner: String = children
         .map(|child| format!(" {}", form(live, child)))
         .collect();
-    let right = right_word(row.right);
-    format!("({} {} {} {right}{inner})", row.name, row.start, row.length)
+    let (right, kind) = (right_word(row.right), kind_word(row.kind));
+    let Row {
+        name,
+        start,
+        length,
+        ..
+    } = row;
+    format!("({name} {start} {length} {right}{kind}{inner})")
 }
 
 /// The issued number and the rows of the one table in order that has this listing, if there is one.
@@ -72,6 +81,13 @@ impl Reader<'_> {
         right(word)
     }
 
+    /// The kind whose word stands next, or a reference, which has none.
+    fn kind(&mut self) -> u32 {
+        let mut words = [RAW, CELL].into_iter();
+        let found = words.find(|kind| self.skip(kind_word(*kind).as_bytes()).is_some());
+        found.unwrap_or(REFERENCE)
+    }
+
     /// One capability with all below it. Its name, which must be above that of the sibling before
     /// it, is the answer.
     fn form(&mut self, parent: u32, depth: u32, previous: u32) -> Option<u32> {
@@ -83,6 +99,7 @@ impl Reader<'_> {
         let length = self.number()?;
         self.skip(b" ")?;
         let right = u32::from(self.right()?);
+        let kind = self.kind();
         if depth > MAX_DEPTH || name <= previous {
             return None;
         }
@@ -93,6 +110,7 @@ impl Reader<'_> {
             length,
             right,
             depth,
+            kind,
         });
         let mut child = 0;
         while self.rest.starts_with(b" ") {

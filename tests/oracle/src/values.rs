@@ -1,5 +1,5 @@
-//! The values of document 01 and of cards 1 and 5: limits, rights, rows, tallies, events and the
-//! numbers of refusals.
+//! The values of document 01 and of cards 1, 5 and 6: limits, rights, kinds, rows, tallies, events and
+//! the numbers of refusals.
 
 use crate::span::Span;
 
@@ -14,6 +14,11 @@ pub const MAX_INPUT: usize = 65_536;
 pub const READ_ONLY: u8 = 1;
 pub const READ_WRITE: u8 = 2;
 
+/// Card 6: the kinds of capabilities.
+pub const REFERENCE: u32 = 0;
+pub const RAW: u32 = 1;
+pub const CELL: u32 = 2;
+
 /// The number of a refusal, 1 to 13.
 pub type Refused = u8;
 
@@ -26,6 +31,7 @@ pub struct Row {
     pub length: u32,
     pub right: u32,
     pub depth: u32,
+    pub kind: u32,
 }
 
 impl Row {
@@ -61,6 +67,8 @@ pub enum Event {
         parent: u32,
         span: Span,
         right: u8,
+        /// The kind of what is made. A create has none: it makes a reference.
+        kind: u32,
     },
     Read {
         name: u32,
@@ -78,10 +86,18 @@ pub enum Event {
 }
 
 impl Event {
-    /// The event of the C interface's values, with a written name or without; those that its kind
-    /// lacks are not looked at.
-    pub fn from_fields(kind: u8, written: Option<u32>, name: u32, span: Span, right: u8) -> Event {
-        match kind {
+    /// The event of the C interface's values, with a written name or without; those that the event
+    /// lacks are not looked at. The first number says which event it is, the last the kind of what a
+    /// borrow makes.
+    pub fn from_fields(
+        event: u8,
+        written: Option<u32>,
+        name: u32,
+        span: Span,
+        right: u8,
+        kind: u32,
+    ) -> Event {
+        match event {
             1 => Event::Create {
                 written,
                 span,
@@ -92,6 +108,7 @@ impl Event {
                 parent: name,
                 span,
                 right,
+                kind,
             },
             3 => Event::Read { name, span },
             4 => Event::Write { name, span },
@@ -100,7 +117,7 @@ impl Event {
         }
     }
 
-    /// Kind, name, start, length and right as the C interface has them, 0 for what a kind lacks.
+    /// Event, name, start, length and right as the C interface has them, 0 for what an event lacks.
     pub fn fields(self) -> [u32; 5] {
         match self {
             Event::Create { span, right, .. } => [1, 0, span.start, span.length, right.into()],
@@ -117,12 +134,14 @@ impl Event {
         }
     }
 
-    /// The same, and after them whether a new name is written and which, as the C interface has it.
-    pub fn words(self) -> [u32; 7] {
-        let [kind, name, start, length, right] = self.fields();
+    /// The same, and after them whether a new name is written and which, and the kind of what a borrow
+    /// makes, as the C interface has it.
+    pub fn words(self) -> [u32; 8] {
+        let [event, name, start, length, right] = self.fields();
         let named = u32::from(self.written().is_some());
         let written = self.written().unwrap_or(0);
-        [kind, name, start, length, right, named, written]
+        let kind = self.kind().unwrap_or(0);
+        [event, name, start, length, right, named, written, kind]
     }
 
     /// The name that the event carries for what it makes.
@@ -137,6 +156,14 @@ impl Event {
     pub fn right(self) -> Option<u8> {
         match self {
             Event::Create { right, .. } | Event::Borrow { right, .. } => Some(right),
+            _ => None,
+        }
+    }
+
+    /// The kind that the event asks for, in the one event that has one.
+    pub fn kind(self) -> Option<u32> {
+        match self {
+            Event::Borrow { kind, .. } => Some(kind),
             _ => None,
         }
     }

@@ -1,0 +1,278 @@
+//! Traces of card 6, with their answers and listings worked out by hand from the card's sentences.
+
+/// A line and its answer.
+pub type Step = (&'static str, Result<u32, u8>);
+
+/// What a trace shows, its lines, and the listing that they leave.
+pub type Trace = (&'static str, &'static [Step], &'static str);
+
+const ROOT: Step = ("(create 0 64 rw)", Ok(1));
+
+/// Raw capabilities and cells, on six rows or more with no name issued.
+pub const KINDS: [Trace; 21] = [
+    (
+        "a raw capability and its parent, used in turn",
+        &[
+            ROOT,
+            ("(borrow 1 0 8 rw raw)", Ok(2)),
+            ("(write 1 0 8)", Ok(0)),
+            ("(write 2 0 8)", Ok(0)),
+            ("(read 1 0 8)", Ok(0)),
+            ("(write 2 0 8)", Ok(0)),
+            ("(write 1 0 64)", Ok(0)),
+            ("(write 2 0 8)", Ok(0)),
+        ],
+        "(issued 2)\n(1 0 64 rw (2 0 8 rw raw))\n",
+    ),
+    (
+        "a raw capability beside a reference below its parent",
+        &[
+            ROOT,
+            ("(borrow 1 0 8 rw raw)", Ok(2)),
+            ("(write 1 0 8)", Ok(0)),
+            ("(borrow 1 0 8 rw)", Ok(3)),
+            ("(write 3 0 8)", Ok(0)),
+            ("(read 1 0 8)", Ok(0)),
+        ],
+        "(issued 3)\n(1 0 64 rw (2 0 8 rw raw) (3 0 8 ro))\n",
+    ),
+    (
+        "a raw capability and a stranger's write",
+        &[
+            ROOT,
+            ("(borrow 1 0 8 rw raw)", Ok(2)),
+            ("(borrow 2 0 8 rw raw)", Ok(3)),
+            ("(borrow 1 0 8 rw)", Ok(4)),
+            ("(write 4 0 8)", Ok(0)),
+            ("(read 3 0 8)", Err(5)),
+            ("(write 2 0 8)", Ok(0)),
+            ("(read 4 0 8)", Err(5)),
+        ],
+        "(issued 4)\n(1 0 64 rw (2 0 8 rw raw))\n",
+    ),
+    (
+        "a raw capability and its parent's parent",
+        &[
+            ROOT,
+            ("(borrow 1 0 8 rw)", Ok(2)),
+            ("(borrow 2 0 8 rw raw)", Ok(3)),
+            ("(borrow 1 8 8 rw)", Ok(4)),
+            ("(write 4 8 8)", Ok(0)),
+            ("(write 1 0 8)", Ok(0)),
+        ],
+        "(issued 4)\n(1 0 64 rw (4 8 8 rw))\n",
+    ),
+    (
+        "reads and raw capabilities",
+        &[
+            ROOT,
+            ("(borrow 1 0 8 rw raw)", Ok(2)),
+            ("(borrow 1 0 8 rw raw)", Ok(3)),
+            ("(borrow 3 0 8 rw raw)", Ok(4)),
+            ("(read 1 0 8)", Ok(0)),
+            ("(read 2 0 8)", Ok(0)),
+            ("(read 4 0 8)", Ok(0)),
+        ],
+        "(issued 4)\n(1 0 64 rw (2 0 8 rw raw) (3 0 8 rw raw (4 0 8 rw raw)))\n",
+    ),
+    (
+        "a raw capability is lowered with its parent",
+        &[
+            ROOT,
+            ("(borrow 1 0 8 rw)", Ok(2)),
+            ("(borrow 2 0 8 rw raw)", Ok(3)),
+            ("(read 1 0 8)", Ok(0)),
+            ("(write 3 0 8)", Err(7)),
+        ],
+        "(issued 3)\n(1 0 64 rw (2 0 8 ro (3 0 8 ro raw)))\n",
+    ),
+    (
+        "two cells side by side",
+        &[
+            ROOT,
+            ("(borrow 1 0 8 rw cell)", Ok(2)),
+            ("(borrow 1 0 8 rw cell)", Ok(3)),
+            ("(write 2 0 8)", Ok(0)),
+            ("(write 3 0 8)", Ok(0)),
+            ("(write 2 0 8)", Ok(0)),
+        ],
+        "(issued 3)\n(1 0 64 rw (2 0 8 rw cell) (3 0 8 rw cell))\n",
+    ),
+    (
+        "writes inside a cell, and a read",
+        &[
+            ROOT,
+            ("(borrow 1 0 8 rw cell)", Ok(2)),
+            ("(borrow 1 0 8 rw)", Ok(3)),
+            ("(borrow 2 0 8 rw)", Ok(4)),
+            ("(write 4 0 8)", Ok(0)),
+            ("(write 2 0 8)", Ok(0)),
+            ("(read 4 0 8)", Err(5)),
+            ("(read 2 0 8)", Ok(0)),
+        ],
+        "(issued 4)\n(1 0 64 rw (2 0 8 rw cell) (3 0 8 ro))\n",
+    ),
+    (
+        "a read from inside a cell lowers outside it",
+        &[
+            ROOT,
+            ("(borrow 1 0 8 rw)", Ok(2)),
+            ("(borrow 1 0 8 rw cell)", Ok(3)),
+            ("(borrow 3 0 8 rw)", Ok(4)),
+            ("(borrow 1 0 8 rw cell)", Ok(5)),
+            ("(read 4 0 8)", Ok(0)),
+            ("(write 5 0 8)", Err(7)),
+        ],
+        "(issued 5)\n(1 0 64 rw (2 0 8 ro) (3 0 8 rw cell (4 0 8 rw)) (5 0 8 ro cell))\n",
+    ),
+    (
+        "a cell inside a cell",
+        &[
+            ROOT,
+            ("(borrow 1 0 8 rw cell)", Ok(2)),
+            ("(borrow 2 0 8 rw cell)", Ok(3)),
+            ("(borrow 2 0 8 rw)", Ok(4)),
+            ("(borrow 1 0 8 rw)", Ok(5)),
+            ("(write 3 0 8)", Ok(0)),
+            ("(write 4 0 8)", Ok(0)),
+            ("(read 3 0 8)", Err(5)),
+        ],
+        "(issued 5)\n(1 0 64 rw (2 0 8 rw cell (4 0 8 rw)) (5 0 8 rw))\n",
+    ),
+    (
+        "a write from outside ends a cell",
+        &[
+            ROOT,
+            ("(borrow 1 0 8 rw cell)", Ok(2)),
+            ("(borrow 2 0 4 rw)", Ok(3)),
+            ("(borrow 1 0 8 rw)", Ok(4)),
+            ("(write 4 4 4)", Ok(0)),
+            ("(read 3 0 4)", Err(5)),
+        ],
+        "(issued 4)\n(1 0 64 rw (4 0 8 rw))\n",
+    ),
+    (
+        "raw capabilities outside a cell and inside it",
+        &[
+            ROOT,
+            ("(borrow 1 0 8 rw)", Ok(2)),
+            ("(borrow 2 0 8 rw raw)", Ok(3)),
+            ("(borrow 1 0 8 rw cell)", Ok(4)),
+            ("(borrow 4 0 8 rw)", Ok(5)),
+            ("(borrow 5 0 8 rw raw)", Ok(6)),
+            ("(write 5 0 8)", Ok(0)),
+            ("(write 6 0 8)", Ok(0)),
+            ("(write 4 0 8)", Ok(0)),
+            ("(read 6 0 8)", Err(5)),
+        ],
+        "(issued 6)\n(1 0 64 rw (2 0 8 rw (3 0 8 rw raw)) (4 0 8 rw cell))\n",
+    ),
+    (
+        "a create over a raw capability and a cell",
+        &[
+            ROOT,
+            ("(borrow 1 0 8 rw cell)", Ok(2)),
+            ("(borrow 2 0 8 rw raw)", Ok(3)),
+            ("(create 0 8 rw)", Ok(4)),
+            ("(read 3 0 8)", Err(5)),
+            ("(read 2 0 8)", Err(5)),
+        ],
+        "(issued 4)\n(4 0 8 rw)\n",
+    ),
+    (
+        "drops of raw capabilities and cells",
+        &[
+            ROOT,
+            ("(borrow 1 0 8 rw cell)", Ok(2)),
+            ("(borrow 2 0 8 rw raw)", Ok(3)),
+            ("(borrow 1 0 8 ro raw)", Ok(4)),
+            ("(drop 2)", Ok(0)),
+            ("(drop 3)", Err(5)),
+        ],
+        "(issued 4)\n(1 0 64 rw (4 0 8 ro raw))\n",
+    ),
+    (
+        "kinds and rights are not bound",
+        &[
+            ROOT,
+            ("(borrow 1 0 8 ro raw)", Ok(2)),
+            ("(borrow 2 0 8 ro cell)", Ok(3)),
+            ("(borrow 3 0 8 rw raw)", Err(7)),
+            ("(write 2 0 8)", Err(7)),
+        ],
+        "(issued 3)\n(1 0 64 rw (2 0 8 ro raw (3 0 8 ro cell)))\n",
+    ),
+    (
+        "kinds in a listing",
+        &[
+            ROOT,
+            ("(borrow 1 0 8 rw raw)", Ok(2)),
+            ("(borrow 2 0 4 ro)", Ok(3)),
+            ("(borrow 1 8 8 ro cell)", Ok(4)),
+        ],
+        "(issued 4)\n(1 0 64 rw (2 0 8 rw raw (3 0 4 ro)) (4 8 8 ro cell))\n",
+    ),
+    (
+        "a write from below the parent spares a raw capability",
+        &[
+            ROOT,
+            ("(borrow 1 0 8 rw raw)", Ok(2)),
+            ("(borrow 1 0 8 rw)", Ok(3)),
+            ("(borrow 3 0 8 rw)", Ok(4)),
+            ("(write 4 0 8)", Ok(0)),
+            ("(write 3 0 8)", Ok(0)),
+            ("(borrow 1 0 8 rw raw)", Ok(5)),
+            ("(write 5 0 8)", Ok(0)),
+        ],
+        "(issued 5)\n(1 0 64 rw (2 0 8 rw raw) (5 0 8 rw raw))\n",
+    ),
+    (
+        "a write from below a cell strikes nothing outside",
+        &[
+            ROOT,
+            ("(borrow 1 0 8 rw)", Ok(2)),
+            ("(borrow 1 0 8 rw cell)", Ok(3)),
+            ("(borrow 3 0 8 rw)", Ok(4)),
+            ("(borrow 4 0 8 rw)", Ok(5)),
+            ("(write 5 0 8)", Ok(0)),
+        ],
+        "(issued 5)\n(1 0 64 rw (2 0 8 rw) (3 0 8 rw cell (4 0 8 rw (5 0 8 rw))))\n",
+    ),
+    (
+        "a write inside a cell strikes there",
+        &[
+            ROOT,
+            ("(borrow 1 0 8 rw cell)", Ok(2)),
+            ("(borrow 2 0 8 rw)", Ok(3)),
+            ("(borrow 2 0 8 rw)", Ok(4)),
+            ("(write 4 0 8)", Ok(0)),
+            ("(read 3 0 8)", Err(5)),
+            ("(write 2 0 8)", Ok(0)),
+            ("(read 4 0 8)", Err(5)),
+        ],
+        "(issued 4)\n(1 0 64 rw (2 0 8 rw cell))\n",
+    ),
+    (
+        "a cell is struck as a reference is",
+        &[
+            ROOT,
+            ("(borrow 1 0 8 rw cell)", Ok(2)),
+            ("(read 1 0 8)", Ok(0)),
+            ("(write 2 0 8)", Err(7)),
+            ("(write 1 0 8)", Ok(0)),
+        ],
+        "(issued 2)\n(1 0 64 rw)\n",
+    ),
+    (
+        "length 0 strikes no kind",
+        &[
+            ROOT,
+            ("(borrow 1 0 8 rw raw)", Ok(2)),
+            ("(borrow 1 4 0 rw cell)", Ok(3)),
+            ("(borrow 1 0 8 rw)", Ok(4)),
+            ("(write 4 4 0)", Ok(0)),
+            ("(write 3 4 0)", Ok(0)),
+        ],
+        "(issued 4)\n(1 0 64 rw (2 0 8 rw raw) (3 4 0 rw cell) (4 0 8 rw))\n",
+    ),
+];
