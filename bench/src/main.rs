@@ -14,10 +14,13 @@ mod workload;
 
 use std::env;
 
-use shape::{Case, Shape, chains, random_trees, roots, shared_slots, spread_star, star, two_trees};
+use interface::{CELL, REFERENCE};
+use shape::{
+    Case, Shape, cells, chains, random_trees, roots, shared_slots, spread_star, star, two_trees,
+};
 use timing::{Batch, Contenders, median_times};
 use workload::{
-    BORROW, CREATE, DROP, READ, ROUND_EVENTS, ROUND_ROWS, WRITE, beside, event_on_first, rounds,
+    BORROW, CREATE, DROP, READ, ROUND_EVENTS, ROUND_ROWS, WRITE, beside, event_on_user, rounds,
     steady_text,
 };
 
@@ -28,8 +31,11 @@ const RUN_BYTES: usize = 65_536;
 /// The refusal of a read outside of its span.
 const OUTSIDE: u64 = 6;
 
-/// A call by its long and its short name, and the batch that times it on a table.
-type Measurement = (&'static str, &'static str, fn(Case) -> Box<dyn Batch>);
+/// Makes the batch that times a call on a table.
+type Timed = fn(Case) -> Box<dyn Batch>;
+
+/// A call by its long and its short name.
+type Measurement = (&'static str, &'static str, Timed);
 
 /// A call, and the batch that times it.
 type LineMeasurement = (&'static str, fn() -> Box<dyn Batch>);
@@ -42,26 +48,24 @@ type Table = (&'static str, &'static str, fn(&Contenders));
 const ON_TABLES: [Measurement; 10] = [
     ("apply create", "create", |case| {
         let lent = case.with_room(1);
-        batch::apply(beside(event_on_first(&lent, CREATE)), lent)
+        batch::apply(beside(event_on_user(&lent, CREATE)), lent)
     }),
     ("apply reuse", "reuse", |case| {
-        apply_on_first(CREATE, case.with_room(1))
+        apply_on_user(CREATE, case.with_room(1))
     }),
     ("apply borrow", "borrow", |case| {
-        apply_on_first(BORROW, case.with_room(1))
+        apply_on_user(BORROW, case.with_room(1))
     }),
     ("apply read", "read", |case| {
-        apply_on_first(READ, case.with_room(0))
+        apply_on_user(READ, case.with_room(0))
     }),
-    ("apply write", "write", |case| {
-        apply_on_first(WRITE, case.with_room(0))
-    }),
+    ("apply write", "write", write),
     ("apply drop", "drop", |case| {
-        apply_on_first(DROP, case.with_room(0))
+        apply_on_user(DROP, case.with_room(0))
     }),
     ("apply refused", "refused", |case| {
         let lent = case.with_room(0);
-        batch::apply_refused(OUTSIDE, beside(event_on_first(&lent, READ)), lent)
+        batch::apply_refused(OUTSIDE, beside(event_on_user(&lent, READ)), lent)
     }),
     ("write_listing", "w_list", |case| {
         batch::write_listing(case.with_room(0))
@@ -76,8 +80,12 @@ const ON_TABLES: [Measurement; 10] = [
     }),
 ];
 
-fn apply_on_first(kind: u32, lent: shape::Lent) -> Box<dyn Batch> {
-    batch::apply(event_on_first(&lent, kind), lent)
+fn apply_on_user(kind: u32, lent: shape::Lent) -> Box<dyn Batch> {
+    batch::apply(event_on_user(&lent, kind), lent)
+}
+
+fn write(case: Case) -> Box<dyn Batch> {
+    apply_on_user(WRITE, case.with_room(0))
 }
 
 /// The calls whose time does not depend on a table.
@@ -87,13 +95,14 @@ const ON_LINES: [LineMeasurement; 2] = [
 ];
 
 /// The shapes besides the two trees, all rows live.
-const SHAPES: [(&str, Shape); 6] = [
+const SHAPES: [(&str, Shape); 7] = [
     ("random trees", random_trees),
     ("roots", roots),
     ("star", star),
     ("chains", chains),
     ("spread star", spread_star),
     ("shared slots", shared_slots),
+    ("cells", cells),
 ];
 
 /// So many rows of the two trees are live of all that can be lent.
@@ -105,6 +114,9 @@ const MOST_ROWS: usize = 1_024;
 const MANY_EVENTS: usize = 1_000;
 const MANY_SIZES: [usize; 4] = [16, 64, 256, 1_000];
 
+/// On how many rows the events are given again with cells.
+const MANY_WITH_CELLS: usize = 1_000;
+
 const NOTES: &str = "\
 Times are medians of the processor time of one call, both implementations taking turns; 'growth' is
 the time over the time at a quarter of the rows. All rows are live: two trees of borrows, their rows
@@ -114,18 +126,22 @@ whole span and ends its rows, half of all. The read, write and drop go through o
 its whole span and so meet half of the rows; 'apply refused' is a read through it outside of its
 span. A listing is written into and read from the same buffers each time. A run takes up to 65,536
 bytes of lines, all allowed and in the same proportions at every size, that keep the table nearly
-full; its creates are beside the trees and end nothing.";
+full; its creates are beside the trees and end nothing. All these rows are references. 'write in
+cells' goes through the deepest row inside a cell and touches all rows: half of them are outside the
+cell and kept, and of those inside all but the ones above the deepest end.";
 
 const SHAPE_NOTES: &str = "\
-The same calls by shape, through the first row over its whole span: the library's time over the
-baseline's. Random trees have a root in eight rows; a star is one root and its borrows; chains are
-64 deep; a spread star's names lie over a million; shared slots are two trees whose names are equal
-modulo 2,048, at 1,024 rows of three such kinds; '16 of 1,024' has 16 live rows of the two trees of
-1,024 lent.";
+The same calls by shape, through the first row over its whole span, where there are cells through the
+deepest row inside one: the library's time over the baseline's. Random trees have a root in eight
+rows; a star is one root and its borrows; chains are 64 deep; a spread star's names lie over a
+million; shared slots are two trees whose names are equal modulo 2,048, at 1,024 rows of three such
+kinds; cells are a root, a cell below it, and the other rows in turn inside the cell and outside, all
+of one span; '16 of 1,024' has 16 live rows of the two trees of 1,024 lent.";
 
 const MANY_NOTES: &str = "\
 Time for one event of 1,000, by a call for each and by one call for all, on the two trees nearly
-full; 'gain' is the one over the other. The events are a run's.";
+full; 'gain' is the one over the other. The events are a run's; with cells the rows are those of the
+shape, and each object is written through a borrow of a cell of it.";
 
 fn main() {
     let contenders: Vec<_> = interface::library()
@@ -154,12 +170,17 @@ fn growth_by_rows(contenders: &Contenders) {
         print::growth_row(name, None, &times, None);
     }
     for (name, _, batch) in ON_TABLES {
-        let mut previous: Option<Vec<f64>> = None;
-        for rows in SIZES {
-            let times = median_times(contenders, &mut *batch(Case::full(two_trees, rows)));
-            print::growth_row(name, Some(rows), &times, previous.as_deref());
-            previous = Some(times);
-        }
+        growth_rows(contenders, name, two_trees, batch);
+    }
+    growth_rows(contenders, "write in cells", cells, write);
+}
+
+fn growth_rows(contenders: &Contenders, name: &str, shape: Shape, batch: Timed) {
+    let mut previous: Option<Vec<f64>> = None;
+    for rows in SIZES {
+        let times = median_times(contenders, &mut *batch(Case::full(shape, rows)));
+        print::growth_row(name, Some(rows), &times, previous.as_deref());
+        previous = Some(times);
     }
 }
 
@@ -188,15 +209,30 @@ fn shape_row(contenders: &Contenders, name: &str, rows: &str, case: Case) {
 fn many_events(contenders: &Contenders) {
     print::many_heading(contenders);
     for rows in MANY_SIZES {
-        let lent = Case::full(two_trees, rows).with_room(ROUND_ROWS);
-        let events: Vec<_> = rounds(&lent)
-            .take(MANY_EVENTS / ROUND_EVENTS)
-            .flatten()
-            .collect();
-        let mut each = batch::apply_each(events.clone(), lent.clone());
-        let mut all = batch::apply_all(events, lent);
-        let each = median_times(contenders, &mut *each);
-        let all = median_times(contenders, &mut *all);
-        print::many_row(rows, &each, &all);
+        many_row(
+            contenders,
+            "references",
+            Case::full(two_trees, rows),
+            REFERENCE,
+        );
     }
+    many_row(
+        contenders,
+        "cells",
+        Case::full(cells, MANY_WITH_CELLS),
+        CELL,
+    );
+}
+
+fn many_row(contenders: &Contenders, name: &str, case: Case, cap_kind: u32) {
+    let lent = case.with_room(ROUND_ROWS);
+    let events: Vec<_> = rounds(&lent, cap_kind)
+        .take(MANY_EVENTS / ROUND_EVENTS)
+        .flatten()
+        .collect();
+    let mut each = batch::apply_each(events.clone(), lent.clone());
+    let mut all = batch::apply_all(events, lent);
+    let each = median_times(contenders, &mut *each);
+    let all = median_times(contenders, &mut *all);
+    print::many_row(name, case.lent, &each, &all);
 }

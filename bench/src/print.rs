@@ -46,7 +46,7 @@ pub fn shape_row(name: &str, rows: &str, all_times: &[Vec<f64>]) {
 }
 
 pub fn many_heading(contenders: &Contenders) {
-    print!("{:>6}", "rows");
+    print!("{:<14}{:>6}", "events", "rows");
     for contender in contenders {
         let each = format!("{}, each", contender.name());
         print!("{each:>18}{:>9}{:>6}", "all", "gain");
@@ -58,8 +58,8 @@ pub fn many_heading(contenders: &Contenders) {
 }
 
 /// The times of an event by a call for each and by one call for all.
-pub fn many_row(rows: usize, each: &[f64], all: &[f64]) {
-    print!("{rows:>6}");
+pub fn many_row(name: &str, rows: usize, each: &[f64], all: &[f64]) {
+    print!("{name:<14}{rows:>6}");
     for (each, all) in each.iter().zip(all) {
         let gain = each / all;
         print!("{:>18}{:>9}{gain:>6.1}", in_units(*each), in_units(*all));

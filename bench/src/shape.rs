@@ -1,6 +1,6 @@
 //! Tables to time the calls on: who is borrowed from whom, and which names they have.
 
-use interface::{Cap, Tally};
+use interface::{CELL, Cap, REFERENCE, Tally};
 
 use crate::random::Random;
 
@@ -154,6 +154,24 @@ pub fn shared_slots(live: usize) -> Vec<Cap> {
     table
 }
 
+/// A root, a cell borrowed from it, and behind them rows in turn inside the cell and outside of it. All
+/// have the root's span, so that an access touches every row.
+pub fn cells(live: usize) -> Vec<Cap> {
+    let mut random = Random::new();
+    let first = root(every_second(0), 0, TREE_LENGTH);
+    let cell = Cap {
+        kind: CELL,
+        ..below(&first, every_second(1))
+    };
+    let mut table = vec![first, cell];
+    for at in 2..live as u32 {
+        // The root and what is outside have the even places.
+        let parent = at % 2 + 2 * random.below(at / 2);
+        table.push(below(&table[parent as usize], every_second(at)));
+    }
+    table
+}
+
 /// The name of a row where every second name has ended.
 fn every_second(at: u32) -> u32 {
     2 * at + 1
@@ -167,6 +185,7 @@ fn root(name: u32, start: u32, length: u32) -> Cap {
         length,
         right: READ_WRITE,
         depth: 1,
+        kind: REFERENCE,
     }
 }
 
@@ -174,11 +193,19 @@ fn borrowed(random: &mut Random, name: u32, parent: &Cap) -> Cap {
     let quarter = parent.length / 4 + 1;
     let offset = random.below(quarter);
     Cap {
-        name,
-        parent: parent.name,
         start: parent.start + offset,
         length: parent.length - offset - random.below(quarter),
+        ..below(parent, name)
+    }
+}
+
+/// A borrow of the whole span.
+fn below(parent: &Cap, name: u32) -> Cap {
+    Cap {
+        name,
+        parent: parent.name,
         depth: parent.depth + 1,
+        kind: REFERENCE,
         ..*parent
     }
 }

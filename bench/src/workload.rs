@@ -1,6 +1,6 @@
 //! Events and texts to time the calls on.
 
-use interface::{Cap, Words};
+use interface::{CELL, Cap, REFERENCE, Words};
 
 use crate::random::Random;
 use crate::shape::{BESIDE, Lent, READ_WRITE};
@@ -11,15 +11,27 @@ pub const READ: u32 = 3;
 pub const WRITE: u32 = 4;
 pub const DROP: u32 = 5;
 
-/// An event over the whole span of the first row, through it where the kind has a name: a read lowers
-/// what was borrowed from it, a write, drop or create ends it, a borrow takes nothing.
-pub fn event_on_first(lent: &Lent, kind: u32) -> Words {
-    let first = lent.table[0];
+/// The row that events go through: the first, or where there is a cell the deepest row inside it.
+fn user(lent: &Lent) -> Cap {
+    let mut inside: Vec<Cap> = Vec::new();
+    for row in &lent.table {
+        if row.kind == CELL || inside.iter().any(|above| above.name == row.parent) {
+            inside.push(*row);
+        }
+    }
+    let deepest = inside.into_iter().max_by_key(|row| row.depth);
+    deepest.unwrap_or(lent.table[0])
+}
+
+/// An event over the whole span of the user, through it where the kind has a name: a read lowers what was
+/// borrowed from it, a write, drop or create ends it, a borrow takes nothing.
+pub fn event_on_user(lent: &Lent, kind: u32) -> Words {
+    let user = user(lent);
     Words {
         kind,
-        name: first.name,
-        start: first.start,
-        length: first.length,
+        name: user.name,
+        start: user.start,
+        length: user.length,
         right: READ_WRITE,
         ..Words::default()
     }
@@ -40,10 +52,10 @@ pub const ROUND_ROWS: usize = 3;
 /// How many events a round has.
 pub const ROUND_EVENTS: usize = 8;
 
-/// Events that are all allowed: an object beside the shape is made, borrowed, used and dropped, and
-/// some live row is read through. A round's create has the memory of the last round's object, which
-/// has been dropped, and so ends nothing.
-fn round(object: u32, reader: &Cap) -> [Words; ROUND_EVENTS] {
+/// Events that are all allowed: an object beside the shape is made, borrowed as the given kind, used and
+/// dropped, and some live row is read through. A round's create has the memory of the last round's
+/// object, which has been dropped, and so ends nothing.
+fn round(object: u32, reader: &Cap, cap_kind: u32) -> [Words; ROUND_EVENTS] {
     let event = |kind, name, length| Words {
         kind,
         name,
@@ -55,7 +67,10 @@ fn round(object: u32, reader: &Cap) -> [Words; ROUND_EVENTS] {
     let (first, second) = (object + 1, object + 2);
     [
         event(CREATE, 0, 64),
-        event(BORROW, object, 32),
+        Words {
+            cap_kind,
+            ..event(BORROW, object, 32)
+        },
         event(BORROW, first, 16),
         event(WRITE, second, 8),
         event(READ, first, 8),
@@ -68,8 +83,8 @@ fn round(object: u32, reader: &Cap) -> [Words; ROUND_EVENTS] {
     ]
 }
 
-/// Rounds one after the other, on a table with room for one.
-pub fn rounds(lent: &Lent) -> impl Iterator<Item = [Words; ROUND_EVENTS]> {
+/// Rounds one after the other, on a table with room for one, with objects borrowed as the given kind.
+pub fn rounds(lent: &Lent, cap_kind: u32) -> impl Iterator<Item = [Words; ROUND_EVENTS]> {
     let mut random = Random::new();
     let live: Vec<Cap> = lent
         .table
@@ -78,13 +93,13 @@ pub fn rounds(lent: &Lent) -> impl Iterator<Item = [Words; ROUND_EVENTS]> {
         .filter(|row| row.name != 0)
         .collect();
     let objects = (lent.tally.issued + 1..).step_by(ROUND_ROWS);
-    objects.map(move |object| round(object, &random.pick(&live)))
+    objects.map(move |object| round(object, &random.pick(&live), cap_kind))
 }
 
 /// The lines of whole rounds, up to so many bytes.
 pub fn steady_text(lent: &Lent, size: usize) -> Vec<u8> {
     let mut text = Vec::with_capacity(size);
-    for round in rounds(lent) {
+    for round in rounds(lent, REFERENCE) {
         let lines = round.map(line).concat();
         if text.len() + lines.len() > size {
             break;

@@ -19,6 +19,6 @@ pub use group::{MAX_GROUP, drop_all, read_drop, write_drop};
 pub use lines::{Spelling, read_event, write_event};
 pub use listing::{read_listing, write_listing};
 pub use many::apply_all;
-pub use order::{Cap, MAX_DEPTH, MAX_NAME, MAX_ROWS};
+pub use order::{CELL, Cap, MAX_DEPTH, MAX_NAME, MAX_ROWS, RAW, REFERENCE};
 pub use run::{check, run};
 pub use step::{Tally, apply};

@@ -10,7 +10,7 @@ pub enum Spelling {
     Named,
 }
 
-/// Above the longest line, a borrow of four numbers of ten digits.
+/// Above the longest line, a borrow of four numbers of ten digits that makes a cell.
 const LINE_CAPACITY: usize = 64;
 
 /// Writes the event's line: its length, or the refusal.
@@ -34,6 +34,9 @@ pub fn write_event(event: Event, spelling: Spelling, out: &mut [u8]) -> Result<u
     }
     if kind.makes() {
         writer.next_right(u32::from(event.right));
+    }
+    if kind == Kind::Borrow {
+        writer.next_kind(u32::from(event.cap_kind));
     }
     writer.put(b")\n");
     let length = writer.length();
@@ -84,6 +87,7 @@ pub(crate) fn next_event(reader: &mut Reader, spelling: Spelling) -> Option<Even
             start: reader.next_number()?,
             length: reader.next_number()?,
             right: reader.next_right()?,
+            cap_kind: reader.next_kind()? as u8,
         },
         b'r' => next_access(reader, Kind::Read)?,
         b'w' => next_access(reader, Kind::Write)?,

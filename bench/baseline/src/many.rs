@@ -102,6 +102,7 @@ mod tests {
                 start,
                 length,
                 right: self.pick(&[2, 2, 2, 1, 0]),
+                cap_kind: self.pick(&[0, 0, 0, 0, 0, 0, 1, 1, 2, 2, 3, 255]),
             }
         }
     }

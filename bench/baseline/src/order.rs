@@ -20,7 +20,14 @@ pub struct Cap {
     pub length: u32,
     pub right: u32,
     pub depth: u32,
+    /// `REFERENCE`, `RAW` or `CELL`.
+    pub kind: u32,
 }
+
+/// The kinds of capabilities.
+pub const REFERENCE: u32 = 0;
+pub const RAW: u32 = 1;
+pub const CELL: u32 = 2;
 
 pub(crate) const EMPTY: Cap = Cap {
     name: 0,
@@ -29,6 +36,7 @@ pub(crate) const EMPTY: Cap = Cap {
     length: 0,
     right: 0,
     depth: 0,
+    kind: 0,
 };
 
 #[derive(Clone, Copy)]
@@ -82,6 +90,8 @@ struct Outer {
     span: Span,
     right: u32,
     depth: u32,
+    /// The highest kind that a row may have in it: a root is a reference.
+    highest_kind: u32,
 }
 
 impl Outer {
@@ -89,6 +99,7 @@ impl Outer {
         span: Span::WHOLE,
         right: 2,
         depth: 0,
+        highest_kind: REFERENCE,
     };
 
     #[inline]
@@ -97,6 +108,7 @@ impl Outer {
             span: parent.span(),
             right: parent.right,
             depth: parent.depth,
+            highest_kind: CELL,
         }
     }
 
@@ -108,6 +120,7 @@ impl Outer {
             & (row.right <= self.right)
             & (row.depth == self.depth + 1)
             & (row.depth <= MAX_DEPTH)
+            & (row.kind <= self.highest_kind)
     }
 }
 
@@ -201,7 +214,8 @@ impl<const SLOTS: usize> Places<SLOTS> {
 
 /// Without an early end, which would keep the compiler from taking several rows at once.
 fn are_empty(rows: &[Cap]) -> bool {
-    let bits = |row: &Cap| row.name | row.parent | row.start | row.length | row.right | row.depth;
+    let place = |row: &Cap| row.name | row.parent | row.start | row.length;
+    let bits = |row: &Cap| place(row) | row.right | row.depth | row.kind;
     rows.iter().fold(0, |any, row| any | bits(row)) == 0
 }
 

@@ -1,7 +1,9 @@
 //! Events on a lent table and tally, one or many.
 
 use crate::event::{Event, Kind, Refusal};
-use crate::order::{Cap, EMPTY, Index, MAX_DEPTH, MAX_NAME, MAX_ROWS, SLOTS, Span, find};
+use crate::order::{
+    CELL, Cap, EMPTY, Index, MAX_DEPTH, MAX_NAME, MAX_ROWS, RAW, REFERENCE, SLOTS, Span, find,
+};
 
 #[repr(C)]
 #[derive(Clone, Copy, Debug, Default, PartialEq, Eq)]
@@ -93,7 +95,7 @@ pub(crate) struct Ordered<'a, const ROWS: usize> {
     pub(crate) tally: &'a mut Tally,
 }
 
-/// A mark for each live row.
+/// A mark for each live row, of the bits below.
 type Marks<const ROWS: usize> = [u8; ROWS];
 
 /// The row is taken from, and so are all below it.
@@ -101,6 +103,42 @@ const STRUCK: u8 = 1;
 
 /// The row is the user of an access or above it: it is not taken from.
 const SPARED: u8 = 2;
+
+/// The row is inside the cell that a write comes from, and so are all below it.
+const INSIDE: u8 = 4;
+
+/// The bits that a row has from its parent.
+const INHERITED: u8 = STRUCK | INSIDE;
+
+/// What a read, a write or a create strikes.
+#[derive(Clone, Copy)]
+struct Access {
+    span: Span,
+    is_read: bool,
+    /// The bits without which a row is out of reach.
+    reach: u8,
+}
+
+impl Access {
+    #[inline(always)]
+    fn touches(&self, row: &Cap) -> bool {
+        row.span().touches(self.span)
+    }
+
+    /// Whether it strikes by itself a row with this mark, whose parent has that one. A raw row is kept by
+    /// every read, and by a write from below its parent, which is spared then.
+    #[inline(always)]
+    fn strikes(&self, row: &Cap, mark: u8, parent: u8) -> bool {
+        let is_in_reach = mark & (SPARED | self.reach) == self.reach;
+        let keeps_raw = self.is_read | (parent & SPARED != 0);
+        self.touches(row) & is_in_reach & !((row.kind == RAW) & keeps_raw)
+    }
+}
+
+/// Strikes no row by itself.
+fn none(_: &Cap, _: u8, _: u8) -> bool {
+    false
+}
 
 impl<const ROWS: usize> Ordered<'_, ROWS> {
     #[inline]
@@ -125,7 +163,7 @@ impl<const ROWS: usize> Ordered<'_, ROWS> {
             }
         }
         self.tally.count_allowed(Kind::Drop);
-        self.remove(&mut marks, first, |_| false);
+        self.remove(&mut marks, first, none);
         Ok(())
     }
 
@@ -200,7 +238,7 @@ impl<const ROWS: usize> Ordered<'_, ROWS> {
             (Kind::Drop, Some(at)) => {
                 let mut marks = [0; ROWS];
                 marks[at] = STRUCK;
-                self.remove(&mut marks, at, |_| false);
+                self.remove(&mut marks, at, none);
             }
             _ => self.access(kind, user, event.span()),
         }
@@ -213,23 +251,48 @@ impl<const ROWS: usize> Ordered<'_, ROWS> {
     /// What a read, a write or a create takes; a create is a write that no row is the user of.
     fn access(&mut self, kind: Kind, user: Option<usize>, span: Span) {
         let mut marks = [0; ROWS];
-        let mut next = user;
-        while let Some(at) = next {
-            marks[at] = SPARED;
-            next = self.index.parent(at);
-        }
-        let touched = |row: &Cap| row.span().touches(span);
-        let first = self.first_struck(&marks, touched);
-        match kind {
-            Kind::Read => self.lower(&mut marks, first, touched),
-            _ => self.remove(&mut marks, first, touched),
+        let mut access = Access {
+            span,
+            is_read: kind == Kind::Read,
+            reach: 0,
+        };
+        let cell = self.spare(&mut marks, user);
+        let first = match cell {
+            Some(cell) if !access.is_read => {
+                access.reach = INSIDE;
+                self.first_inside(&mut marks, cell, access)
+            }
+            _ => self.first_struck(&marks, access),
+        };
+        let strikes = |row: &Cap, mark, parent| access.strikes(row, mark, parent);
+        match access.is_read {
+            true => self.lower(&mut marks, first, strikes),
+            false => self.remove(&mut marks, first, strikes),
         }
     }
 
+    /// Marks the user of an access and all above it: the cell among them that is nearest to the user.
+    #[inline]
+    fn spare(&self, marks: &mut Marks<ROWS>, user: Option<usize>) -> Option<usize> {
+        let mut cell = None;
+        let mut next = user;
+        while let Some(at) = next {
+            marks[at] = SPARED;
+            if cell.is_none() && self.table[at].kind == CELL {
+                cell = next;
+            }
+            next = self.index.parent(at);
+        }
+        cell
+    }
+
     fn append(&mut self, event: Event, parent: Option<usize>) -> u32 {
-        let (parent_name, parent_depth) = match parent {
-            Some(at) => (self.table[at].name, self.table[at].depth),
-            None => (0, 0),
+        let (parent_name, parent_depth, kind) = match parent {
+            Some(at) => {
+                let row = &self.table[at];
+                (row.name, row.depth, event.cap_kind.into())
+            }
+            None => (0, 0, REFERENCE),
         };
         self.tally.issued += 1;
         let row = self.index.live;
@@ -240,18 +303,34 @@ impl<const ROWS: usize> Ordered<'_, ROWS> {
             length: event.length,
             right: u32::from(event.right),
             depth: parent_depth + 1,
+            kind,
         };
         self.index.parents[row] = parent.unwrap_or(row) as u16;
         self.index.live = row + 1;
         self.tally.issued
     }
 
+    /// The first row that a write from inside the cell strikes by itself. What is inside stands behind
+    /// the cell, and the rows up to the one that is found are marked.
+    #[inline]
+    fn first_inside(&self, marks: &mut Marks<ROWS>, cell: usize, access: Access) -> usize {
+        marks[cell] |= INSIDE;
+        let strikes = |row: &Cap, mark, parent| access.strikes(row, mark, parent);
+        let is_struck = |at: &usize| self.mark(marks, *at, strikes) & STRUCK != 0;
+        let live = self.index.live;
+        (cell + 1..live).find(is_struck).unwrap_or(live)
+    }
+
     /// The first row that the access strikes by itself. No row before it can inherit a mark. Most rows
     /// are not touched, so four are looked at for each branch.
     #[inline]
-    fn first_struck(&self, marks: &Marks<ROWS>, touched: impl Fn(&Cap) -> bool) -> usize {
+    fn first_struck(&self, marks: &Marks<ROWS>, access: Access) -> usize {
         let rows = &self.table[..self.index.live];
-        let struck = |at: &usize| touched(&rows[*at]) && marks[*at % ROWS] == 0;
+        let touched = |row: &Cap| access.touches(row);
+        let struck = |at: &usize| {
+            let parent = usize::from(self.index.parents[*at % ROWS]);
+            access.strikes(&rows[*at], marks[*at % ROWS], marks[parent % ROWS])
+        };
         let mut at = 0;
         for [one, two, three, four] in rows.as_chunks().0 {
             if touched(one) | touched(two) | touched(three) | touched(four)
@@ -265,11 +344,16 @@ impl<const ROWS: usize> Ordered<'_, ROWS> {
     }
 
     /// Marks what is struck from the row `first` on, and lowers it.
-    fn lower(&mut self, marks: &mut Marks<ROWS>, first: usize, touched: impl Fn(&Cap) -> bool) {
+    fn lower(
+        &mut self,
+        marks: &mut Marks<ROWS>,
+        first: usize,
+        strikes: impl Fn(&Cap, u8, u8) -> bool,
+    ) {
         for at in first..self.index.live {
-            let mark = self.mark(marks, at, &touched);
+            let mark = self.mark(marks, at, &strikes);
             let row = &mut self.table[at];
-            row.right = if mark == STRUCK { 1 } else { row.right };
+            row.right = if mark & STRUCK != 0 { 1 } else { row.right };
         }
     }
 
@@ -277,7 +361,12 @@ impl<const ROWS: usize> Ordered<'_, ROWS> {
     /// pass, and clears the rows that come free. Not inlined, so that events that end nothing do not
     /// make room for its places.
     #[inline(never)]
-    fn remove(&mut self, marks: &mut Marks<ROWS>, first: usize, touched: impl Fn(&Cap) -> bool) {
+    fn remove(
+        &mut self,
+        marks: &mut Marks<ROWS>,
+        first: usize,
+        strikes: impl Fn(&Cap, u8, u8) -> bool,
+    ) {
         let live = self.index.live;
         if first == live {
             return;
@@ -288,24 +377,30 @@ impl<const ROWS: usize> Ordered<'_, ROWS> {
         }
         let mut kept = first;
         for at in first..live {
-            let mark = self.mark(marks, at, &touched);
+            let mark = self.mark(marks, at, &strikes);
             moved[at] = kept as u16;
             // A row that ends is written too, and the next one is written over it.
             self.table[kept] = self.table[at];
             self.index.parents[kept] = moved[usize::from(self.index.parents[at]) % ROWS];
-            kept += usize::from(mark != STRUCK);
+            kept += usize::from(mark & STRUCK == 0);
         }
         self.table[kept..live].fill(EMPTY);
         self.index.live = kept;
     }
 
-    /// Marks a row whose parent has been marked: a mark is inherited, had before, or the row's own
-    /// where it is touched. A root's parent is its own row, from which it inherits what it had.
+    /// Marks a row whose parent has been marked: bits are inherited or had before, and it is struck by
+    /// itself as `strikes` says. A root's parent is its own row, from which it inherits what it had.
     #[inline(always)]
-    fn mark(&self, marks: &mut Marks<ROWS>, at: usize, touched: impl Fn(&Cap) -> bool) -> u8 {
-        let inherited = marks[usize::from(self.index.parents[at]) % ROWS] & STRUCK;
-        let own = touched(&self.table[at]) & (marks[at] != SPARED);
-        let mark = (marks[at] & STRUCK) | inherited | u8::from(own);
+    fn mark(
+        &self,
+        marks: &mut Marks<ROWS>,
+        at: usize,
+        strikes: impl Fn(&Cap, u8, u8) -> bool,
+    ) -> u8 {
+        let parent = marks[usize::from(self.index.parents[at]) % ROWS];
+        let before = marks[at] | (parent & INHERITED);
+        let own = strikes(&self.table[at], before, parent);
+        let mark = before | if own { STRUCK } else { 0 };
         marks[at] = mark;
         mark
     }

@@ -1,5 +1,7 @@
 //! Text in pieces: a cursor that reads and a cursor that writes.
 
+use crate::order::{CELL, RAW, REFERENCE};
+
 #[derive(Clone, Copy)]
 pub(crate) struct Reader<'a> {
     text: &'a [u8],
@@ -84,6 +86,29 @@ impl<'a> Reader<'a> {
             _ => None,
         }
     }
+
+    /// A space and a kind, or nothing for a reference. The letter after the space tells the kinds apart,
+    /// and from the bracket of a form.
+    #[inline]
+    pub(crate) fn next_kind(&mut self) -> Option<u32> {
+        let kind = match (self.peek(0), self.peek(1)) {
+            (Some(b' '), Some(b'r')) => RAW,
+            (Some(b' '), Some(b'c')) => CELL,
+            _ => return Some(REFERENCE),
+        };
+        self.skip(kind_word(kind))?;
+        Some(kind)
+    }
+}
+
+/// The word of a kind, with the space before it. A reference has none.
+#[inline]
+pub(crate) fn kind_word(kind: u32) -> &'static [u8] {
+    match kind {
+        RAW => b" raw",
+        CELL => b" cell",
+        _ => b"",
+    }
 }
 
 /// The digits of the numbers below 100: a number is written two digits at a time.
@@ -150,6 +175,12 @@ impl<'a> Writer<'a> {
     #[inline]
     pub(crate) fn next_right(&mut self, right: u32) {
         self.put(if right == 2 { b" rw" } else { b" ro" });
+    }
+
+    /// A space and a kind, or nothing for a reference.
+    #[inline]
+    pub(crate) fn next_kind(&mut self, kind: u32) {
+        self.put(kind_word(kind));
     }
 }
 

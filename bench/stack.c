@@ -1,0 +1,140 @@
+/*
+ * How much stack each call of the library writes: the stack below a call is painted before it, and looked
+ * through afterwards. On 1,024 rows, a root and chains below it down to depth 64. What a call leaves
+ * unwritten of its frames does not show.
+ */
+#include <stdio.h>
+#include <stdlib.h>
+#include <string.h>
+
+#include <kelzoud.h>
+
+enum { PAINTED = 1 << 18, PAINT = 0xa5 };
+
+static kz_part part;
+static kz_part fresh;
+static uint8_t text[KZ_MAX_CHECK];
+static size_t text_len;
+static const uint32_t names[] = {2, 3};
+
+static void events(void) {
+    const kz_lent lent = kz_lend(&part);
+    static const kz_event event = {KZ_WRITE, 1, 0, 64, 0, 0, 0, 0};
+    kz_apply(&lent, &event);
+}
+
+static void drops(void) {
+    const kz_lent lent = kz_lend(&part);
+    kz_drop_all(&lent, names, 2);
+}
+
+static void batch(void) {
+    const kz_lent lent = kz_lend(&part);
+    static const kz_event all[] = {
+        {KZ_READ, 5, 0, 64, 0, 0, 0, 0},
+        {KZ_DROP_ALL, 0, 0, 2, 0, 0, 0, 0},
+        {KZ_WRITE, 1, 0, 64, 0, 0, 0, 0},
+    };
+    static kz_answer answers[3];
+    kz_apply_all(&lent, all, 3, names, 2, answers);
+}
+
+static void run(void) {
+    const kz_lent lent = kz_lend(&part);
+    static const char lines[] = "(read 5 0 64)\n(drop 2 3)\n(write 1 0 64)\n";
+    kz_run(&lent, (const uint8_t *)lines, sizeof lines - 1);
+}
+
+static void write_event(void) {
+    static const kz_event event = {KZ_BORROW, 1, 0, 64, KZ_RW, 0, 0, KZ_CELL};
+    static uint8_t out[KZ_MAX_LINE];
+    kz_write_event(&event, NULL, 0, out, sizeof out);
+}
+
+static void read_event(void) {
+    static const char line[] = "(borrow 1 0 64 rw cell)\n";
+    static const char drop[] = "(drop 2 3)\n";
+    static kz_event event;
+    static uint32_t found[KZ_MAX_GROUP];
+    kz_read_event(0, (const uint8_t *)line, sizeof line - 1, &event, found);
+    kz_read_event(0, (const uint8_t *)drop, sizeof drop - 1, &event, found);
+}
+
+static void write_listing(void) {
+    const kz_lent lent = kz_lend(&part);
+    static uint8_t out[KZ_MAX_LISTING];
+    kz_write_listing(&lent, out, sizeof out);
+}
+
+static void read_listing(void) {
+    const kz_lent lent = kz_lend(&part);
+    kz_read_listing(&lent, text, text_len);
+}
+
+/* A chain down to the greatest depth, and a line of each sort. */
+static char trace[KZ_MAX_INPUT];
+static size_t trace_len;
+
+static void deep_trace(void) {
+    trace_len = (size_t)sprintf(trace, "(create 0 64 rw)\n");
+    for (int depth = 1; depth < KZ_MAX_DEPTH; depth++)
+        trace_len += (size_t)sprintf(trace + trace_len, "(borrow %d 0 64 rw cell)\n", depth);
+    trace_len += (size_t)sprintf(trace + trace_len, "(write 64 0 8)\n(read 64 0 8)\n(drop 63 64)\n");
+}
+
+static void check(void) {
+    static uint8_t out[KZ_MAX_CHECK];
+    kz_check((const uint8_t *)trace, trace_len, out, sizeof out);
+}
+
+/* A frame that is painted and left, so that the next call stands in it. */
+static __attribute__((noinline)) void paint(void) {
+    uint8_t below[PAINTED];
+    memset(below, PAINT, sizeof below);
+    __asm__ volatile("" : : "r"(below) : "memory");
+}
+
+static __attribute__((noinline)) size_t written(void) {
+    uint8_t below[PAINTED];
+    size_t i = 0;
+    __asm__ volatile("" : "=m"(below));
+    while (i < PAINTED && below[i] == PAINT) i++;
+    return PAINTED - i;
+}
+
+static void nothing(void) {}
+
+static __attribute__((noinline)) size_t measure(void (*call)(void)) {
+    part = fresh;
+    paint();
+    call();
+    return written();
+}
+
+/* All rows live, as deep as a row can be; they have one span. */
+static void deep_rows(void) {
+    const kz_lent lent = kz_lend(&fresh);
+    kz_create(&lent, 0, 64, KZ_RW);
+    for (uint32_t at = 1; at < KZ_MAX_ROWS; at++)
+        kz_borrow_as(&lent, at % (KZ_MAX_DEPTH - 1) == 1 ? 1 : at, 0, 64, KZ_RW, at % 3);
+}
+
+int main(void) {
+    const struct {
+        const char *name;
+        void (*call)(void);
+    } calls[] = {
+        {"kz_apply", events},           {"kz_drop_all", drops},     {"kz_apply_all", batch},
+        {"kz_run", run},                {"kz_write_event", write_event},
+        {"kz_read_event", read_event},  {"kz_write_listing", write_listing},
+        {"kz_read_listing", read_listing}, {"kz_check", check},
+    };
+    deep_rows();
+    deep_trace();
+    const kz_lent lent = kz_lend(&fresh);
+    text_len = kz_write_listing(&lent, text, sizeof text).value;
+    const size_t none = measure(nothing);
+    for (size_t i = 0; i < sizeof calls / sizeof calls[0]; i++)
+        printf("%-18s %6zu\n", calls[i].name, measure(calls[i].call) - none);
+    return 0;
+}
