@@ -24,8 +24,7 @@ use Rattle.model.specs.Step.{Verdict, verdict}
 -- ---- notes
 
 -- "An allowed create or borrow .. is noted as a new name, with its parent (0 for a create), span and right as given"; card 6: "The history
--- notes a name's kind with it". " An allowed read
--- or write notes its name and span, an allowed drop its name." Notes stand newest first.
+-- notes a name's kind with it". "An allowed read or write notes its name and span, an allowed drop its name." Notes stand newest first.
 pub data Note : Type 0 where
   New : Derivation → ℕ → Note
   Accessed : Access → ℕ → Span → Note
