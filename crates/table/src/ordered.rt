@@ -58,13 +58,15 @@ fn rest_is_empty(table: &[Row], k: usize) -> bool
     true
 }
 
-pub(crate) fn is_right(r: u32) -> bool
+// Whether this is a right.
+pub fn is_right(r: u32) -> bool
     ensures { λ b. ⌜ b ≡ isRight r ⌝ }
 {
     if r == 1 { true } else { r == 2 }
 }
 
-pub(crate) fn is_kind(k: u32) -> bool
+// Whether this is a kind of capability.
+pub fn is_kind(k: u32) -> bool
     ensures { λ b. ⌜ b ≡ isKind k ⌝ }
 {
     k <= 2

@@ -11,5 +11,5 @@ pub use Rattle.text.proofs.Laws.OneSpelling.{spelling-reads-back}
 pub use Rattle.text.proofs.Laws.Put.{put-length, put-next, sets-first}
 pub use Rattle.text.proofs.Laws.Range.{kind-short, right-length}
 pub use Rattle.text.proofs.Laws.Read.{same-is, same-refl, same-true}
-pub use Rattle.text.proofs.Laws.Words.{kinds, next, number-is, plain-decimal, rights}
+pub use Rattle.text.proofs.Laws.Words.{kind-back, kinds, next, number-is, plain-decimal, right-back, right-stops, rights}
 pub use Rattle.text.proofs.Laws.Write.{Wrote, writes-none, writes-put, wrote, wrote-none}

@@ -7,6 +7,8 @@ use model::Name;
 use model::NewName;
 use model::Refusal;
 use model::Span;
+use table::ordered::is_kind;
+use table::ordered::is_right;
 ghost use mathlib.Core.Path.{_≡_};
 ghost use mathlib.Core.Bool.{true, _&&_};
 ghost use mathlib.Core.List.{[], _++_};
@@ -39,12 +41,10 @@ pub(crate) fn write_line(word: &[u8], numbers: &[u32], ending: &[u8], out: &mut 
 fn are_right_and_kind(right: u8, kind: u8) -> bool
     ensures { λ r. ⌜ r ≡ (isKind kind && isRight right) ⌝ }
 {
-    if kind > 2 {
-        false
-    } else if right == 1 {
-        true
+    if is_kind(kind as u32) {
+        is_right(right as u32)
     } else {
-        right == 2
+        false
     }
 }
 

@@ -19,7 +19,7 @@ use Rattle.text.specs.Read.{rightOf, kindOf}
 use Rattle.listing.specs.Listing.{pieces, form, children, roots, issuedLine, listed, formLength, total, formsLength}
 use Rattle.listing.proofs.Laws.Sorted.{preorder}
 use Rattle.listing.specs.Forms.{Reading, childrenText, rowOf, childFollows, readForm, readRun, readLine, readLines, guessIssued}
-use Rattle.text.proofs.Offered.{digits, digitAt, decimal-width, Stops, digit-class, digit-small, plain-decimal, next, number-is, rights, kinds}
+use Rattle.text.proofs.Offered.{digits, digitAt, decimal-width, Stops, digit-class, digit-small, plain-decimal, next, number-is, rights, kinds, right-stops, right-back, kind-back}
 use Rattle.listing.proofs.Laws.Listing.{length-form, length-children}
 use Rattle.listing.proofs.Laws.Reading.{run-on, run-off}
 use Rattle.listing.proofs.Laws.Roots.{goes-on, line-more}
@@ -65,8 +65,7 @@ module _ (c : Cap) (x : List ℕ) where
 
   module _ (f : Fields c) (none : NoKind x) where
     stop : Stops behind
-    unfolding numberFrom classOf
-    stop v = ⊎-elim (λ one. rw one) (λ two. rw two) (rights (c .right) (f .right))
+    stop = right-stops (c .right) (kindWord (c .kind) ++ x)
 
     start-is : afterSpace text ≡ decimal (c .start .0) ++ (spaced (c .length ∷ []) ++ behind)
     start-is = next behind stop (decimal (c .name .0)) (plain-decimal (c .name .0)) (c .start .0) (c .length ∷ [])
@@ -78,18 +77,10 @@ module _ (c : Cap) (x : List ℕ) where
     unfolding spaced
     right-is = ap afterSpace length-is ∙ plain-decimal (c .length) behind
 
-    right-back : rightOf (afterSpace behind) ≡ c .right
-    unfolding through classOf
-    right-back = ⊎-elim (λ one. rw one) (λ two. rw two) (rights (c .right) (f .right))
+    kind-found : kindOf (afterSpace behind) ≡ c .kind
+    kind-found = kind-back x none (c .right) (c .kind) (f .right) (f .kind)
 
-    -- the kind behind the two letters of a right, and what stands behind the kind
-    kind-found : (a b : ℕ) → kindOf (a ∷ b ∷ (kindWord (c .kind) ++ x)) ≡ c .kind
-    kind-found a b = ⊎-elim (λ zero. rw zero none) (⊎-elim (λ one. rw one) (λ two. rw two)) (kinds (c .kind) (f .kind))
-
-    kind-back : kindOf (afterSpace behind) ≡ c .kind
-    unfolding through classOf
-    kind-back = ⊎-elim (λ one. rw one (kind-found 114 111)) (λ two. rw two (kind-found 114 119)) (rights (c .right) (f .right))
-
+    -- what stands behind the two letters of a right and the word of a kind
     kind-passed : (a b : ℕ) → drop (2 + length (kindWord (c .kind))) (a ∷ b ∷ (kindWord (c .kind) ++ x)) ≡ x
     kind-passed a b = ⊎-elim (λ zero. rw zero) (⊎-elim (λ one. rw one) (λ two. rw two)) (kinds (c .kind) (f .kind))
 
@@ -103,15 +94,15 @@ module _ (c : Cap) (x : List ℕ) where
       parent = c .parent;
       start = record { 0 = number-is behind stop (c .start .0) (c .length ∷ []) (f .start) start-is i };
       length = number-is behind stop (c .length) [] (f .length) length-is i;
-      right = (ap rightOf right-is ∙ right-back) i;
+      right = (ap rightOf right-is ∙ right-back (c .right) (kindWord (c .kind) ++ x) (f .right)) i;
       depth = c .depth;
-      kind = (ap kindOf right-is ∙ kind-back) i;
+      kind = (ap kindOf right-is ∙ kind-found) i;
     }
 
     children-back : childrenText (40 ∷ text) ≡ x
     children-back =
         ap (λ (w : List ℕ). drop (2 + length (kindWord (kindOf w))) w) right-is
-        ∙ ap (λ (k : ℕ). drop (2 + length (kindWord k)) (afterSpace behind)) kind-back
+        ∙ ap (λ (k : ℕ). drop (2 + length (kindWord k)) (afterSpace behind)) kind-found
         ∙ inner-back
 
     -- a form, read from its bracket on, where its run of children is read back

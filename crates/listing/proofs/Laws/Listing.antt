@@ -14,7 +14,7 @@ use Rattle.model.specs.Table.{emptyRow}
 use Rattle.table.specs.Words.{rowsIn}
 use Rattle.table.proofs.Offered.{length-in}
 use Rattle.table.specs.Rows.{nameAt, parentAt}
-use Rattle.text.specs.Event.{bytes, spaced, kindWord}
+use Rattle.text.specs.Event.{spaced, kindWord}
 use Rattle.text.proofs.Offered.{right-length}
 use Rattle.listing.specs.First.{firstRows}
 use Rattle.listing.specs.Listing.{pieces, form, children, roots, formAt, childrenFrom, rootsFrom, issuedLine, listed, formLength, total, formsLength}

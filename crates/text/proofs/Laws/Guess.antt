@@ -3,9 +3,7 @@
 use mathlib.Core.Path.{_≡_, refl, ap, _∙_}
 use mathlib.Core.Bool.{true}
 use mathlib.Core.List.{List, [], _∷_, _++_}
-use mathlib.Core.Logic.{⊎-elim}
 use Prim.Native.Nat.{ℕ, _^_, _<_}
-use lib.Dec.{eqb}
 use borrow.Author.Tests.{eqb-false}
 use Rattle.text.specs.Class.{classOf}
 use Rattle.text.specs.Line.{through, afterSpace}
@@ -17,7 +15,7 @@ use Rattle.text.specs.Read.{nameOf, spanOf, rightOf, kindOf, newNameOf, 
 use Rattle.text.specs.declared.spelling.Spelling.{Spelling}
 use Rattle.text.specs.declared.spelling.Spelling.the-variants.{Plain as Unnamed, Named}
 use Rattle.text.proofs.Laws.Number.{Stops}
-use Rattle.text.proofs.Laws.Words.{Plain, plain-decimal, next, number-is, either, rights, kinds}
+use Rattle.text.proofs.Laws.Words.{Plain, plain-decimal, next, number-is, right-stops, right-back, kind-back}
 use Rattle.text.proofs.Laws.Read.{guess-create, guess-borrow, guess-read, guess-write, guess-drop}
 use Rattle.model.specs.declared.Name.{Name}
 use Rattle.model.specs.declared.Span.{Span}
@@ -45,21 +43,8 @@ module _ (e : List ℕ) (stop : Stops e) where
     third : (b c : ℕ) (ns : List ℕ) → afterSpace (afterSpace (afterSpace (w ++ (spaced (a ∷ b ∷ c ∷ ns) ++ e)))) ≡ decimal c ++ (spaced ns ++ e)
     third b c ns = ap afterSpace (second b (c ∷ ns)) ∙ next e stop (decimal b) (plain-decimal b) c ns
 
--- the right is found again behind the last number, and the kind behind the right
-right-back : (r k : ℕ) → isRight r ≡ true → rightOf (afterSpace (ending r k)) ≡ r
-unfolding through classOf
-right-back r k h = ⊎-elim (λ one. rw one) (λ two. rw two) (rights r h)
-
-kind-word-back : (k : ℕ) → isKind k ≡ true → (a b : ℕ) → kindOf (a ∷ b ∷ (kindWord k ++ bytes ")\n")) ≡ k
-kind-word-back k h a b = ⊎-elim (λ none. rw none) (⊎-elim (λ one. rw one) (λ two. rw two)) (kinds k h)
-
-kind-back : (r k : ℕ) → isRight r ≡ true → isKind k ≡ true → kindOf (afterSpace (ending r k)) ≡ k
-unfolding through classOf
-kind-back r k h g = ⊎-elim (λ one. rw one (kind-word-back k g 114 111)) (λ two. rw two (kind-word-back k g 114 119)) (rights r h)
-
 ending-stops : (r k : ℕ) → Stops (ending r k)
-unfolding numberFrom classOf
-ending-stops r k = either (λ s. Stops (s ++ (kindWord k ++ bytes ")\n"))) (eqb r 1) _ _ (λ v. refl) (λ v. refl)
+ending-stops r k = right-stops r (kindWord k ++ bytes ")\n")
 
 -- the name and the span of a line that has both
 module _ (e w : List ℕ) (stop : Stops e) (plain : Plain w) (n : Name) (s : Span) (h : Below32 (n .0 ∷ spanNumbers s)) where
@@ -87,7 +72,7 @@ module _ (k : Spelling) (new : NewName) (w : List ℕ) (plain : Plain w) (r kind
       let one = first e stop w plain (s .start .0) (s .length ∷ []) in
       let two = second e stop w plain (s .start .0) (s .length) [] in
       let three = ap afterSpace two ∙ plain-decimal (s .length) e in
-      λ i. Create (is i) (span-is e stop s [] (b .0) (b .1 .0) one two i) ((ap rightOf three ∙ right-back r kind h) i)
+      λ i. Create (is i) (span-is e stop s [] (b .0) (b .1 .0) one two i) ((ap rightOf three ∙ right-back r (kindWord kind ++ bytes ")\n") h) i)
 
   borrow-back : isKind kind ≡ true → (n : Name) (s : Span) → Below32 (n .0 ∷ spanNumbers s) → newNameOf k (part (n .0 ∷ spanNumbers s)) ≡ new
       → borrowOf k (part (n .0 ∷ spanNumbers s)) ≡ Borrow new n s r kind
@@ -97,8 +82,8 @@ module _ (k : Spelling) (new : NewName) (w : List ℕ) (plain : Plain w) (r kind
       let stop = ending-stops r kind in
       let three = third e stop w plain (n .0) (s .start .0) (s .length) [] in
       let four = ap afterSpace three ∙ plain-decimal (s .length) e in
-      λ i. Borrow (is i) (name-back e w stop plain n s b i) (span-back e w stop plain n s b i) ((ap rightOf four ∙ right-back r kind h) i)
-      ((ap kindOf four ∙ kind-back r kind h g) i)
+      λ i. Borrow (is i) (name-back e w stop plain n s b i) (span-back e w stop plain n s b i) ((ap rightOf four ∙ right-back r (kindWord kind ++ bytes ")\n") h) i)
+      ((ap kindOf four ∙ kind-back (bytes ")\n") refl r kind h g) i)
 
 -- the new name of a line, at its front
 new-back : (x : Name) (r kind : ℕ) (ns : List ℕ) → x .0 < 2 ^ 32

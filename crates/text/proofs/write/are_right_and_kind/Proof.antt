@@ -1,17 +1,17 @@
--- `text::write::are_right_and_kind` meets its contract: the tests tell which right and which kind it is.
+-- `text::write::are_right_and_kind` meets its contract: by what its two tests promise.
 -- Assumes nothing.
-use borrow.Author.Tests.{lt-leb, le-leb, ne-eqb}
+use mathlib.Core.Path.{_≡_, sym, _∙_}
+use mathlib.Core.Bool.{true, false}
+use borrow.Author.Needs.{needs}
+use Rattle.model.specs.Table.{isKind}
 use Rattle.text.proofs.write.are_right_and_kind.Statement.{statement}
 use Rattle.text.proofs.write.are_right_and_kind.Tie as tie
 
 returns : tie.Need-returns
-returns c = rw (lt-leb _ 2 (c .if1 .taken))
+returns c = let k : isKind (c .before .before .before .args .kind) ≡ true = sym (c .before .before .is-kind .ensures) ∙ c .before .if1 .taken in rw k (c .is-right .ensures)
 
 returns-2 : tie.Need-returns-2
-returns-2 c = rw (le-leb _ 2 (c .before .if1 .left), c .if2 .taken)
-
-returns-3 : tie.Need-returns-3
-returns-3 c = rw (le-leb _ 2 (c .before .if1 .left), ne-eqb _ 1 (c .if2 .left))
+returns-2 c = let k : isKind (c .before .before .args .kind) ≡ false = sym (c .before .is-kind .ensures) ∙ c .if1 .left in rw k
 
 pub are-right-and-kind-spec : {M : Type 1} → statement M
-are-right-and-kind-spec = tie.close (tie.spec returns returns-2 returns-3)
+are-right-and-kind-spec = tie.close (tie.spec (λ c κs. search needs) (λ c κs. search needs) returns returns-2)
