@@ -1,4 +1,4 @@
--- The numbers of answers: no refusal's is above 13, and a refusal and a value that are packed into one number are found again in it. And the
+-- The numbers of answers: no refusal's is above 15, and a refusal and a value that are packed into one number are found again in it. And the
 -- words of a request stand for it.
 -- Assumes nothing.
 use mathlib.Core.Path.{_≡_, refl, ap, _∙_}
@@ -14,11 +14,11 @@ use Rattle.model.specs.declared.Event.{Event}
 use Rattle.model.specs.declared.Event.the-variants.{Create, Borrow, Read, Write, Drop}
 use Rattle.model.specs.Requests.{Single, Group}
 use Rattle.model.specs.declared.Refusal.{Refusal}
-use Rattle.model.specs.declared.Refusal.the-variants.{Disordered, Misspelt, IllegalSpan, Unissued, Ended, OutsideSpan, ReadOnly, TooDeep, NamesSpent, TableFull, BufferTooShort, Misnamed, Misgrouped}
+use Rattle.model.specs.declared.Refusal.the-variants.{Disordered, Misspelt, IllegalSpan, Unissued, Ended, OutsideSpan, ReadOnly, TooDeep, NamesSpent, TableFull, BufferTooShort, Misnamed, Misgrouped, GivenTwice, NotGiven}
 use Rattle.model.specs.Answers.{number}
 use Rattle.kelzoud_events.specs.Interface.{packed, eventWith, eventIn, askedIn, part, requestIn, wordsOf}
 
-pub number-small : (r : Refusal) → number r ≤ 13
+pub number-small : (r : Refusal) → number r ≤ 15
 number-small Disordered = omega arith
 number-small Misspelt = omega arith
 number-small IllegalSpan = omega arith
@@ -32,6 +32,8 @@ number-small TableFull = omega arith
 number-small BufferTooShort = omega arith
 number-small Misnamed = omega arith
 number-small Misgrouped = omega arith
+number-small GivenTwice = omega arith
+number-small NotGiven = omega arith
 
 -- ---- a refusal and a value in one number
 

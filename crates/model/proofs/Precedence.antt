@@ -181,6 +181,10 @@ twelve-between = (refl, refl)
 pub thirteen-after : place 13 ≡ suc (place 1)
 thirteen-after = refl
 
+-- Card 7: 14 and 15 are "in that order after 2".
+pub fourteen-after : (place 14 ≡ suc (place 2)) × (place 15 ≡ suc (place 14))
+fourteen-after = (refl, refl)
+
 -- There are no more.
-pub thirteen-numbers : length precedence ≡ 13
-thirteen-numbers = refl
+pub fifteen-numbers : length precedence ≡ 15
+fifteen-numbers = refl

@@ -100,9 +100,10 @@ module _ (rows : List Cap) (issued : ℕ) where
   checks size (Single (Drop u)) = standing u
   checks size (Group names) = (13, misgrouped names) ∷ standings names
 
--- The numbers of refusals in order of precedence; card 5: 13 is "after 1".
+-- The numbers of refusals in order of precedence; card 5: 13 is "after 1"; card 7: 14 and 15, of sheets alone, "in that
+-- order after 2".
 abbrev pub precedence : List ℕ
-precedence = 1 ∷ 13 ∷ 2 ∷ 3 ∷ 4 ∷ 5 ∷ 6 ∷ 7 ∷ 8 ∷ 9 ∷ 12 ∷ 10 ∷ 11 ∷ []
+precedence = 1 ∷ 13 ∷ 2 ∷ 14 ∷ 15 ∷ 3 ∷ 4 ∷ 5 ∷ 6 ∷ 7 ∷ 8 ∷ 9 ∷ 12 ∷ 10 ∷ 11 ∷ []
 
 -- the place of a number among others, from 1, or behind them
 abbrev pub placeIn : List ℕ → ℕ → ℕ

@@ -131,6 +131,10 @@ pub enum Refusal {
     Misnamed,
     // 13, after 1: a lent list of names that is empty, longer than 64 or not strictly rising.
     Misgrouped,
+    // 14, after 2: a sheet's text gives a combination twice.
+    GivenTwice,
+    // 15, after 14: a sheet's text leaves a combination out.
+    NotGiven,
 }
 
 // The answer to an event: allowed, with the new name of a create or borrow and name 0 of the others; or refused.

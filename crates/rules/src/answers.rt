@@ -21,5 +21,7 @@ pub fn number_of(refusal: Refusal) -> u32
         Refusal::BufferTooShort => 11,
         Refusal::Misnamed => 12,
         Refusal::Misgrouped => 13,
+        Refusal::GivenTwice => 14,
+        Refusal::NotGiven => 15,
     }
 }

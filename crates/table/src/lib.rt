@@ -7,6 +7,7 @@ mod judge;
 pub mod lent;
 pub mod ordered;
 pub mod requests;
+pub mod sheets;
 pub mod spans;
 pub mod words;
 
@@ -15,3 +16,6 @@ pub const WIDTH: usize = 7;
 
 // A row of a lent table.
 pub type Row = [u32; WIDTH];
+
+// A conflict sheet, a byte for each combination.
+pub type SheetBytes = [u8; 18];

@@ -4,7 +4,7 @@ pub use Rattle.text.proofs.Laws.Digits.{decimal-under, decimal-width, d
 unfoldable pub use Rattle.text.proofs.Laws.Digits.{digits}
 pub use Rattle.text.proofs.Laws.Group.{group-few, names-after}
 pub use Rattle.text.proofs.Laws.GroupLine.{group-is-line, group-is-no-event, group-reads-back, read-group-is-spelling, refused-group-is-2}
-pub use Rattle.text.proofs.Laws.Line.{lines-next, next-some, through-le}
+pub use Rattle.text.proofs.Laws.Line.{part-some, parts-next, through-le}
 pub use Rattle.text.proofs.Laws.Number.{Stops, digit-class, digit-small, number-of-small}
 pub use Rattle.text.proofs.Laws.OneLine.{header-is-no-event, spell-is-line}
 pub use Rattle.text.proofs.Laws.OneSpelling.{spelling-reads-back}

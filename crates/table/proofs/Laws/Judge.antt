@@ -18,7 +18,7 @@ use Rattle.model.specs.declared.Cap.{Cap}
 use Rattle.model.specs.declared.Event.{Event}
 use Rattle.model.specs.declared.Event.the-variants.{Create, Borrow, Read}
 use Rattle.model.specs.declared.Refusal.{Refusal}
-use Rattle.model.specs.declared.Refusal.the-variants.{Disordered, Misspelt, IllegalSpan, Unissued, Ended, OutsideSpan, ReadOnly, TooDeep, NamesSpent, TableFull, BufferTooShort, Misnamed, Misgrouped}
+use Rattle.model.specs.declared.Refusal.the-variants.{Disordered, Misspelt, IllegalSpan, Unissued, Ended, OutsideSpan, ReadOnly, TooDeep, NamesSpent, TableFull, BufferTooShort, Misnamed, Misgrouped, GivenTwice, NotGiven}
 use Rattle.table.specs.declared.judge.Place.{Place}
 use Rattle.table.specs.declared.judge.Place.the-variants.{At, Not}
 use Rattle.model.specs.Lists.{first, any, all}
@@ -58,6 +58,8 @@ numbered TableFull = refl
 numbered BufferTooShort = refl
 numbered Misnamed = refl
 numbered Misgrouped = refl
+numbered GivenTwice = refl
+numbered NotGiven = refl
 
 -- a name to be used
 module _ (rows : List Cap) (issued : ℕ) (u : Name) (s : Span) (r : ℕ) where

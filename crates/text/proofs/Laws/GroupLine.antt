@@ -14,7 +14,7 @@ use Rattle.model.specs.Requests.{isGroup, risesAbove, risesStrictly}
 use Rattle.model.proofs.Offered.{clash}
 use Rattle.text.specs.Result.{value, refused}
 use Rattle.text.specs.Class.{classOf}
-use Rattle.text.specs.Line.{through, afterSpace, push, linesOf}
+use Rattle.text.specs.Line.{through, afterSpace, push, linesOf, partsOf}
 use Rattle.text.specs.Decimal.{decimal, numberFrom}
 use Rattle.text.specs.Event.{bytes, spaced, spell, hasSpelling, Below32}
 use Rattle.text.specs.Read.{same, nameOf, guess, readEvent}
@@ -105,7 +105,7 @@ group-one-spelling a b ga gb ba bb h = sym (guess-group a ga ba) ∙ ap guessNam
 
 -- the lines of a text that begins with a group's spelling are that and the lines of the rest
 pub group-is-line : (names t : List ℕ) → linesOf (spellGroup names ++ t) ≡ spellGroup names ∷ linesOf t
-unfolding spellGroup linesOf push classOf
+unfolding spellGroup partsOf push classOf
 group-is-line names t = rw (numbers-end names last (λ t. refl) t)
 
 -- a text that reads as a group is a line with its newline

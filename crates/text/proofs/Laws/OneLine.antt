@@ -6,7 +6,7 @@ use Prim.Native.Nat.{ℕ, zero, suc, _+_}
 use lib.Dec.{eqb}
 use Rattle.text.specs.Result.{value, refused}
 use Rattle.text.specs.Class.{classOf}
-use Rattle.text.specs.Line.{through, push, linesOf}
+use Rattle.text.specs.Line.{through, push, linesOf, partsOf}
 use Rattle.text.specs.Decimal.{numeral, decimal, numberFrom}
 use Rattle.text.specs.Event.{bytes, spaced, kindWord, ending, spanNumbers, writtenNumbers, spell, hasSpelling}
 use Rattle.text.specs.Read.{same, guess, readEvent}
@@ -25,7 +25,7 @@ Ends e = (t : List ℕ) → linesOf (e ++ t) ≡ e ∷ linesOf t
 
 -- so is one with digits in front of it, with a number, and with numbers
 digits-end : (n k : ℕ) (e : List ℕ) → Ends e → Ends (digits 10 n k ++ e)
-unfolding digits linesOf push
+unfolding digits partsOf push
 digits-end n zero e ends t = ends t
 digits-end n (suc k) e ends t =
     rw (digit-class (digitAt 10 n k) (digit-small n k)) (ap (push (48 + digitAt 10 n k)) (digits-end n k e ends t))
@@ -36,25 +36,25 @@ decimal-end n e ends t =
     rw (r .2) (digits-end n (suc (r .0)) e ends t)
 
 pub numbers-end : (ns e : List ℕ) → Ends e → Ends (spaced ns ++ e)
-unfolding spaced linesOf push classOf
+unfolding spaced partsOf push classOf
 numbers-end [] e ends t = ends t
 numbers-end (n ∷ ns) e ends t =
     rw (append-assoc (decimal n) (spaced ns) e) (ap (push 32) (decimal-end n (spaced ns ++ e) (numbers-end ns e ends) t))
 
 kind-ends : (k : ℕ) → Ends (kindWord k ++ bytes ")\n")
-unfolding linesOf push classOf
+unfolding partsOf push classOf
 kind-ends k =
     let ends : List ℕ → Type 0 = λ s. Ends (s ++ bytes ")\n") in
     either ends (eqb k 0) _ _ (λ t. refl) (either ends (eqb k 1) _ _ (λ t. refl) (λ t. refl))
 
 ending-ends : (r k : ℕ) → Ends (ending r k)
-unfolding linesOf push classOf
+unfolding partsOf push classOf
 ending-ends r k =
     either (λ s. Ends (s ++ (kindWord k ++ bytes ")\n"))) (eqb r 1) _ _ (λ t. rw (kind-ends k t)) (λ t. rw (kind-ends k t))
 
 -- the lines of a text that begins with an event's spelling are that and the lines of the rest
 pub spell-is-line : (e : Event) (t : List ℕ) → linesOf (spell e ++ t) ≡ spell e ∷ linesOf t
-unfolding spell linesOf push classOf
+unfolding spell partsOf push classOf
 spell-is-line (Create w s r) t = rw (numbers-end (writtenNumbers w ++ spanNumbers s) (ending r 0) (ending-ends r 0) t)
 spell-is-line (Borrow w n s r kind) t = rw (numbers-end (writtenNumbers w ++ (n .0 ∷ spanNumbers s)) (ending r kind) (ending-ends r kind) t)
 spell-is-line (Read n s) t = rw (numbers-end (n .0 ∷ spanNumbers s) (bytes ")\n") (λ t. refl) t)

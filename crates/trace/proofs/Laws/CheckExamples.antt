@@ -14,7 +14,7 @@ use Rattle.model.specs.Effects.{revoke, afterAccess, rowsWithout, rowsAfter}
 use Rattle.model.specs.Step.{answer, after}
 use Rattle.text.specs.Group.{spellGroup, namesFrom, guessNames, readGroup}
 use Rattle.text.specs.Class.{classOf}
-use Rattle.text.specs.Line.{through, push, linesOf}
+use Rattle.text.specs.Line.{through, push, partsOf}
 use Rattle.text.specs.Decimal.{numeral, decimal, numberFrom}
 use Rattle.text.specs.Event.{bytes, spaced, spell, hasSpelling, writesName}
 use Rattle.text.specs.Read.{same, guess, readEvent}
@@ -50,5 +50,5 @@ kinds =
     ∷ []
 
 printed : all (λ e. same (checkText (bytes (e .0))) (bytes (e .1))) (examples ++ kinds) ≡ true
-unfolding examples kinds ancestry onAncestry origin strike reached struck liveRows lentTable lookup isEmptyRow liveRowsFirst rowFitsParent parentInOrder rowInOrder rowsInOrder inOrder refusals judge revoke afterAccess rowsAfter answer after risesAbove risesStrictly isGroup standings rowsWithout spellGroup namesFrom guessNames readGroup classOf through push linesOf numeral decimal numberFrom spaced spell hasSpelling writesName same guess readEvent pieces form children roots listed runLines runTrace runFrom answerLine checkText
+unfolding examples kinds ancestry onAncestry origin strike reached struck liveRows lentTable lookup isEmptyRow liveRowsFirst rowFitsParent parentInOrder rowInOrder rowsInOrder inOrder refusals judge revoke afterAccess rowsAfter answer after risesAbove risesStrictly isGroup standings rowsWithout spellGroup namesFrom guessNames readGroup classOf through push partsOf numeral decimal numberFrom spaced spell hasSpelling writesName same guess readEvent pieces form children roots listed runLines runTrace runFrom answerLine checkText
 printed = refl

@@ -14,10 +14,10 @@ use Rattle.model.proofs.Offered.{clash}
 use Rattle.table.specs.Words.{rowsIn}
 use Rattle.rules.specs.Steps.{lends}
 use Rattle.text.specs.Class.{newline}
-use Rattle.text.specs.Line.{through, nextLine, linesOf}
+use Rattle.text.specs.Line.{through, nextLine, linesOf, partsOf}
 use Rattle.text.specs.Read.{same}
 use Rattle.text.specs.declared.spelling.Spelling.the-variants.{Plain, Named}
-use Rattle.text.proofs.Offered.{lines-next, through-le, same-refl, same-true}
+use Rattle.text.proofs.Offered.{parts-next, through-le, same-refl, same-true}
 use Rattle.trace.specs.declared.run.RunOutcome.{RunOutcome}
 use Rattle.trace.specs.Run.{header, Checker, runLines, runTrace, runFrom, lent, run, Runs, RunsLines}
 
@@ -33,7 +33,7 @@ module _ (text : List ℕ) (h : same (nextLine text) header ≡ true) where
   header-inside = omega (arith, ten, through-le newline text)
 
   pub header-lines : linesOf text ≡ header ∷ linesOf (drop 10 text)
-  header-lines = lines-next text (omega (arith, header-inside)) ∙ (λ i. first-is i ∷ linesOf (drop (ten i) text))
+  header-lines = parts-next newline text (omega (arith, header-inside)) ∙ (λ i. first-is i ∷ linesOf (drop (ten i) text))
 
   pub trace-named : {S : Type 0} (c : Checker S) (s : S) → runTrace c s (linesOf text) ≡ runLines c Named 1 s (linesOf (drop 10 text))
   unfolding runTrace
@@ -41,9 +41,9 @@ module _ (text : List ℕ) (h : same (nextLine text) header ≡ true) where
 
 -- any other is one of lines that write no names
 pub trace-plain : (text : List ℕ) → same (nextLine text) header ≡ false → {S : Type 0} (c : Checker S) (s : S) → runTrace c s (linesOf text) ≡ runLines c Plain 0 s (linesOf text)
-unfolding runTrace linesOf
+unfolding runTrace partsOf
 trace-plain [] h c s = refl
-trace-plain (b ∷ t) h c s = rw (lines-next (b ∷ t) (omega arith), h)
+trace-plain (b ∷ t) h c s = rw (parts-next newline (b ∷ t) (omega arith), h)
 
 -- a run of a table in order goes by its lines
 in-order : (ws : List (List ℕ)) (t : Tally) (text : List ℕ) → inOrder (rowsIn ws) (t .issued) ≡ true → runTrace lent (lends (rowsIn ws) t) (linesOf text) ≡ run (lends (rowsIn ws) t) text

@@ -11,7 +11,7 @@ use lib.ListN.{length}
 use Rattle.model.specs.Step.{State}
 use Rattle.model.specs.Table.{inOrder}
 use Rattle.text.specs.Class.{classOf, newline}
-use Rattle.text.specs.Line.{push, linesOf}
+use Rattle.text.specs.Line.{push, linesOf, partsOf}
 use Rattle.text.specs.Read.{same}
 use Rattle.text.specs.declared.spelling.Spelling.{Spelling}
 use Rattle.text.specs.declared.spelling.Spelling.the-variants.{Plain, Named}
@@ -78,7 +78,7 @@ number-lines k before h (l ∷ ls) =
     (omega (arith, number-lines k (before + 1) (t .state) ls)) (omega arith)
 
 lines-few : (text : List ℕ) → length (linesOf text) ≤ length text
-unfolding linesOf push
+unfolding partsOf push
 lines-few [] = omega arith
 lines-few (b ∷ s) = go (eqb (classOf b) newline) (linesOf s) (lines-few s)
   where

@@ -19,7 +19,7 @@ use Rattle.model.specs.Table.{inOrder}
 use Rattle.model.specs.Named.{unnamed, rightlyNamed, allRightlyNamed}
 use Rattle.model.proofs.Offered.{test, same-answer, same-after, issued-allowed, ordered, order-after}
 use Rattle.text.specs.Class.{classOf, newline}
-use Rattle.text.specs.Line.{through, nextLine, linesOf}
+use Rattle.text.specs.Line.{through, nextLine, linesOf, partsOf}
 use Rattle.text.specs.Decimal.{numeral, decimal, numberFrom}
 use Rattle.text.specs.Event.{bytes, spaced, spell, hasSpelling, writesName}
 use Rattle.text.specs.Group.{spellGroup, namesFrom, guessNames, readGroup}
@@ -27,7 +27,7 @@ use Rattle.text.specs.Read.{same, guess, readEvent}
 use Rattle.text.specs.Result.{value, refused}
 use Rattle.text.specs.declared.spelling.Spelling.{Spelling}
 use Rattle.text.specs.declared.spelling.Spelling.the-variants.{Plain, Named}
-use Rattle.text.proofs.Offered.{lines-next, next-some, spell-is-line, header-is-no-event, group-reads-back, group-is-line, group-is-no-event, same-true, spelling-reads-back}
+use Rattle.text.proofs.Offered.{parts-next, part-some, spell-is-line, header-is-no-event, group-reads-back, group-is-line, group-is-no-event, same-true, spelling-reads-back}
 use Rattle.text.specs.Request.{readRequest}
 use Rattle.trace.specs.Run.{header, Ran, runLines, runFrom, lent, run}
 use Rattle.trace.specs.Check.{report, noCounts, checkText}
@@ -74,11 +74,11 @@ record Higher (q p : Ran State) : Type 0 where
 
 -- behind the requests, both have the same line or none
 same-rests : {rest rest′ : List ℕ} → Rests rest rest′ → (before : ℕ) (h : State) → Higher (runLines lent Named (before + 1) h (linesOf rest′)) (runLines lent Plain before h (linesOf rest))
-unfolding runLines linesOf
+unfolding runLines partsOf
 same-rests none before h = record { refusals = refl; numbers = refl; states = refl }
 same-rests (misspelt {rest = rest} {rest′ = rest′} some line no-plain no-named) before h =
-    let some′ : 0 < length rest′ = omega (arith, next-some rest some, ap length line, length-take (through newline rest′) rest′) in
-    rw (lines-next rest some, lines-next rest′ some′, ← line, no-plain, no-named) (record { refusals = refl; numbers = refl; states = refl })
+    let some′ : 0 < length rest′ = omega (arith, part-some newline rest some, ap length line, length-take (through newline rest′) rest′) in
+    rw (parts-next newline rest some, parts-next newline rest′ some′, ← line, no-plain, no-named) (record { refusals = refl; numbers = refl; states = refl })
 
 -- an example: a number with a leading zero, and in the first another line behind it
 rests-example : Rests (bytes "(read 01 0 8)\n(drop 1)\n") (bytes "(read 01 0 8)\n")
@@ -146,9 +146,9 @@ no-header q sp = go (test (same (spellRequest (unnamed q)) header))
     go (inr n) = n
 
 first-line : (text line : List ℕ) (lines : List (List ℕ)) → linesOf text ≡ line ∷ lines → nextLine text ≡ line
-unfolding linesOf
+unfolding partsOf
 first-line [] line lines e = absurd (nil≢cons e)
-first-line (b ∷ text) line lines e = head-eq-of-cons-eq (sym (lines-next (b ∷ text) (omega arith)) ∙ e)
+first-line (b ∷ text) line lines e = head-eq-of-cons-eq (sym (parts-next newline (b ∷ text) (omega arith)) ∙ e)
 
 -- so a trace that begins with a request is one of document 01, whatever follows; and the other begins with the header
 pub request-first : (q : Request) (qs : List Request) → Spelled (q ∷ qs) → (rest : List ℕ) → OldTrace (plainText (q ∷ qs) ++ rest)

@@ -17,7 +17,7 @@ use Rattle.model.specs.Step.{view, State, answer}
 use Rattle.model.specs.Requests.{Request}
 use Rattle.model.proofs.Offered.{test, clash, ordered-not-1, refused-table, refused-tally}
 use Rattle.text.specs.Class.{classOf, newline}
-use Rattle.text.specs.Line.{push, linesOf}
+use Rattle.text.specs.Line.{push, linesOf, partsOf}
 use Rattle.text.specs.Event.{bytes}
 use Rattle.text.specs.Read.{same, readEvent}
 use Rattle.text.specs.Group.{readGroup}
@@ -35,7 +35,7 @@ use Rattle.trace.proofs.Laws.Order.{Ordered, turned, of-trace, refused-
 
 -- their lines are the first of the text's
 pub lines-first : (k : ℕ) (text : List ℕ) → linesOf (firstLines k text) ≡ take k (linesOf text)
-unfolding firstLines linesOf push flatMap
+unfolding firstLines partsOf push flatMap
 lines-first zero [] = refl
 lines-first (suc k) [] = refl
 lines-first k (b ∷ s) = go (eqb (classOf b) newline) refl (linesOf s) (λ j. lines-first j s) k
@@ -55,7 +55,7 @@ lines-first k (b ∷ s) = go (eqb (classOf b) newline) refl (linesOf s) (λ j. l
 -- one of two, and both where the last has no newline
 first-examples : (firstLines 1 (bytes "(create 0 64 rw)\n(drop 1)\n") ≡ bytes "(create 0 64 rw)\n")
     × (firstLines 2 (bytes "(drop 1)\n(drop") ≡ bytes "(drop 1)\n(drop")
-unfolding firstLines linesOf push classOf flatMap
+unfolding firstLines partsOf push classOf flatMap
 first-examples = (refl, refl)
 
 -- ---- one line

@@ -9,13 +9,13 @@ use lib.Dec.{eqb}
 use lib.ListN.{length, take, drop, length-drop, drop-of-length-le}
 use lib.Seq.{take-all, length-take-le, drop-drop}
 use Rattle.text.specs.Class.{newline}
-use Rattle.text.specs.Line.{through, nextLine, linesOf}
+use Rattle.text.specs.Line.{through, nextLine, linesOf, partsOf}
 use Rattle.text.specs.Read.{readEvent}
 use Rattle.text.specs.Group.{readGroup}
 use Rattle.model.specs.Requests.{Request, Single, Group}
 use Rattle.text.specs.declared.spelling.Spelling.{Spelling}
 use Rattle.text.specs.Result.{Result, value, refused}
-use Rattle.text.proofs.Offered.{lines-next, next-some, through-le}
+use Rattle.text.proofs.Offered.{parts-next, part-some, through-le}
 use Rattle.model.specs.declared.Cap.{Cap}
 use Rattle.model.specs.declared.Event.{Event}
 use Rattle.model.specs.declared.Tally.{Tally}
@@ -80,7 +80,7 @@ module _ (s : List ℕ) (at : ℕ) (more : at < length s) (line : List ℕ) (is 
   line-length = ap length line-is ∙ length-take-le (through newline (drop at s)) (drop at s) (through-le newline (drop at s))
 
   pub line-some : 0 < length line
-  line-some = omega (arith, ap length line-is, next-some (drop at s) left-some)
+  line-some = omega (arith, ap length line-is, part-some newline (drop at s) left-some)
 
   pub line-inside : at + length line ≤ length s
   line-inside = omega (arith, line-length, through-le newline (drop at s), length-drop at s)
@@ -94,7 +94,7 @@ module _ (s : List ℕ) (at : ℕ) (more : at < length s) (line : List ℕ) (is 
 
     turn : runLines lent k count h (linesOf (drop at s)) ≡ cond (eqb (takeLine lent k h line .refusal) 0) (runLines lent k (count + 1) taken (linesOf (drop (at + length line) s))) (record { refusal = takeLine lent k h line .refusal; number = count + 1; state = taken })
     unfolding runLines
-    turn = rw (lines-next (drop at s) left-some, rest-is, line-is)
+    turn = rw (parts-next newline (drop at s) left-some, rest-is, line-is)
 
   -- the line was taken on the words of a table
   module _ (count : ℕ) {k : Spelling} {ws : List (List ℕ)} {t : Tally} {ws′ : List (List ℕ)} {r : Outcome} (took : Takes k ws t line ws′ r) where
@@ -112,5 +112,5 @@ module _ (s : List ℕ) (at : ℕ) (more : at < length s) (line : List ℕ) (is 
 
 -- nothing is left
 pub run-ends : (k : Spelling) (s : List ℕ) (at count : ℕ) (h : State) → length s ≤ at → record { refusal = 0; number = count; state = h } ≡ runLines lent k count h (linesOf (drop at s))
-unfolding runLines linesOf
+unfolding runLines partsOf
 run-ends k s at count h e = rw (drop-of-length-le s e)

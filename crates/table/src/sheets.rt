@@ -1,0 +1,83 @@
+// The lent sheet: a byte for each combination of a holder's kind, an access, and where the access comes from. Only these functions know
+// the layout.
+use crate::SheetBytes;
+use model::Access;
+use model::Origin;
+ghost use mathlib.Core.Path.{_≡_};
+ghost use Prim.Native.Nat.{_≤_, _<_};
+ghost use lib.ListN.{getD};
+ghost use Rattle.model.specs.Strike.{resultOf};
+ghost use Rattle.table.specs.Sheets.{accessNumber, originNumber, holderNumber, placeOf, weight, bytes6, sheetIn, Taken};
+
+fn holder_number(kind: u32) -> usize
+    ensures { λ r. ⌜ (r ≡ holderNumber kind) × (r ≤ 2) ⌝ }
+{
+    if kind == 0 {
+        return 0;
+    }
+    if kind == 1 { 1 } else { 2 }
+}
+
+fn access_number(a: Access) -> usize
+    ensures { λ r. ⌜ (r ≡ accessNumber a) × (r ≤ 1) ⌝ }
+{
+    match a {
+        Access::Reading => 0,
+        Access::Writing => 1,
+    }
+}
+
+fn origin_number(from: Origin) -> usize
+    ensures { λ r. ⌜ (r ≡ originNumber from) × (r ≤ 2) ⌝ }
+{
+    match from {
+        Origin::Cell => 0,
+        Origin::Kin => 1,
+        Origin::Stranger => 2,
+    }
+}
+
+// Where a combination stands.
+fn place_of(kind: u32, a: Access, from: Origin) -> usize
+    ensures { λ r. ⌜ (r ≡ placeOf kind a from) × (r < 18) ⌝ }
+{
+    holder_number(kind) * 6 + access_number(a) * 3 + origin_number(from)
+}
+
+// What a sheet gives a holder of a kind: 0 keep, 1 lower, 2 end.
+pub fn result_at(sheet: &SheetBytes, kind: u32, a: Access, from: Origin) -> u8
+    ensures { λ r. ⌜ r ≡ weight (resultOf (sheetIn (now (sheet .entry))) kind a from) ⌝ }
+{
+    let byte = sheet[place_of(kind, a, from)];
+    if byte < 2 { byte } else { 2 }
+}
+
+// The sheet of card 6.
+pub fn card6() -> SheetBytes
+    ensures { λ r. ⌜ r ≡ bytes6 ⌝ }
+{
+    [1, 1, 1, 0, 2, 2, 0, 0, 0, 0, 0, 2, 1, 1, 1, 0, 2, 2]
+}
+
+// The byte that is lent at a place; one that is missing is `end`.
+fn byte_at(lent: &[u8], place: usize) -> u8
+    ensures { λ r. ⌜ r ≡ getD (now (lent .entry)) place 2 ⌝ }
+{
+    if place < lent.len() { lent[place] } else { 2 }
+}
+
+// The sheet that is lent, card 6's where no byte is.
+pub fn sheet_lent(lent: &[u8]) -> SheetBytes
+    ensures { λ r. ⌜ Taken (now (lent .entry)) r ⌝ }
+{
+    let mut sheet = card6();
+    if lent.len() == 0 {
+        return sheet;
+    }
+    let mut i: usize = 0;
+    while i < 18 {
+        sheet[i] = byte_at(lent, i);
+        i += 1;
+    }
+    sheet
+}
