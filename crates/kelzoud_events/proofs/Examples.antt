@@ -10,6 +10,7 @@ use Rattle.model.specs.declared.Event.the-variants.{Create, Borrow, Read, Write
 use Rattle.model.specs.Requests.{Request, Single, Group}
 use Rattle.model.specs.Counts.{tally}
 use Rattle.model.specs.Derivation.{ancestry, onAncestry}
+use Rattle.model.specs.Sheet6.{sheet6}
 use Rattle.model.specs.Strike.{origin, strike, reached, struck}
 use Rattle.model.specs.Table.{emptyRow, liveRows, lentTable, lookup, isEmptyRow, liveRowsFirst, rowFitsParent, parentInOrder, rowInOrder, rowsInOrder, inOrder}
 use Rattle.model.specs.Requests.{risesAbove, risesStrictly, isGroup}
@@ -92,14 +93,14 @@ two = initial 2 (tally 0 0 0 0 0 0 0)
 
 -- three entries: the refusal in the middle stops nothing, and the fourth event is not taken
 three : (taken events (replicate 3 (7 ∷ 7 ∷ [])) ≡ 3)
-    × (answersAll two events (9 ∷ 1 ∷ []) (replicate 3 (7 ∷ 7 ∷ [])) ≡ (0 ∷ 1 ∷ []) ∷ (4 ∷ 0 ∷ []) ∷ (0 ∷ 0 ∷ []) ∷ [])
-    × (afterAll two events (9 ∷ 1 ∷ []) (replicate 3 (7 ∷ 7 ∷ [])) ≡ record { table = capOf (1 ∷ 0 ∷ 16 ∷ 64 ∷ 2 ∷ 1 ∷ 0 ∷ []) ∷ emptyRow ∷ []; tally = tally 1 1 0 1 0 0 1 })
+    × (answersAll sheet6 two events (9 ∷ 1 ∷ []) (replicate 3 (7 ∷ 7 ∷ [])) ≡ (0 ∷ 1 ∷ []) ∷ (4 ∷ 0 ∷ []) ∷ (0 ∷ 0 ∷ []) ∷ [])
+    × (afterAll sheet6 two events (9 ∷ 1 ∷ []) (replicate 3 (7 ∷ 7 ∷ [])) ≡ record { table = capOf (1 ∷ 0 ∷ 16 ∷ 64 ∷ 2 ∷ 1 ∷ 0 ∷ []) ∷ emptyRow ∷ []; tally = tally 1 1 0 1 0 0 1 })
 unfolding events two askedIn eventIn eventWith part ancestry onAncestry origin strike reached struck liveRows lentTable lookup isEmptyRow liveRowsFirst rowFitsParent parentInOrder rowInOrder rowsInOrder inOrder standings refusals judge revoke afterAccess rowsWithout rowsAfter answer after risesAbove risesStrictly isGroup
 three = (refl, refl, refl)
 
 -- six entries: all four are taken, the last drops the name 1, and the entries behind stay
 six : (taken events (replicate 6 (7 ∷ 7 ∷ [])) ≡ 4)
-    × (answersAll two events (9 ∷ 1 ∷ []) (replicate 6 (7 ∷ 7 ∷ [])) ≡ (0 ∷ 1 ∷ []) ∷ (4 ∷ 0 ∷ []) ∷ (0 ∷ 0 ∷ []) ∷ (0 ∷ 0 ∷ []) ∷ (7 ∷ 7 ∷ []) ∷ (7 ∷ 7 ∷ []) ∷ [])
-    × (afterAll two events (9 ∷ 1 ∷ []) (replicate 6 (7 ∷ 7 ∷ [])) ≡ record { table = replicate 2 emptyRow; tally = tally 1 1 0 1 0 1 1 })
+    × (answersAll sheet6 two events (9 ∷ 1 ∷ []) (replicate 6 (7 ∷ 7 ∷ [])) ≡ (0 ∷ 1 ∷ []) ∷ (4 ∷ 0 ∷ []) ∷ (0 ∷ 0 ∷ []) ∷ (0 ∷ 0 ∷ []) ∷ (7 ∷ 7 ∷ []) ∷ (7 ∷ 7 ∷ []) ∷ [])
+    × (afterAll sheet6 two events (9 ∷ 1 ∷ []) (replicate 6 (7 ∷ 7 ∷ [])) ≡ record { table = replicate 2 emptyRow; tally = tally 1 1 0 1 0 1 1 })
 unfolding events two askedIn eventIn eventWith part ancestry onAncestry origin strike reached struck liveRows lentTable lookup isEmptyRow liveRowsFirst rowFitsParent parentInOrder rowInOrder rowsInOrder inOrder standings refusals judge revoke afterAccess rowsWithout rowsAfter answer after risesAbove risesStrictly isGroup
 six = (refl, refl, refl)

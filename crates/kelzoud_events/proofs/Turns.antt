@@ -12,7 +12,7 @@ use Rattle.model.specs.Requests.{Request}
 use Rattle.model.specs.Lists.{final, answers}
 use Rattle.model.specs.Table.{inOrder}
 use Rattle.model.specs.Refusals.{refusals, judge}
-use Rattle.model.specs.Sheet6.{sheet6}
+use Rattle.model.specs.declared.Sheet.{Sheet}
 use Rattle.model.specs.Step.{State, Verdict, after, answer}
 use Rattle.model.proofs.Offered.{final-append, answers-append}
 use Rattle.table.specs.Words.{rowsIn}
@@ -30,16 +30,16 @@ put A out out₁ i v n l q =
     ap (λ (x : List (List ℕ)). set x i v) (q ∙ ap (λ (x : List (List ℕ)). A ++ x) (drop-cons out i [] l)) ∙ set-at A (getD out i []) (drop (suc i) out) v i n
     ∙ sym (append-snoc A v (drop (suc i) out)) ∙ ap (λ (x : ℕ). (A ++ (v ∷ [])) ++ drop x out) (sym (add-one i))
 
-length-answers : (h : State) (qs : List Request) → length (answers (after sheet6) answer h qs) ≡ length qs
-length-answers h [] = refl
-length-answers h (q ∷ qs) = ap suc (length-answers (after sheet6 h q) qs)
+length-answers : (sheet : Sheet) (h : State) (qs : List Request) → length (answers (after sheet) answer h qs) ≡ length qs
+length-answers sheet h [] = refl
+length-answers sheet h (q ∷ qs) = ap suc (length-answers sheet (after sheet h q) qs)
 
 module _ (names : List ℕ) where
   requests-long : (ws : List (List ℕ)) (m : ℕ) → m ≤ length ws → length (requestsIn ws names m) ≡ m
   requests-long ws m l = length-take-le m (map (λ w. requestIn w names) ws) (omega (arith, length-map ws (λ w. requestIn w names)))
 
-  answers-long : (h : State) (ws : List (List ℕ)) (m : ℕ) → m ≤ length ws → length (map answerWords (answers (after sheet6) answer h (requestsIn ws names m))) ≡ m
-  answers-long h ws m l = length-map (answers (after sheet6) answer h (requestsIn ws names m)) answerWords ∙ length-answers h (requestsIn ws names m) ∙ requests-long ws m l
+  answers-long : (sheet : Sheet) (h : State) (ws : List (List ℕ)) (m : ℕ) → m ≤ length ws → length (map answerWords (answers (after sheet) answer h (requestsIn ws names m))) ≡ m
+  answers-long sheet h ws m l = length-map (answers (after sheet) answer h (requestsIn ws names m)) answerWords ∙ length-answers sheet h (requestsIn ws names m) ∙ requests-long ws m l
 
   -- one request more
   requests-more : (ws : List (List ℕ)) (i : ℕ) (q : Request) → i < length ws → q ≡ requestIn (getD ws i []) names → requestsIn ws names (i + 1) ≡ requestsIn ws names i ++ (q ∷ [])
@@ -47,41 +47,41 @@ module _ (names : List ℕ) where
       ap (requestsIn ws names) (add-one i) ∙ take-suc (map (λ w. requestIn w names) ws) i (requestIn [] names) (omega (arith, length-map ws (λ w. requestIn w names)))
       ∙ ap (λ (x : Request). requestsIn ws names i ++ (x ∷ [])) (List·getD-map (λ w. requestIn w names) ws i [] ∙ sym e)
 
-  pub ran-none : (h : State) (ws out : List (List ℕ)) → Ran h ws names 0 out h out
-  ran-none h ws out = record { state = refl; said = refl }
+  pub ran-none : (sheet : Sheet) (h : State) (ws out : List (List ℕ)) → Ran sheet h ws names 0 out h out
+  ran-none sheet h ws out = record { state = refl; said = refl }
 
-  pub ran-more : (h : State) (ws : List (List ℕ)) (i : ℕ) (out : List (List ℕ)) (h₁ : State) (out₁ : List (List ℕ)) (q : Request) (h₂ : State) (v : List ℕ) → Ran h ws names i out h₁ out₁ → i < length ws → i < length out
-      → q ≡ requestIn (getD ws i []) names → h₂ ≡ after sheet6 h₁ q → v ≡ answerWords (answer h₁ q) → Ran h ws names (i + 1) out h₂ (set out₁ i v)
-  ran-more h ws i out h₁ out₁ q h₂ v r l m e a b = record {
-    state = a ∙ ap (λ (x : State). after sheet6 x q) (r .state) ∙ sym (ap (final (after sheet6) h) more ∙ final-append (after sheet6) h (requestsIn ws names i) (q ∷ []));
-    said = put A out out₁ i v (answers-long h ws i (omega arith)) m (r .said) ∙ ap (λ (x : List (List ℕ)). x ++ drop (i + 1) out) (sym answered);
+  pub ran-more : (sheet : Sheet) (h : State) (ws : List (List ℕ)) (i : ℕ) (out : List (List ℕ)) (h₁ : State) (out₁ : List (List ℕ)) (q : Request) (h₂ : State) (v : List ℕ) → Ran sheet h ws names i out h₁ out₁ → i < length ws → i < length out
+      → q ≡ requestIn (getD ws i []) names → h₂ ≡ after sheet h₁ q → v ≡ answerWords (answer h₁ q) → Ran sheet h ws names (i + 1) out h₂ (set out₁ i v)
+  ran-more sheet h ws i out h₁ out₁ q h₂ v r l m e a b = record {
+    state = a ∙ ap (λ (x : State). after sheet x q) (r .state) ∙ sym (ap (final (after sheet) h) more ∙ final-append (after sheet) h (requestsIn ws names i) (q ∷ []));
+    said = put A out out₁ i v (answers-long sheet h ws i (omega arith)) m (r .said) ∙ ap (λ (x : List (List ℕ)). x ++ drop (i + 1) out) (sym answered);
   }
     where
       A : List (List ℕ)
-      A = map answerWords (answers (after sheet6) answer h (requestsIn ws names i))
+      A = map answerWords (answers (after sheet) answer h (requestsIn ws names i))
 
       more : requestsIn ws names (i + 1) ≡ requestsIn ws names i ++ (q ∷ [])
       more = requests-more ws i q l e
 
-      answered : map answerWords (answers (after sheet6) answer h (requestsIn ws names (i + 1))) ≡ A ++ (v ∷ [])
+      answered : map answerWords (answers (after sheet) answer h (requestsIn ws names (i + 1))) ≡ A ++ (v ∷ [])
       answered =
-          ap (λ (x : List Request). map answerWords (answers (after sheet6) answer h x)) more ∙ ap (map answerWords) (answers-append (after sheet6) answer h (requestsIn ws names i) (q ∷ []))
-          ∙ map-append answerWords (answers (after sheet6) answer h (requestsIn ws names i)) (answer (afterFirst h ws names i) q ∷ [])
+          ap (λ (x : List Request). map answerWords (answers (after sheet) answer h x)) more ∙ ap (map answerWords) (answers-append (after sheet) answer h (requestsIn ws names i) (q ∷ []))
+          ∙ map-append answerWords (answers (after sheet) answer h (requestsIn ws names i)) (answer (afterFirst sheet h ws names i) q ∷ [])
           ∙ ap (λ (x : List ℕ). A ++ (x ∷ [])) (ap (λ (x : State). answerWords (answer x q)) (sym (r .state)) ∙ sym b)
 
 -- on a table out of order
-module _ (h : State) (d : inOrder (h .table) (h .tally .issued) ≡ false) where
-  unchanged : (q : Request) → (after sheet6 h q ≡ h) × (answerWords (answer h q) ≡ one)
+module _ (sheet : Sheet) (h : State) (d : inOrder (h .table) (h .tally .issued) ≡ false) where
+  unchanged : (q : Request) → (after sheet h q ≡ h) × (answerWords (answer h q) ≡ one)
   unfolding judge refusals after answer
   unchanged q = (rw d, rw d)
 
-  all-unchanged : (qs : List Request) → (final (after sheet6) h qs ≡ h) × (map answerWords (answers (after sheet6) answer h qs) ≡ replicate (length qs) one)
+  all-unchanged : (qs : List Request) → (final (after sheet) h qs ≡ h) × (map answerWords (answers (after sheet) answer h qs) ≡ replicate (length qs) one)
   all-unchanged [] = (refl, refl)
   all-unchanged (q ∷ qs) =
       let u = unchanged q in let ih = all-unchanged qs in
-      (ap (λ (x : State). final (after sheet6) x qs) (u .0) ∙ ih .0, ap₂ (λ (x : List ℕ) (l : List (List ℕ)). x ∷ l) (u .1) (ap (λ (x : State). map answerWords (answers (after sheet6) answer x qs)) (u .0) ∙ ih .1))
+      (ap (λ (x : State). final (after sheet) x qs) (u .0) ∙ ih .0, ap₂ (λ (x : List ℕ) (l : List (List ℕ)). x ∷ l) (u .1) (ap (λ (x : State). map answerWords (answers (after sheet) answer x qs)) (u .0) ∙ ih .1))
 
-  pub ran-refused : (ws : List (List ℕ)) (names : List ℕ) (m : ℕ) (out out₁ : List (List ℕ)) → m ≤ length ws → out₁ ≡ replicate m one ++ drop m out → Ran h ws names m out h out₁
+  pub ran-refused : (ws : List (List ℕ)) (names : List ℕ) (m : ℕ) (out out₁ : List (List ℕ)) → m ≤ length ws → out₁ ≡ replicate m one ++ drop m out → Ran sheet h ws names m out h out₁
   ran-refused ws names m out out₁ l q = record {
     state = sym (all-unchanged (requestsIn ws names m) .0);
     said = q ∙ ap (λ (x : List (List ℕ)). x ++ drop m out) (sym (all-unchanged (requestsIn ws names m) .1 ∙ ap (λ (x : ℕ). replicate x one) (requests-long names ws m l)));
@@ -92,8 +92,8 @@ pub refused-more : (i : ℕ) (out out₁ : List (List ℕ)) → i < length out �
 refused-more i out out₁ l q = put (replicate i one) out out₁ i one (length-replicate {A = List ℕ} i one) l q ∙ ap (λ (x : List (List ℕ)). x ++ drop (i + 1) out) (replicate-append-replicate {A = List ℕ} i 1 one)
 
 -- what a batch leaves, part by part
-abbrev pub Left : State → List (List ℕ) → List ℕ → ℕ → List (List ℕ) → List (List ℕ) → List ℕ → List (List ℕ) → Type 0
-Left h ws names m out ws′ w′ out′ = (rowsIn ws′ ≡ afterFirst h ws names m .table) × (tallyIn w′ ≡ afterFirst h ws names m .tally) × (out′ ≡ answersFirst h ws names m out)
+abbrev pub Left : Sheet → State → List (List ℕ) → List ℕ → ℕ → List (List ℕ) → List (List ℕ) → List ℕ → List (List ℕ) → Type 0
+Left sheet h ws names m out ws′ w′ out′ = (rowsIn ws′ ≡ afterFirst sheet h ws names m .table) × (tallyIn w′ ≡ afterFirst sheet h ws names m .tally) × (out′ ≡ answersFirst sheet h ws names m out)
 
-pub left : (h : State) (ws : List (List ℕ)) (names : List ℕ) (m : ℕ) (out ws′ : List (List ℕ)) (w′ : List ℕ) (out′ : List (List ℕ)) → Ran h ws names m out (lent ws′ w′) out′ → Left h ws names m out ws′ w′ out′
-left h ws names m out ws′ w′ out′ r = (ap (λ (x : State). x .table) (r .state), ap (λ (x : State). x .tally) (r .state), r .said)
+pub left : (sheet : Sheet) (h : State) (ws : List (List ℕ)) (names : List ℕ) (m : ℕ) (out ws′ : List (List ℕ)) (w′ : List ℕ) (out′ : List (List ℕ)) → Ran sheet h ws names m out (lent ws′ w′) out′ → Left sheet h ws names m out ws′ w′ out′
+left sheet h ws names m out ws′ w′ out′ r = (ap (λ (x : State). x .table) (r .state), ap (λ (x : State). x .tally) (r .state), r .said)

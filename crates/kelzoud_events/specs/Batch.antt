@@ -6,7 +6,7 @@ use mathlib.Core.List.{List, map, _++_}
 use lib.ListN.{length, take, drop}
 use Rattle.model.specs.Requests.{Request}
 use Rattle.model.specs.Lists.{final, answers}
-use Rattle.model.specs.Sheet6.{sheet6}
+use Rattle.model.specs.declared.Sheet.{Sheet}
 use Rattle.model.specs.Step.{State, after, answer}
 use Rattle.kelzoud_events.specs.Interface.{answerWords, requestIn}
 
@@ -14,25 +14,26 @@ use Rattle.kelzoud_events.specs.Interface.{answerWords, requestIn}
 abbrev pub requestsIn : List (List ℕ) → List ℕ → ℕ → List Request
 requestsIn events names m = take m (map (λ w. requestIn w names) events)
 
--- the state after them, by card 6's sheet: one that is refused stops nothing
-abbrev pub afterFirst : State → List (List ℕ) → List ℕ → ℕ → State
-afterFirst h events names m = final (after sheet6) h (requestsIn events names m)
-
--- the list that is lent for answers: theirs first, and the entries behind as they were
-abbrev pub answersFirst : State → List (List ℕ) → List ℕ → ℕ → List (List ℕ) → List (List ℕ)
-answersFirst h events names m out = map answerWords (answers (after sheet6) answer h (requestsIn events names m)) ++ drop m out
-
 -- a batch takes as many events as there are entries for answers
 abbrev pub taken : List (List ℕ) → List (List ℕ) → ℕ
 taken events out = min (length events) (length out)
 
-abbrev pub afterAll : State → List (List ℕ) → List ℕ → List (List ℕ) → State
-afterAll h events names out = afterFirst h events names (taken events out)
+module _ (sheet : Sheet) where
+  -- the state after them, by a sheet: one that is refused stops nothing
+  abbrev pub afterFirst : State → List (List ℕ) → List ℕ → ℕ → State
+  afterFirst h events names m = final (after sheet) h (requestsIn events names m)
 
-abbrev pub answersAll : State → List (List ℕ) → List ℕ → List (List ℕ) → List (List ℕ)
-answersAll h events names out = answersFirst h events names (taken events out) out
+  -- the list that is lent for answers: theirs first, and the entries behind as they were
+  abbrev pub answersFirst : State → List (List ℕ) → List ℕ → ℕ → List (List ℕ) → List (List ℕ)
+  answersFirst h events names m out = map answerWords (answers (after sheet) answer h (requestsIn events names m)) ++ drop m out
 
--- The rest is for the functions below the call: m requests leave the state h′, and out′ where out was lent.
-pub record Ran (h : State) (events : List (List ℕ)) (names : List ℕ) (m : ℕ) (out : List (List ℕ)) (h′ : State) (out′ : List (List ℕ)) : Type 0 where
-  pub state : h′ ≡ afterFirst h events names m
-  pub said : out′ ≡ answersFirst h events names m out
+  abbrev pub afterAll : State → List (List ℕ) → List ℕ → List (List ℕ) → State
+  afterAll h events names out = afterFirst h events names (taken events out)
+
+  abbrev pub answersAll : State → List (List ℕ) → List ℕ → List (List ℕ) → List (List ℕ)
+  answersAll h events names out = answersFirst h events names (taken events out) out
+
+  -- The rest is for the functions below the call: m requests leave the state h′, and out′ where out was lent.
+  pub record Ran (h : State) (events : List (List ℕ)) (names : List ℕ) (m : ℕ) (out : List (List ℕ)) (h′ : State) (out′ : List (List ℕ)) : Type 0 where
+    pub state : h′ ≡ afterFirst h events names m
+    pub said : out′ ≡ answersFirst h events names m out

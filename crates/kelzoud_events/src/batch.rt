@@ -7,6 +7,7 @@ use model::Answer;
 use model::Tally;
 use rules::steps::take;
 use table::Row;
+use table::SheetBytes;
 use table::lent::set_tally;
 use table::lent::tally_at;
 use table::ordered::Look;
@@ -17,6 +18,7 @@ ghost use Prim.Native.Nat.{_<_, _≤_, min};
 ghost use lib.ListN.{length, getD, set, drop, replicate};
 ghost use Rattle.model.specs.Answers.{verdictOf};
 ghost use Rattle.table.specs.Words.{rowsIn};
+ghost use Rattle.table.specs.Sheets.{sheetIn};
 ghost use Rattle.table.specs.Lent.{tallyIn, lent};
 ghost use Rattle.table.specs.Known.{Known};
 ghost use Rattle.rules.specs.Steps.{lends};
@@ -51,13 +53,14 @@ fn take_turns(
     live: usize,
     places: &mut [u16; 1024],
     t: Tally,
+    sheet: &SheetBytes,
     events: &[Words],
     names: &[u32],
     m: usize,
     answers: &mut [[u32; 2]],
 ) -> Tally
     requires { ⌜ Known (now table) live (t .issued) (now places) × (m ≤ length (now events)) × (m ≤ length (now answers)) ⌝ }
-    ensures { λ r. ⌜ Ran (lends (rowsIn (now (table .entry))) t) (now (events .entry)) (now (names .entry)) m (now (answers .entry)) (lends (rowsIn (now (table .exit))) r) (now (answers .exit)) ⌝ }
+    ensures { λ r. ⌜ Ran (sheetIn (now (sheet .entry))) (lends (rowsIn (now (table .entry))) t) (now (events .entry)) (now (names .entry)) m (now (answers .entry)) (lends (rowsIn (now (table .exit))) r) (now (answers .exit)) ⌝ }
 {
     let mut tally = t;
     let mut alive = live;
@@ -66,7 +69,7 @@ fn take_turns(
         let words = words_at(events, i);
         let asked = asked_in(words);
         let part = names_in(words, names);
-        let p = take(table, alive, places, tally, asked, part);
+        let p = take(table, alive, places, tally, sheet, asked, part);
         let outcome = p.outcome;
         let after = outcome.tally;
         let answer = outcome.answer;
@@ -90,17 +93,18 @@ fn refuse_all(answers: &mut [[u32; 2]], m: usize)
     }
 }
 
-// As many events as there are answers for, on the table and the tally that are lent; the answer is how many.
+// As many events as there are answers for, on the table and the tally that are lent, by a sheet; the answer is how many.
 pub fn apply_all(
     table: &mut [Row],
     tally: &mut [u32; 7],
+    sheet: &SheetBytes,
     events: &[Words],
     names: &[u32],
     answers: &mut [[u32; 2]],
 ) -> usize
-    ensures { λ r. ⌜ (rowsIn (now (table .exit)) ≡ afterAll (lent (now (table .entry)) (now (tally .entry))) (now (events .entry)) (now (names .entry)) (now (answers .entry)) .table)
-        × (tallyIn (now (tally .exit)) ≡ afterAll (lent (now (table .entry)) (now (tally .entry))) (now (events .entry)) (now (names .entry)) (now (answers .entry)) .tally)
-        × (now (answers .exit) ≡ answersAll (lent (now (table .entry)) (now (tally .entry))) (now (events .entry)) (now (names .entry)) (now (answers .entry)))
+    ensures { λ r. ⌜ (rowsIn (now (table .exit)) ≡ afterAll (sheetIn (now (sheet .entry))) (lent (now (table .entry)) (now (tally .entry))) (now (events .entry)) (now (names .entry)) (now (answers .entry)) .table)
+        × (tallyIn (now (tally .exit)) ≡ afterAll (sheetIn (now (sheet .entry))) (lent (now (table .entry)) (now (tally .entry))) (now (events .entry)) (now (names .entry)) (now (answers .entry)) .tally)
+        × (now (answers .exit) ≡ answersAll (sheetIn (now (sheet .entry))) (lent (now (table .entry)) (now (tally .entry))) (now (events .entry)) (now (names .entry)) (now (answers .entry)))
         × (r ≡ taken (now (events .entry)) (now (answers .entry))) ⌝ }
 {
     let m = fewer(events.len(), answers.len());
@@ -109,7 +113,17 @@ pub fn apply_all(
     let found = look_at(table, t.issued, &mut places);
     match found {
         Look::InOrder(live) => {
-            let after = take_turns(table, live, &mut places, t, events, names, m, answers);
+            let after = take_turns(
+                table,
+                live,
+                &mut places,
+                t,
+                sheet,
+                events,
+                names,
+                m,
+                answers,
+            );
             set_tally(tally, after);
             m
         }

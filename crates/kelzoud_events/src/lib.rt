@@ -5,10 +5,11 @@ use crate::events::asked_in;
 use crate::events::names_in;
 use rules::lent::apply;
 use table::Row;
+use table::sheets::sheet_lent;
 ghost use mathlib.Core.Path.{_≡_};
-ghost use Rattle.model.specs.Sheet6.{sheet6};
 ghost use Rattle.model.specs.Step;
 ghost use Rattle.table.specs.Words.{rowsIn};
+ghost use Rattle.table.specs.Sheets.{sheetLent};
 ghost use Rattle.table.specs.Lent.{tallyIn, lent};
 ghost use Rattle.kelzoud_events.specs.Interface.{packedVerdict, requestIn};
 ghost use Rattle.kelzoud_events.specs.Batch.{taken, afterAll, answersAll};
@@ -17,38 +18,42 @@ pub mod answers;
 mod batch;
 pub mod events;
 
-// One event on the table and the tally that are lent. The names are those that it may point to.
+// One event on the table and the tally that are lent, by the sheet that is lent, card 6's where no byte of one is. The names are those that it may point to.
 #[no_mangle]
 pub extern "C" fn kz_abi_apply(
     table: &mut [Row],
     tally: &mut [u32; 7],
+    sheet: &[u8],
     event: &Words,
     names: &[u32],
 ) -> u64
-    ensures { λ r. ⌜ (rowsIn (now (table .exit)) ≡ Step.after sheet6 (lent (now (table .entry)) (now (tally .entry))) (requestIn (now (event .entry)) (now (names .entry))) .table)
-        × (tallyIn (now (tally .exit)) ≡ Step.after sheet6 (lent (now (table .entry)) (now (tally .entry))) (requestIn (now (event .entry)) (now (names .entry))) .tally)
+    ensures { λ r. ⌜ (rowsIn (now (table .exit)) ≡ Step.after (sheetLent (now (sheet .entry))) (lent (now (table .entry)) (now (tally .entry))) (requestIn (now (event .entry)) (now (names .entry))) .table)
+        × (tallyIn (now (tally .exit)) ≡ Step.after (sheetLent (now (sheet .entry))) (lent (now (table .entry)) (now (tally .entry))) (requestIn (now (event .entry)) (now (names .entry))) .tally)
         × (r ≡ packedVerdict (Step.answer (lent (now (table .entry)) (now (tally .entry))) (requestIn (now (event .entry)) (now (names .entry))))) ⌝ }
 {
     let words = *event;
     let asked = asked_in(words);
     let part = names_in(words, names);
-    let answer = apply(table, tally, asked, part);
+    let bytes = sheet_lent(sheet);
+    let answer = apply(table, tally, &bytes, asked, part);
     packed_answer(answer)
 }
 
-// As many events in turn as there are answers for, refused ones too; the answer is how many.
+// In the same way as many events in turn as there are answers for, refused ones too; the answer is how many.
 #[no_mangle]
 pub extern "C" fn kz_abi_apply_all(
     table: &mut [Row],
     tally: &mut [u32; 7],
+    sheet: &[u8],
     events: &[Words],
     names: &[u32],
     answers: &mut [[u32; 2]],
 ) -> usize
-    ensures { λ r. ⌜ (rowsIn (now (table .exit)) ≡ afterAll (lent (now (table .entry)) (now (tally .entry))) (now (events .entry)) (now (names .entry)) (now (answers .entry)) .table)
-        × (tallyIn (now (tally .exit)) ≡ afterAll (lent (now (table .entry)) (now (tally .entry))) (now (events .entry)) (now (names .entry)) (now (answers .entry)) .tally)
-        × (now (answers .exit) ≡ answersAll (lent (now (table .entry)) (now (tally .entry))) (now (events .entry)) (now (names .entry)) (now (answers .entry)))
+    ensures { λ r. ⌜ (rowsIn (now (table .exit)) ≡ afterAll (sheetLent (now (sheet .entry))) (lent (now (table .entry)) (now (tally .entry))) (now (events .entry)) (now (names .entry)) (now (answers .entry)) .table)
+        × (tallyIn (now (tally .exit)) ≡ afterAll (sheetLent (now (sheet .entry))) (lent (now (table .entry)) (now (tally .entry))) (now (events .entry)) (now (names .entry)) (now (answers .entry)) .tally)
+        × (now (answers .exit) ≡ answersAll (sheetLent (now (sheet .entry))) (lent (now (table .entry)) (now (tally .entry))) (now (events .entry)) (now (names .entry)) (now (answers .entry)))
         × (r ≡ taken (now (events .entry)) (now (answers .entry))) ⌝ }
 {
-    batch::apply_all(table, tally, events, names, answers)
+    let bytes = sheet_lent(sheet);
+    batch::apply_all(table, tally, &bytes, events, names, answers)
 }

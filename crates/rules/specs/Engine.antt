@@ -11,16 +11,15 @@ use Rattle.model.specs.declared.Cap.{Cap}
 use Rattle.model.specs.declared.Access.{Access}
 use Rattle.model.specs.Lists.{consIf, any}
 use Rattle.model.specs.Values.{touches}
-use Rattle.model.specs.declared.Effect.{Effect}
-use Rattle.model.specs.declared.Effect.the-variants.{Keep, Lower, End}
+use Rattle.model.specs.declared.Sheet.{Sheet}
 use Rattle.model.specs.declared.Origin.{Origin}
 use Rattle.model.specs.declared.Origin.the-variants.{Cell, Kin, Stranger}
 use Rattle.model.specs.Derivation.{ancestry, inSubtree}
 use Rattle.model.specs.Strike.{isCell, resultOf, inOtherCell, nearestCell}
-use Rattle.model.specs.Sheet6.{sheet6}
 use Rattle.model.specs.Table.{emptyRow, span, derivation, derivations, named, lentTable}
 use Rattle.model.specs.Effects.{lowered}
 use Rattle.table.specs.Words.{rowsIn}
+use Rattle.table.specs.Sheets.{weight}
 use Rattle.table.specs.Rows.{nameAt, parentAt, before, Front, Places, LiveRows}
 
 -- a table whose first k rows are live, and the others zeros
@@ -73,11 +72,6 @@ pub record Related (T : List Cap) (k u : ℕ) (inCell : Bool) (relation : List �
 
 -- ---- marks: 0 keep, 1 lower, 2 end
 
-abbrev pub weight : Effect → ℕ
-weight Keep = 0
-weight Lower = 1
-weight End = 2
-
 -- the mark of a name
 abbrev pub mark : (ℕ → Bool) → (ℕ → Bool) → ℕ → ℕ
 mark ends lowers x = cond (ends x) 2 (cond (lowers x) 1 0)
@@ -89,13 +83,13 @@ pub record Marked (T : List Cap) (k : ℕ) (marks : List ℕ) (ends lowers : ℕ
 abbrev pub originOf : Bool → Bool → Origin
 originOf apart kin = cond apart Cell (cond kin Kin Stranger)
 
--- a holder's own mark, by card 6's sheet
-abbrev pub own : Access → Span → Cap → Bool → ℕ → Bool → ℕ
-own a s c inCell relation kin = cond (touches s (span c) && not (eqb relation 1)) (weight (resultOf sheet6 (c .kind) a (originOf (isApart inCell relation) kin))) 0
+-- a holder's own mark, by a sheet
+abbrev pub own : Sheet → Access → Span → Cap → Bool → ℕ → Bool → ℕ
+own sheet a s c inCell relation kin = cond (touches s (span c) && not (eqb relation 1)) (weight (resultOf sheet (c .kind) a (originOf (isApart inCell relation) kin))) 0
 
 -- the own marks of an access to s: kin are those whose parent is on the user's ancestry
-abbrev pub ownOfAccess : List Cap → Bool → List ℕ → List ℕ → Access → Span → ℕ → ℕ
-ownOfAccess T inCell relation places a s i = own a s (getD T i emptyRow) inCell (getD relation i 0) (eqb (valueBelow relation (getD places i 0) i) 1)
+abbrev pub ownOfAccess : Sheet → List Cap → Bool → List ℕ → List ℕ → Access → Span → ℕ → ℕ
+ownOfAccess sheet T inCell relation places a s i = own sheet a s (getD T i emptyRow) inCell (getD relation i 0) (eqb (valueBelow relation (getD places i 0) i) 1)
 
 -- those of names dropped together: 2 at each of them
 abbrev pub ownOfNames : List Cap → List ℕ → ℕ → ℕ
@@ -120,6 +114,10 @@ pub record Spared (T : List Cap) (k : ℕ) (relation : List ℕ) (s : Span) (r :
 pub record Quiet (k first : ℕ) (marks : List ℕ) : Type 0 where
   pub fits : first ≤ k
   pub zero : (j : ℕ) → j < first → getD marks j 0 ≡ 0
+
+-- no mark of the first k rows is above r
+pub record Most (k : ℕ) (marks : List ℕ) (r : ℕ) : Type 0 where
+  pub each : (j : ℕ) → j < k → getD marks j 0 ≤ r
 
 -- the rows in front of `first` stay where they are
 pub record Stays (first : ℕ) (places : List ℕ) : Type 0 where

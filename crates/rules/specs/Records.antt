@@ -6,6 +6,7 @@ use mathlib.Core.Bool.{cond}
 use mathlib.Core.List.{List}
 use lib.Dec.{leb}
 use lib.ListN.{length, take}
+use Rattle.model.specs.declared.Sheet.{Sheet}
 use Rattle.model.specs.declared.Tally.{Tally}
 use Rattle.model.specs.Requests.{Request}
 use Rattle.model.specs.Answers.{verdictOf}
@@ -16,8 +17,8 @@ use Rattle.rules.specs.Steps.{Stepped}
 abbrev pub held : ℕ → ℕ
 held n = cond (leb n 1024) n 0
 
--- a request on the first n of the rows ws leaves the rows ws′, and gets this outcome: above 1,024 it is refusal 1, and the tally stays
-pub record Requested (ws : List (List ℕ)) (n : ℕ) (t : Tally) (q : Request) (ws′ : List (List ℕ)) (r : Outcome) : Type 0 where
+-- by a sheet, a request on the first n of the rows ws leaves the rows ws′, and gets this outcome: above 1,024 it is refusal 1, and the tally stays
+pub record Requested (sheet : Sheet) (ws : List (List ℕ)) (n : ℕ) (t : Tally) (q : Request) (ws′ : List (List ℕ)) (r : Outcome) : Type 0 where
   pub long : length ws′ ≡ length ws
-  pub few : n ≤ 1024 → Stepped (take n ws) t q (take n ws′) r
+  pub few : n ≤ 1024 → Stepped sheet (take n ws) t q (take n ws′) r
   pub many : 1024 < n → (r .tally ≡ t) × (verdictOf (r .answer) ≡ record { refusal = 1; name = 0 })

@@ -3,24 +3,31 @@ use crate::steps::step;
 use model::Answer;
 use model::Asked;
 use table::Row;
+use table::SheetBytes;
 use table::lent::set_tally;
 use table::lent::tally_at;
 ghost use mathlib.Core.Path.{_≡_};
-ghost use Rattle.model.specs.Sheet6.{sheet6};
 ghost use Rattle.model.specs.Step;
 ghost use Rattle.model.specs.Requests.{requestOf};
 ghost use Rattle.model.specs.Answers.{verdictOf};
 ghost use Rattle.table.specs.Words.{rowsIn};
+ghost use Rattle.table.specs.Sheets.{sheetIn};
 ghost use Rattle.table.specs.Lent.{tallyIn, lent};
 
-// A request on the table and the tally that are lent; the names are those of names dropped together.
-pub fn apply(table: &mut [Row], tally: &mut [u32; 7], asked: Asked, names: &[u32]) -> Answer
-    ensures { λ r. ⌜ (rowsIn (now (table .exit)) ≡ Step.after sheet6 (lent (now (table .entry)) (now (tally .entry))) (requestOf asked (now (names .entry))) .table)
-        × (tallyIn (now (tally .exit)) ≡ Step.after sheet6 (lent (now (table .entry)) (now (tally .entry))) (requestOf asked (now (names .entry))) .tally)
+// A request on the table and the tally that are lent, by a sheet; the names are those of names dropped together.
+pub fn apply(
+    table: &mut [Row],
+    tally: &mut [u32; 7],
+    sheet: &SheetBytes,
+    asked: Asked,
+    names: &[u32],
+) -> Answer
+    ensures { λ r. ⌜ (rowsIn (now (table .exit)) ≡ Step.after (sheetIn (now (sheet .entry))) (lent (now (table .entry)) (now (tally .entry))) (requestOf asked (now (names .entry))) .table)
+        × (tallyIn (now (tally .exit)) ≡ Step.after (sheetIn (now (sheet .entry))) (lent (now (table .entry)) (now (tally .entry))) (requestOf asked (now (names .entry))) .tally)
         × (verdictOf r ≡ Step.answer (lent (now (table .entry)) (now (tally .entry))) (requestOf asked (now (names .entry)))) ⌝ }
 {
     let t = tally_at(tally);
-    let out = step(table, t, asked, names);
+    let out = step(table, t, sheet, asked, names);
     let after = out.tally;
     set_tally(tally, after);
     let answer = out.answer;

@@ -1,42 +1,35 @@
 // What an access or a drop takes: a mark for each row, 0 keep, 1 lower, 2 end.
 use model::Access;
 use model::Cap;
+use model::Origin;
 use model::Span;
 use table::Row;
+use table::SheetBytes;
 use table::find::find;
 use table::ordered::wide;
+use table::sheets::result_at;
 use table::spans::do_touch;
 use table::spans::span_of;
 use table::words::row_at;
 ghost use mathlib.Core.Path.{_≡_};
 ghost use mathlib.Core.Bool.{not, cond, _&&_};
-ghost use Rattle.model.specs.Sheet6.{sheet6};
-ghost use Rattle.model.specs.Strike.{resultOf};
 ghost use Rattle.model.specs.Values.{touches};
 ghost use Prim.Native.Nat.{_<_, _≤_, max};
 ghost use lib.Dec.{eqb};
 ghost use lib.ListN.{length, getD, replicate};
 ghost use Rattle.table.specs.Words.{rowsIn};
+ghost use Rattle.table.specs.Sheets.{sheetIn};
 ghost use Rattle.table.specs.Rows.{Rise, Places, LiveRows};
-ghost use Rattle.rules.specs.Engine.{OnAncestry, NearestAt, nearerOf, valueBelow, insideOf, SetInside, isApart, Related, weight, originOf, own, ownOfAccess, Owned, Spread, Spared, Quiet};
+ghost use Rattle.rules.specs.Engine.{OnAncestry, NearestAt, nearerOf, valueBelow, insideOf, SetInside, isApart, Related, originOf, own, ownOfAccess, Owned, Spread, Spared, Quiet, Most};
 
-// What card 6's sheet gives a holder of a kind: by whether the access comes from a cell that it is not under, or else from its kin.
-fn effect_mark(a: Access, kind: u32, apart: bool, kin: bool) -> u8
-    ensures { λ r. ⌜ r ≡ weight (resultOf sheet6 kind a (originOf apart kin)) ⌝ }
+// Where an access comes from: a cell that the holder is not under, or else its kin, or else a stranger.
+fn origin_of(apart: bool, kin: bool) -> Origin
+    ensures { λ r. ⌜ r ≡ originOf apart kin ⌝ }
 {
-    match a {
-        Access::Reading => if kind == 1 { 0 } else { 1 },
-        Access::Writing => {
-            if apart {
-                return 0;
-            }
-            if kin {
-                if kind == 1 { 0 } else { 2 }
-            } else {
-                2
-            }
-        }
+    if apart {
+        return Origin::Cell;
     }
+    if kin { Origin::Kin } else { Origin::Stranger }
 }
 
 fn larger(a: u8, b: u8) -> u8
@@ -138,15 +131,24 @@ fn is_apart(in_cell: bool, relation: u8) -> bool
     if in_cell { relation != 2 } else { false }
 }
 
-// A holder's own mark: what an access to s gives it.
-fn own_mark(a: Access, s: Span, c: Cap, in_cell: bool, relation: u8, kin: bool) -> u8
-    ensures { λ r. ⌜ r ≡ own a s c «in_cell» relation kin ⌝ }
+// A holder's own mark: what an access to s gives it by a sheet.
+fn own_mark(
+    sheet: &SheetBytes,
+    a: Access,
+    s: Span,
+    c: Cap,
+    in_cell: bool,
+    relation: u8,
+    kin: bool,
+) -> u8
+    ensures { λ r. ⌜ r ≡ own (sheetIn (now (sheet .entry))) a s c «in_cell» relation kin ⌝ }
 {
     if relation == 1 {
         return 0;
     }
     if do_touch(s, span_of(c)) {
-        effect_mark(a, c.kind, is_apart(in_cell, relation), kin)
+        let from = origin_of(is_apart(in_cell, relation), kin);
+        result_at(sheet, c.kind, a, from)
     } else {
         0
     }
@@ -184,6 +186,7 @@ pub(crate) fn first_struck(table: &[Row], k: usize, relation: &[u8; 1024], s: Sp
 }
 
 // Each row's mark is the greater of its own and its parent's: an access to s. Those in front of the first that is struck have none.
+// The answer is the greatest mark.
 pub(crate) fn spread_access(
     table: &[Row],
     first: usize,
@@ -191,23 +194,28 @@ pub(crate) fn spread_access(
     places: &[u16; 1024],
     relation: &[u8; 1024],
     in_cell: bool,
+    sheet: &SheetBytes,
     a: Access,
     s: Span,
     marks: &mut [u8; 1024],
-)
+) -> u8
     requires { ⌜ (k ≤ 1024) × Rise (rowsIn (now table)) k × Places (rowsIn (now table)) k (now places) × Spared (rowsIn (now table)) k (now relation) s first × (now marks ≡ replicate 1024 0) ⌝ }
-    ensures { λ _. ⌜ Spread (rowsIn (now (table .entry))) k (ownOfAccess (rowsIn (now (table .entry))) «in_cell» (now (relation .entry)) (now (places .entry)) a s) (now (marks .exit)) × Quiet k first (now (marks .exit)) ⌝ }
+    ensures { λ r. ⌜ Spread (rowsIn (now (table .entry))) k (ownOfAccess (sheetIn (now (sheet .entry))) (rowsIn (now (table .entry))) «in_cell» (now (relation .entry)) (now (places .entry)) a s) (now (marks .exit)) × Quiet k first (now (marks .exit)) × Most k (now (marks .exit)) r ⌝ }
 {
+    let mut most: u8 = 0;
     let mut i = first;
     while i < k {
         let c = row_at(table, i);
         let q = wide(places[i]);
         let kin = mark_below(relation, q, i) == 1;
-        let owned = own_mark(a, s, c, in_cell, relation[i], kin);
+        let owned = own_mark(sheet, a, s, c, in_cell, relation[i], kin);
         let up = mark_below(marks, q, i);
-        marks[i] = larger(owned, up);
+        let mark = larger(owned, up);
+        marks[i] = mark;
+        most = larger(most, mark);
         i += 1;
     }
+    most
 }
 
 // The rows of names have 2. A name that is not there is noted behind the rows.

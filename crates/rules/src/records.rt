@@ -6,20 +6,23 @@ use model::Answer;
 use model::Asked;
 use model::Cap;
 use model::Refusal;
+use model::Sheet;
 use model::Tally;
 use table::Row;
+use table::SheetBytes;
 use table::WIDTH;
+use table::sheets::bytes_of;
 use table::words::row_at;
 use table::words::set_row;
 ghost use mathlib.Core.Path.{_≡_};
 ghost use mathlib.Core.List.{_++_, map};
 ghost use Prim.Native.Nat.{_<_, _≤_};
 ghost use lib.ListN.{length, getD, set, take, drop};
-ghost use Rattle.model.specs.Sheet6.{sheet6};
 ghost use Rattle.model.specs.Step;
 ghost use Rattle.model.specs.Table.{emptyRow};
 ghost use Rattle.model.specs.Answers.{verdictOf};
 ghost use Rattle.table.specs.Words.{wordsOf, rowsIn};
+ghost use Rattle.table.specs.Sheets.{sheetIn};
 ghost use Rattle.model.specs.Requests.{requestOf};
 ghost use Rattle.rules.specs.Steps.{lends};
 ghost use Rattle.rules.specs.Records;
@@ -73,12 +76,19 @@ fn store(table: &mut [Cap], n: usize, rows: &[Row; 1024])
 }
 
 // What is asked, on the first n of 1,024 rows; above 1,024 it is refusal 1.
-fn request_first(rows: &mut [Row], n: usize, t: Tally, asked: Asked, names: &[u32]) -> Outcome
+fn request_first(
+    rows: &mut [Row],
+    n: usize,
+    t: Tally,
+    sheet: &SheetBytes,
+    asked: Asked,
+    names: &[u32],
+) -> Outcome
     requires { ⌜ length (now rows) ≡ 1024 ⌝ }
-    ensures { λ r. ⌜ Requested (now (rows .entry)) n t (requestOf asked (now (names .entry))) (now (rows .exit)) r ⌝ }
+    ensures { λ r. ⌜ Requested (sheetIn (now (sheet .entry))) (now (rows .entry)) n t (requestOf asked (now (names .entry))) (now (rows .exit)) r ⌝ }
 {
     if n <= 1024 {
-        return step(&mut rows[..n], t, asked, names);
+        return step(&mut rows[..n], t, sheet, asked, names);
     }
     Outcome {
         tally: t,
@@ -87,24 +97,38 @@ fn request_first(rows: &mut [Row], n: usize, t: Tally, asked: Asked, names: &[u3
 }
 
 // The same, on a whole array.
-fn request_held(rows: &mut [Row; 1024], n: usize, t: Tally, asked: Asked, names: &[u32]) -> Outcome
+fn request_held(
+    rows: &mut [Row; 1024],
+    n: usize,
+    t: Tally,
+    sheet: Sheet,
+    asked: Asked,
+    names: &[u32],
+) -> Outcome
     requires { ⌜ length (now rows) ≡ 1024 ⌝ }
-    ensures { λ r. ⌜ Requested (now (rows .entry)) n t (requestOf asked (now (names .entry))) (now (rows .exit)) r ⌝ }
+    ensures { λ r. ⌜ Requested sheet (now (rows .entry)) n t (requestOf asked (now (names .entry))) (now (rows .exit)) r ⌝ }
 {
-    request_first(rows, n, t, asked, names)
+    let bytes = bytes_of(sheet);
+    request_first(rows, n, t, &bytes, asked, names)
 }
 
-// A request on the table and the tally that are lent; the names are those of names dropped together.
-pub fn apply(table: &mut [Cap], tally: &mut Tally, asked: Asked, names: &[u32]) -> Answer
-    ensures { λ r. ⌜ (now (table .exit) ≡ Step.after sheet6 (lends (now (table .entry)) (now (tally .entry))) (requestOf asked (now (names .entry))) .table)
-        × (now (tally .exit) ≡ Step.after sheet6 (lends (now (table .entry)) (now (tally .entry))) (requestOf asked (now (names .entry))) .tally)
+// A request on the table and the tally that are lent, by a sheet; the names are those of names dropped together.
+pub fn apply(
+    table: &mut [Cap],
+    tally: &mut Tally,
+    sheet: Sheet,
+    asked: Asked,
+    names: &[u32],
+) -> Answer
+    ensures { λ r. ⌜ (now (table .exit) ≡ Step.after sheet (lends (now (table .entry)) (now (tally .entry))) (requestOf asked (now (names .entry))) .table)
+        × (now (tally .exit) ≡ Step.after sheet (lends (now (table .entry)) (now (tally .entry))) (requestOf asked (now (names .entry))) .tally)
         × (verdictOf r ≡ Step.answer (lends (now (table .entry)) (now (tally .entry))) (requestOf asked (now (names .entry)))) ⌝ }
 {
     let mut rows = [[0u32; WIDTH]; 1024];
     let n = table.len();
     let m = held(n);
     load(table, m, &mut rows);
-    let out = request_held(&mut rows, n, *tally, asked, names);
+    let out = request_held(&mut rows, n, *tally, sheet, asked, names);
     store(table, m, &rows);
     *tally = out.tally;
     out.answer

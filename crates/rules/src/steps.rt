@@ -21,6 +21,7 @@ use model::Refusal;
 use model::Span;
 use model::Tally;
 use table::Row;
+use table::SheetBytes;
 use table::find::find;
 use table::ordered::Look;
 use table::ordered::look_at;
@@ -38,11 +39,11 @@ ghost use Rattle.model.specs.Effects.{afterAccess, rowsWithout, rowsAfter};
 ghost use Rattle.model.specs.Refusals;
 ghost use Rattle.model.specs.Refusals.{viewOf};
 ghost use Rattle.model.specs.Requests.{Single, requestOf};
-ghost use Rattle.model.specs.Sheet6.{sheet6};
 ghost use Rattle.table.specs.Words.{rowsIn};
+ghost use Rattle.table.specs.Sheets.{sheetIn};
 ghost use Rattle.table.specs.Rows.{before, Rise, Found, Places, Orderly};
 ghost use Rattle.table.specs.Known.{Known};
-ghost use Rattle.rules.specs.Engine.{Ready, Settled};
+ghost use Rattle.rules.specs.Engine.{Ready, Downward, Quiet, Most, kept, Settled};
 ghost use Rattle.rules.specs.Steps.{Stepped};
 
 // The row of a new capability.
@@ -81,50 +82,56 @@ fn depth_at(table: &[Row], k: usize, u: u32, q: usize) -> u32
     c.depth
 }
 
-// A read through the name u. No row ends, so each parent stays where it is.
-fn read_rows(table: &mut [Row], k: usize, places: &[u16; 1024], u: u32, s: Span)
-    requires { ⌜ Ready (now table) k × Places (rowsIn (now table)) k (now places) ⌝ }
-    ensures { λ _. ⌜ Settled (rowsIn (now (table .exit))) (length (now (table .entry))) k (afterAccess sheet6 Access.Reading u s (before (rowsIn (now (table .entry))) k)) (now (places .entry)) ⌝ }
+// The first k rows after their marks, of which none is above `most`; the answer is how many are left. Where no row ends, each parent stays
+// where it is.
+fn revoke_rows(
+    table: &mut [Row],
+    first: usize,
+    k: usize,
+    marks: &[u8; 1024],
+    most: u8,
+    places: &mut [u16; 1024],
+) -> usize
+    requires { ⌜ Ready (now table) k × Places (rowsIn (now table)) k (now places) × Downward (rowsIn (now table)) k (now marks) × Quiet k first (now marks) × Most k (now marks) most ⌝ }
+    ensures { λ r. ⌜ Settled (rowsIn (now (table .exit))) (length (now (table .entry))) r (kept (now (marks .entry)) (rowsIn (now (table .entry))) k) (now (places .exit)) ⌝ }
 {
-    let mut relation = [0u8; 1024];
-    let in_cell = relate(table, k, places, u, &mut relation);
-    let first = first_struck(table, k, &relation, s);
-    let mut marks = [0u8; 1024];
-    spread_access(
-        table,
-        first,
-        k,
-        places,
-        &relation,
-        in_cell,
-        Access::Reading,
-        s,
-        &mut marks,
-    );
-    lower(table, first, k, &marks);
+    if most < 2 {
+        lower(table, first, k, marks);
+        return k;
+    }
+    settle(table, first, k, marks, places)
 }
 
-// A write through the name u.
-fn write_rows(table: &mut [Row], k: usize, places: &mut [u16; 1024], u: u32, s: Span) -> usize
+// A read or write through the name u.
+fn access_rows(
+    table: &mut [Row],
+    k: usize,
+    places: &mut [u16; 1024],
+    sheet: &SheetBytes,
+    a: Access,
+    u: u32,
+    s: Span,
+) -> usize
     requires { ⌜ Ready (now table) k × Places (rowsIn (now table)) k (now places) ⌝ }
-    ensures { λ r. ⌜ Settled (rowsIn (now (table .exit))) (length (now (table .entry))) r (afterAccess sheet6 Access.Writing u s (before (rowsIn (now (table .entry))) k)) (now (places .exit)) ⌝ }
+    ensures { λ r. ⌜ Settled (rowsIn (now (table .exit))) (length (now (table .entry))) r (afterAccess (sheetIn (now (sheet .entry))) a u s (before (rowsIn (now (table .entry))) k)) (now (places .exit)) ⌝ }
 {
     let mut relation = [0u8; 1024];
     let in_cell = relate(table, k, places, u, &mut relation);
     let first = first_struck(table, k, &relation, s);
     let mut marks = [0u8; 1024];
-    spread_access(
+    let most = spread_access(
         table,
         first,
         k,
         places,
         &relation,
         in_cell,
-        Access::Writing,
+        sheet,
+        a,
         s,
         &mut marks,
     );
-    settle(table, first, k, &marks, places)
+    revoke_rows(table, first, k, &marks, most, places)
 }
 
 // Names dropped together.
@@ -146,16 +153,17 @@ fn change_event(
     table: &mut [Row],
     k: usize,
     places: &mut [u16; 1024],
+    sheet: &SheetBytes,
     issued: u32,
     e: Event,
 ) -> usize
     requires { ⌜ Orderly (rowsIn (now table)) (length (now table)) k issued × (Refusals.judge (viewOf (rowsIn (now table)) issued) (Single e) ≡ 0) × Places (rowsIn (now table)) k (now places) ⌝ }
-    ensures { λ r. ⌜ Settled (rowsIn (now (table .exit))) (length (now (table .entry))) r (rowsAfter sheet6 issued (before (rowsIn (now (table .entry))) k) (Single e)) (now (places .exit)) ⌝ }
+    ensures { λ r. ⌜ Settled (rowsIn (now (table .exit))) (length (now (table .entry))) r (rowsAfter (sheetIn (now (sheet .entry))) issued (before (rowsIn (now (table .entry))) k) (Single e)) (now (places .exit)) ⌝ }
 {
     match e {
         Event::Create(_, s, r) => {
             let c = new_row(issued + 1, 0, s, r as u32, 1, 0);
-            let left = write_rows(table, k, places, issued + 1, s);
+            let left = access_rows(table, k, places, sheet, Access::Writing, issued + 1, s);
             append(table, left, places, c, left)
         }
         Event::Borrow(_, u, s, r, kind) => {
@@ -164,11 +172,8 @@ fn change_event(
             let c = new_row(issued + 1, u.0, s, r as u32, d + 1, kind as u32);
             append(table, k, places, c, q)
         }
-        Event::Read(u, s) => {
-            read_rows(table, k, places, u.0, s);
-            k
-        }
-        Event::Write(u, s) => write_rows(table, k, places, u.0, s),
+        Event::Read(u, s) => access_rows(table, k, places, sheet, Access::Reading, u.0, s),
+        Event::Write(u, s) => access_rows(table, k, places, sheet, Access::Writing, u.0, s),
         Event::Drop(u) => {
             let names = [u.0];
             drop_names(table, k, places, &names)
@@ -181,15 +186,16 @@ fn change(
     table: &mut [Row],
     k: usize,
     places: &mut [u16; 1024],
+    sheet: &SheetBytes,
     issued: u32,
     asked: Asked,
     names: &[u32],
 ) -> usize
     requires { ⌜ Known (now table) k issued (now places) × (Refusals.judge (viewOf (rowsIn (now table)) issued) (requestOf asked (now names)) ≡ 0) ⌝ }
-    ensures { λ r. ⌜ Settled (rowsIn (now (table .exit))) (length (now (table .entry))) r (rowsAfter sheet6 issued (before (rowsIn (now (table .entry))) k) (requestOf asked (now (names .entry)))) (now (places .exit)) ⌝ }
+    ensures { λ r. ⌜ Settled (rowsIn (now (table .exit))) (length (now (table .entry))) r (rowsAfter (sheetIn (now (sheet .entry))) issued (before (rowsIn (now (table .entry))) k) (requestOf asked (now (names .entry)))) (now (places .exit)) ⌝ }
 {
     match asked {
-        Asked::Single(e) => change_event(table, k, places, issued, e),
+        Asked::Single(e) => change_event(table, k, places, sheet, issued, e),
         Asked::Group => drop_names(table, k, places, names),
     }
 }
@@ -201,11 +207,12 @@ pub fn take(
     k: usize,
     places: &mut [u16; 1024],
     t: Tally,
+    sheet: &SheetBytes,
     asked: Asked,
     names: &[u32],
 ) -> Progress
     requires { ⌜ Known (now table) k (t .issued) (now places) ⌝ }
-    ensures { λ r. ⌜ Stepped (now (table .entry)) t (requestOf asked (now (names .entry))) (now (table .exit)) (r .outcome)
+    ensures { λ r. ⌜ Stepped (sheetIn (now (sheet .entry))) (now (table .entry)) t (requestOf asked (now (names .entry))) (now (table .exit)) (r .outcome)
         × Known (now (table .exit)) (r .live) (r .outcome .tally .issued) (now (places .exit)) ⌝ }
 {
     let a = judge_request(table, k, t.issued, asked, names);
@@ -218,7 +225,7 @@ pub fn take(
             Progress { outcome, live: k }
         }
         Answer::Allowed(x) => {
-            let live = change(table, k, places, t.issued, asked, names);
+            let live = change(table, k, places, sheet, t.issued, asked, names);
             let outcome = Outcome {
                 tally: count_allowed(asked, t),
                 answer: Answer::Allowed(x),
@@ -229,14 +236,20 @@ pub fn take(
 }
 
 // A request on any table; one that is not in order, as above 1,024 rows, is refusal 1.
-pub(crate) fn step(table: &mut [Row], t: Tally, asked: Asked, names: &[u32]) -> Outcome
-    ensures { λ r. ⌜ Stepped (now (table .entry)) t (requestOf asked (now (names .entry))) (now (table .exit)) r ⌝ }
+pub(crate) fn step(
+    table: &mut [Row],
+    t: Tally,
+    sheet: &SheetBytes,
+    asked: Asked,
+    names: &[u32],
+) -> Outcome
+    ensures { λ r. ⌜ Stepped (sheetIn (now (sheet .entry))) (now (table .entry)) t (requestOf asked (now (names .entry))) (now (table .exit)) r ⌝ }
 {
     let mut places = [0u16; 1024];
     let found = look_at(table, t.issued, &mut places);
     match found {
         Look::InOrder(live) => {
-            let p = take(table, live, &mut places, t, asked, names);
+            let p = take(table, live, &mut places, t, sheet, asked, names);
             let outcome = p.outcome;
             outcome
         }

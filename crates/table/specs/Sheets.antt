@@ -4,7 +4,7 @@
 use Prim.Native.Nat.{ℕ, zero, suc, _+_, _*_}
 use mathlib.Core.Path.{_≡_}
 use mathlib.Core.List.{List, [], _∷_, _++_}
-use lib.ListN.{getD, replicate}
+use lib.ListN.{getD, set, replicate}
 use Rattle.model.specs.declared.Access.{Access}
 use Rattle.model.specs.declared.Access.the-variants.{Reading, Writing}
 use Rattle.model.specs.declared.Effect.{Effect}
@@ -68,6 +68,16 @@ abbrev pub weight : Effect → ℕ
 weight Keep = 0
 weight Lower = 1
 weight End = 2
+
+-- the bytes of a sheet, put in their places
+abbrev pub withResults : List ℕ → ℕ → Results → List ℕ
+withResults bytes first r = set (set (set bytes first (weight (r .cell))) (first + 1) (weight (r .kin))) (first + 2) (weight (r .stranger))
+
+abbrev pub withConflicts : List ℕ → ℕ → Conflicts → List ℕ
+withConflicts bytes first c = withResults (withResults bytes first (c .read)) (first + 3) (c .write)
+
+unfoldable pub bytesOf : Sheet → List ℕ
+bytesOf sheet = withConflicts (withConflicts (withConflicts (replicate 18 0) 0 (sheet .reference)) 6 (sheet .raw)) 12 (sheet .cell)
 
 -- card 6's sheet in bytes
 abbrev pub bytes6 : List ℕ

@@ -2,12 +2,16 @@
 // the layout.
 use crate::SheetBytes;
 use model::Access;
+use model::Conflicts;
+use model::Effect;
 use model::Origin;
+use model::Results;
+use model::Sheet;
 ghost use mathlib.Core.Path.{_≡_};
 ghost use Prim.Native.Nat.{_≤_, _<_};
-ghost use lib.ListN.{getD};
+ghost use lib.ListN.{length, getD};
 ghost use Rattle.model.specs.Strike.{resultOf};
-ghost use Rattle.table.specs.Sheets.{accessNumber, originNumber, holderNumber, placeOf, weight, bytes6, sheetIn, Taken};
+ghost use Rattle.table.specs.Sheets.{accessNumber, originNumber, holderNumber, placeOf, weight, withResults, withConflicts, bytesOf, bytes6, sheetIn, Taken};
 
 fn holder_number(kind: u32) -> usize
     ensures { λ r. ⌜ (r ≡ holderNumber kind) × (r ≤ 2) ⌝ }
@@ -57,6 +61,54 @@ pub fn card6() -> SheetBytes
     ensures { λ r. ⌜ r ≡ bytes6 ⌝ }
 {
     [1, 1, 1, 0, 2, 2, 0, 0, 0, 0, 0, 2, 1, 1, 1, 0, 2, 2]
+}
+
+fn effect_number(e: Effect) -> u8
+    ensures { λ r. ⌜ r ≡ weight e ⌝ }
+{
+    match e {
+        Effect::Keep => 0,
+        Effect::Lower => 1,
+        Effect::End => 2,
+    }
+}
+
+// Puts three results from a place on.
+fn set_results(bytes: &mut SheetBytes, place: usize, r: Results)
+    requires { ⌜ (place ≤ 15) × (length (now bytes) ≡ 18) ⌝ }
+    ensures { λ _. ⌜ now (bytes .exit) ≡ withResults (now (bytes .entry)) place r ⌝ }
+{
+    let cell = r.cell;
+    let kin = r.kin;
+    let stranger = r.stranger;
+    bytes[place] = effect_number(cell);
+    bytes[place + 1] = effect_number(kin);
+    bytes[place + 2] = effect_number(stranger);
+}
+
+// Puts the results of both accesses from a place on.
+fn set_conflicts(bytes: &mut SheetBytes, place: usize, c: Conflicts)
+    requires { ⌜ (place ≤ 12) × (length (now bytes) ≡ 18) ⌝ }
+    ensures { λ _. ⌜ now (bytes .exit) ≡ withConflicts (now (bytes .entry)) place c ⌝ }
+{
+    let read = c.read;
+    let write = c.write;
+    set_results(bytes, place, read);
+    set_results(bytes, place + 3, write);
+}
+
+// The bytes of a sheet.
+pub fn bytes_of(sheet: Sheet) -> SheetBytes
+    ensures { λ r. ⌜ r ≡ bytesOf sheet ⌝ }
+{
+    let reference = sheet.reference;
+    let raw = sheet.raw;
+    let cell = sheet.cell;
+    let mut bytes = [0u8; 18];
+    set_conflicts(&mut bytes, 0, reference);
+    set_conflicts(&mut bytes, 6, raw);
+    set_conflicts(&mut bytes, 12, cell);
+    bytes
 }
 
 // The byte that is lent at a place; one that is missing is `end`.

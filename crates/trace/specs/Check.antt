@@ -7,6 +7,7 @@ use lib.Dec.{leb, eqb}
 use lib.ListN.{length}
 use Rattle.model.specs.declared.Tally.{Tally}
 use Rattle.model.specs.Counts.{tally}
+use Rattle.model.specs.Sheet6.{sheet6}
 use Rattle.model.specs.Step.{State, initial}
 use Rattle.text.specs.Event.{bytes, line}
 use Rattle.listing.specs.Listing.{listing}
@@ -24,8 +25,8 @@ report r = answerLine (r .refusal) (r .number) ++ listing (r .state .table) (r .
 abbrev pub noCounts : Tally
 noCounts = tally 0 0 0 0 0 0 0
 
--- "uses 1,024 empty rows"; "Input above 65,536 bytes gives the one line `(long)`."
+-- "uses 1,024 empty rows", and card 6's sheet; "Input above 65,536 bytes gives the one line `(long)`."
 unfoldable pub checkText : List ℕ → List ℕ
 checkText input =
-    let text = report (run (initial 1024 noCounts) input) in
+    let text = report (run sheet6 (initial 1024 noCounts) input) in
     cond (leb (length input) 65536) text (bytes "(long)\n")

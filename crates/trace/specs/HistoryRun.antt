@@ -5,27 +5,28 @@ use mathlib.Core.Path.{_≡_}
 use mathlib.Core.List.{List}
 use Rattle.model.specs.declared.Tally.{Tally}
 use Rattle.model.specs.Table.{inOrder}
-use Rattle.model.specs.Sheet6.{sheet6}
+use Rattle.model.specs.declared.Sheet.{Sheet}
 use Rattle.model.specs.Step.{initial}
 use Rattle.model.specs.History.{History, emptyHistory, table}
 use Rattle.model.specs.History
 use Rattle.trace.specs.Run.{Checker, Ran, runFrom, run}
 
--- the history over n rows, by card 6's sheet, takes lines as the rules do; "A refused event changes nothing.", and so a misspelt line
-abbrev pub noted : ℕ → Checker History
-noted n = record {
-  ordered = λ h. inOrder (table sheet6 n (h .notes)) (h .count);
-  answer = History.answer sheet6 n;
-  after = History.after sheet6 n;
-  misspelt = λ h. h;
-}
+module _ (sheet : Sheet) where
+  -- the history over n rows, by a sheet, takes lines as the rules do; "A refused event changes nothing.", and so a misspelt line
+  abbrev pub noted : ℕ → Checker History
+  noted n = record {
+    ordered = λ h. inOrder (table sheet n (h .notes)) (h .count);
+    answer = History.answer sheet n;
+    after = History.after sheet n;
+    misspelt = λ h. h;
+  }
 
-abbrev pub historyRun : ℕ → List ℕ → Ran History
-historyRun n = runFrom (noted n) emptyHistory
+  abbrev pub historyRun : ℕ → List ℕ → Ran History
+  historyRun n = runFrom (noted n) emptyHistory
 
--- A run of a text on n rows, all zeros, with a tally t whose issued number is 0, has the history's answer, table and issued number.
-pub record SameRun (n : ℕ) (t : Tally) (text : List ℕ) : Type 0 where
-  pub same-refusal : run (initial n t) text .refusal ≡ historyRun n text .refusal
-  pub same-number : run (initial n t) text .number ≡ historyRun n text .number
-  pub same-table : run (initial n t) text .state .table ≡ table sheet6 n (historyRun n text .state .notes)
-  pub same-issued : run (initial n t) text .state .tally .issued ≡ historyRun n text .state .count
+  -- A run of a text on n rows, all zeros, with a tally t whose issued number is 0, has the history's answer, table and issued number.
+  pub record SameRun (n : ℕ) (t : Tally) (text : List ℕ) : Type 0 where
+    pub same-refusal : run sheet (initial n t) text .refusal ≡ historyRun n text .refusal
+    pub same-number : run sheet (initial n t) text .number ≡ historyRun n text .number
+    pub same-table : run sheet (initial n t) text .state .table ≡ table sheet n (historyRun n text .state .notes)
+    pub same-issued : run sheet (initial n t) text .state .tally .issued ≡ historyRun n text .state .count

@@ -6,11 +6,11 @@ use mathlib.Core.Path.{_≡_}
 use mathlib.Core.Bool.{Bool, cond}
 use mathlib.Core.List.{List, [], _∷_}
 use lib.Dec.{eqb}
+use Rattle.model.specs.declared.Sheet.{Sheet}
 use Rattle.model.specs.Requests.{Request}
 use Rattle.model.specs.declared.Tally.{Tally}
 use Rattle.model.specs.Table.{inOrder}
 use Rattle.model.specs.Counts.{countRefused}
-use Rattle.model.specs.Sheet6.{sheet6}
 use Rattle.model.specs.Step.{Verdict, State}
 use Rattle.model.specs.Step
 use Rattle.model.specs.Answers.{number, verdictOf}
@@ -79,38 +79,40 @@ module _ {S : Type 0} (c : Checker S) where
   unfoldable pub runFrom : S → List ℕ → Ran S
   runFrom s text = cond (c .ordered s) (runTrace s (linesOf text)) (record { refusal = 1; number = 0; state = s })
 
--- what the caller lends, by card 6's sheet: "Refusals 2 to 10 of .. a line in a run add one to the refused count and change no more"
-abbrev pub lent : Checker State
-lent = record {
-  ordered = λ h. inOrder (h .table) (h .tally .issued);
-  answer = Step.answer;
-  after = Step.after sheet6;
-  misspelt = λ h. record { table = h .table; tally = countRefused (h .tally) };
-}
-
--- a run of a text on what the caller lends
-abbrev pub run : State → List ℕ → Ran State
-run = runFrom lent
-
 -- the answer that each case of `RunAnswer` stands for, with the state at the end
 abbrev pub ranOf : RunAnswer → State → Ran State
 ranOf (Allowed lines) h = record { refusal = 0; number = lines; state = h }
 ranOf (Refused r line) h = record { refusal = number r; number = line; state = h }
 
--- a run on the words ws of a table leaves the words ws′
-pub record Runs (ws : List (List ℕ)) (t : Tally) (text : List ℕ) (ws′ : List (List ℕ)) (r : RunOutcome) : Type 0 where
-  pub ran : ranOf (r .answer) (lends (rowsIn ws′) (r .tally)) ≡ run (lends (rowsIn ws) t) text
+-- Card 7: one sheet is "kept throughout".
+module _ (sheet : Sheet) where
+  -- what the caller lends, by a conflict sheet: "Refusals 2 to 10 of .. a line in a run add one to the refused count and change no more"
+  abbrev pub lent : Checker State
+  lent = record {
+    ordered = λ h. inOrder (h .table) (h .tally .issued);
+    answer = Step.answer;
+    after = Step.after sheet;
+    misspelt = λ h. record { table = h .table; tally = countRefused (h .tally) };
+  }
 
--- the lines of a text on the words ws, in one spelling, where so many lines were taken before them
-pub record RunsLines (k : Spelling) (before : ℕ) (ws : List (List ℕ)) (t : Tally) (text : List ℕ) (ws′ : List (List ℕ)) (r : RunOutcome) : Type 0 where
-  pub ran : ranOf (r .answer) (lends (rowsIn ws′) (r .tally)) ≡ runLines lent k before (lends (rowsIn ws) t) (linesOf text)
+  -- a run of a text on what the caller lends
+  abbrev pub run : State → List ℕ → Ran State
+  run = runFrom lent
 
--- a line that is no event, on the words ws of a table, leaves the words ws′
-pub record TakesGroup (ws : List (List ℕ)) (t : Tally) (line : List ℕ) (ws′ : List (List ℕ)) (r : Outcome) : Type 0 where
-  pub refusal : verdictOf (r .answer) .refusal ≡ takeRead lent (lends (rowsIn ws) t) (groupOf (readGroup line)) .refusal
-  pub state : lends (rowsIn ws′) (r .tally) ≡ takeRead lent (lends (rowsIn ws) t) (groupOf (readGroup line)) .state
+  -- a run on the words ws of a table leaves the words ws′
+  pub record Runs (ws : List (List ℕ)) (t : Tally) (text : List ℕ) (ws′ : List (List ℕ)) (r : RunOutcome) : Type 0 where
+    pub ran : ranOf (r .answer) (lends (rowsIn ws′) (r .tally)) ≡ run (lends (rowsIn ws) t) text
 
--- a line on the words ws of a table leaves the words ws′: its refusal, and the state after it
-pub record Takes (k : Spelling) (ws : List (List ℕ)) (t : Tally) (line : List ℕ) (ws′ : List (List ℕ)) (r : Outcome) : Type 0 where
-  pub refusal : verdictOf (r .answer) .refusal ≡ takeLine lent k (lends (rowsIn ws) t) line .refusal
-  pub state : lends (rowsIn ws′) (r .tally) ≡ takeLine lent k (lends (rowsIn ws) t) line .state
+  -- the lines of a text on the words ws, in one spelling, where so many lines were taken before them
+  pub record RunsLines (k : Spelling) (before : ℕ) (ws : List (List ℕ)) (t : Tally) (text : List ℕ) (ws′ : List (List ℕ)) (r : RunOutcome) : Type 0 where
+    pub ran : ranOf (r .answer) (lends (rowsIn ws′) (r .tally)) ≡ runLines lent k before (lends (rowsIn ws) t) (linesOf text)
+
+  -- a line that is no event, on the words ws of a table, leaves the words ws′
+  pub record TakesGroup (ws : List (List ℕ)) (t : Tally) (line : List ℕ) (ws′ : List (List ℕ)) (r : Outcome) : Type 0 where
+    pub refusal : verdictOf (r .answer) .refusal ≡ takeRead lent (lends (rowsIn ws) t) (groupOf (readGroup line)) .refusal
+    pub state : lends (rowsIn ws′) (r .tally) ≡ takeRead lent (lends (rowsIn ws) t) (groupOf (readGroup line)) .state
+
+  -- a line on the words ws of a table leaves the words ws′: its refusal, and the state after it
+  pub record Takes (k : Spelling) (ws : List (List ℕ)) (t : Tally) (line : List ℕ) (ws′ : List (List ℕ)) (r : Outcome) : Type 0 where
+    pub refusal : verdictOf (r .answer) .refusal ≡ takeLine lent k (lends (rowsIn ws) t) line .refusal
+    pub state : lends (rowsIn ws′) (r .tally) ≡ takeLine lent k (lends (rowsIn ws) t) line .state

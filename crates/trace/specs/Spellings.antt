@@ -7,6 +7,8 @@ use mathlib.Core.Bool.{true, false}
 use mathlib.Core.List.{List, [], _∷_, _++_, map}
 use lib.ListN.{length}
 use Rattle.model.specs.Requests.{Request, Single, Group, isGroup}
+use Rattle.model.specs.declared.Sheet.{Sheet}
+use Rattle.model.specs.Sheet6.{sheet6}
 use Rattle.model.specs.Step.{State, initial}
 use Rattle.model.specs.Named.{unnamed, allRightlyNamed}
 use Rattle.text.specs.Event.{spell, hasSpelling, Below32, InRange}
@@ -67,15 +69,15 @@ pub data Rests : List ℕ → List ℕ → Type 0 where
 abbrev pub OldTrace : List ℕ → Type 0
 OldTrace text = same (nextLine text) header ≡ false
 
--- the verdicts of the two traces, on any lent table and tally
-pub record SameVerdicts (h : State) (plain named : List ℕ) : Type 0 where
-  pub same-refusal : run h named .refusal ≡ run h plain .refusal
-  pub one-higher : run h named .number ≡ oneHigher (run h plain .refusal) (run h plain .number)
-  pub same-state : run h named .state ≡ run h plain .state
+-- the verdicts of the two traces, by any sheet on any lent table and tally
+pub record SameVerdicts (sheet : Sheet) (h : State) (plain named : List ℕ) : Type 0 where
+  pub same-refusal : run sheet h named .refusal ≡ run sheet h plain .refusal
+  pub one-higher : run sheet h named .number ≡ oneHigher (run sheet h plain .refusal) (run sheet h plain .number)
+  pub same-state : run sheet h named .state ≡ run sheet h plain .state
 
 -- the run that `capcheck` prints
 abbrev pub checked : List ℕ → Ran State
-checked = run (initial 1024 noCounts)
+checked = run sheet6 (initial 1024 noCounts)
 
 -- what `capcheck` prints of the two, neither `(long)`: the new one's answer with its number one higher, and the same listing
 pub record SameChecks (plain named : List ℕ) : Type 0 where

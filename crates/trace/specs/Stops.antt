@@ -9,6 +9,7 @@ use lib.Dec.{eqb}
 use lib.ListN.{length, take}
 use Rattle.model.specs.Table.{inOrder}
 use Rattle.model.specs.Counts.{countRefused}
+use Rattle.model.specs.declared.Sheet.{Sheet}
 use Rattle.model.specs.Step.{State}
 use Rattle.text.specs.Line.{linesOf}
 use Rattle.trace.specs.Run.{Ran, run}
@@ -17,31 +18,32 @@ use Rattle.trace.specs.Run.{Ran, run}
 unfoldable pub firstLines : ℕ → List ℕ → List ℕ
 firstLines k text = flatMap (λ (line : List ℕ). line) (take k (linesOf text))
 
--- the run of the lines before the one of the number answered
-abbrev pub runBefore : State → List ℕ → Ran State
-runBefore h text = run h (firstLines (pred (run h text .number)) text)
+module _ (sheet : Sheet) where
+  -- the run of the lines before the one of the number answered
+  abbrev pub runBefore : State → List ℕ → Ran State
+  runBefore h text = run sheet h (firstLines (pred (run sheet h text .number)) text)
 
--- "(0 for refusal 1)": of refusals, 1 and no other has line 0; and 1 is given exactly where the table is not in order, before any line
-pub record LineZero (h : State) (text : List ℕ) : Type 0 where
-  pub given-1 : eqb (run h text .refusal) 1 ≡ not (inOrder (h .table) (h .tally .issued))
-  pub line-0 : run h text .refusal ≡ 1 → run h text .number ≡ 0
-  pub only-1 : (k : ℕ) → run h text .refusal ≡ suc k → run h text .number ≡ 0 → k ≡ 0
+  -- "(0 for refusal 1)": of refusals, 1 and no other has line 0; and 1 is given exactly where the table is not in order, before any line
+  pub record LineZero (h : State) (text : List ℕ) : Type 0 where
+    pub given-1 : eqb (run sheet h text .refusal) 1 ≡ not (inOrder (h .table) (h .tally .issued))
+    pub line-0 : run sheet h text .refusal ≡ 1 → run sheet h text .number ≡ 0
+    pub only-1 : (k : ℕ) → run sheet h text .refusal ≡ suc k → run sheet h text .number ≡ 0 → k ≡ 0
 
--- Any other refusal is of the line of its number: all lines before that one are allowed, and the table is as after them. The tally has
--- besides one refused event.
-pub record RefusedLine (h : State) (text : List ℕ) : Type 0 where
-  pub from-1 : 1 ≤ run h text .number
-  pub a-line : run h text .number ≤ length (linesOf text)
-  pub before-allowed : runBefore h text .refusal ≡ 0
-  pub before-number : runBefore h text .number ≡ pred (run h text .number)
-  pub same-table : run h text .state .table ≡ runBefore h text .state .table
-  pub counted : run h text .state .tally ≡ countRefused (runBefore h text .state .tally)
+  -- Any other refusal is of the line of its number: all lines before that one are allowed, and the table is as after them. The tally has
+  -- besides one refused event.
+  pub record RefusedLine (h : State) (text : List ℕ) : Type 0 where
+    pub from-1 : 1 ≤ run sheet h text .number
+    pub a-line : run sheet h text .number ≤ length (linesOf text)
+    pub before-allowed : runBefore h text .refusal ≡ 0
+    pub before-number : runBefore h text .number ≡ pred (run sheet h text .number)
+    pub same-table : run sheet h text .state .table ≡ runBefore h text .state .table
+    pub counted : run sheet h text .state .tally ≡ countRefused (runBefore h text .state .tally)
 
--- a run of a text on any lent table and tally
-pub record Stops (h : State) (text : List ℕ) : Type 0 where
-  -- "takes lines until one is refused": what stands behind the line of its number changes nothing
-  pub until : run h (firstLines (run h text .number) text) ≡ run h text
-  -- "the number of lines allowed"
-  pub allowed : run h text .refusal ≡ 0 → run h text .number ≡ length (linesOf text)
-  pub line-zero : LineZero h text
-  pub refused : (k : ℕ) → run h text .refusal ≡ suc (suc k) → RefusedLine h text
+  -- a run of a text on any lent table and tally
+  pub record Stops (h : State) (text : List ℕ) : Type 0 where
+    -- "takes lines until one is refused": what stands behind the line of its number changes nothing
+    pub until : run sheet h (firstLines (run sheet h text .number) text) ≡ run sheet h text
+    -- "the number of lines allowed"
+    pub allowed : run sheet h text .refusal ≡ 0 → run sheet h text .number ≡ length (linesOf text)
+    pub line-zero : LineZero h text
+    pub refused : (k : ℕ) → run sheet h text .refusal ≡ suc (suc k) → RefusedLine h text

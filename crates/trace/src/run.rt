@@ -8,6 +8,7 @@ use rules::Progress;
 use rules::count;
 use rules::steps;
 use table::Row;
+use table::SheetBytes;
 use table::lent::set_tally;
 use table::lent::tally_at;
 use table::ordered;
@@ -24,6 +25,7 @@ ghost use Rattle.text.specs.Line.{nextLine};
 ghost use Rattle.text.specs.Read.{same};
 ghost use Rattle.table.specs.Lent;
 ghost use Rattle.table.specs.Known.{Known};
+ghost use Rattle.table.specs.Sheets.{sheetIn};
 ghost use Rattle.trace.specs.Run;
 ghost use Rattle.trace.specs.Run.{header, ranOf, TakesGroup, Takes, RunsLines, Runs};
 
@@ -45,17 +47,26 @@ fn take_group(
     live: usize,
     places: &mut [u16; 1024],
     tally: Tally,
+    sheet: &SheetBytes,
     line: &[u8],
 ) -> Progress
     requires { ⌜ Known (now table) live (tally .issued) (now places) ⌝ }
-    ensures { λ r. ⌜ TakesGroup (now (table .entry)) tally (now (line .entry)) (now (table .exit)) (r .outcome)
+    ensures { λ r. ⌜ TakesGroup (sheetIn (now (sheet .entry))) (now (table .entry)) tally (now (line .entry)) (now (table .exit)) (r .outcome)
         × Known (now (table .exit)) (r .live) (r .outcome .tally .issued) (now (places .exit)) ⌝ }
 {
     let mut names = [0u32; 64];
     let found = group::read_group(line, &mut names);
     match found {
         GroupRead::Count(count) => {
-            steps::take(table, live, places, tally, Asked::Group, &names[..count])
+            steps::take(
+                table,
+                live,
+                places,
+                tally,
+                sheet,
+                Asked::Group,
+                &names[..count],
+            )
         }
         GroupRead::Refused(_) => {
             let counted = count::count_refused(tally);
@@ -74,11 +85,12 @@ fn take_line(
     live: usize,
     places: &mut [u16; 1024],
     tally: Tally,
+    sheet: &SheetBytes,
     spelling: Spelling,
     line: &[u8],
 ) -> Progress
     requires { ⌜ Known (now table) live (tally .issued) (now places) ⌝ }
-    ensures { λ r. ⌜ Takes spelling (now (table .entry)) tally (now (line .entry)) (now (table .exit)) (r .outcome)
+    ensures { λ r. ⌜ Takes (sheetIn (now (sheet .entry))) spelling (now (table .entry)) tally (now (line .entry)) (now (table .exit)) (r .outcome)
         × Known (now (table .exit)) (r .live) (r .outcome .tally .issued) (now (places .exit)) ⌝ }
 {
     let found = read::read_event(spelling, line);
@@ -86,9 +98,17 @@ fn take_line(
         EventRead::Event(event) => {
             // An event has no use for names beside it.
             let none = [0u32];
-            steps::take(table, live, places, tally, Asked::Single(event), &none)
+            steps::take(
+                table,
+                live,
+                places,
+                tally,
+                sheet,
+                Asked::Single(event),
+                &none,
+            )
         }
-        EventRead::Refused(_) => take_group(table, live, places, tally, line),
+        EventRead::Refused(_) => take_group(table, live, places, tally, sheet, line),
     }
 }
 
@@ -99,12 +119,13 @@ fn run_ordered(
     live: usize,
     places: &mut [u16; 1024],
     tally: Tally,
+    sheet: &SheetBytes,
     spelling: Spelling,
     before: usize,
     text: &[u8],
 ) -> RunOutcome
     requires { ⌜ Known (now table) live (tally .issued) (now places) × (before ≤ 1) ⌝ }
-    ensures { λ r. ⌜ RunsLines spelling before (now (table .entry)) tally (now (text .entry)) (now (table .exit)) r ⌝ }
+    ensures { λ r. ⌜ RunsLines (sheetIn (now (sheet .entry))) spelling before (now (table .entry)) tally (now (text .entry)) (now (table .exit)) r ⌝ }
 {
     let mut left = tally;
     let mut alive = live;
@@ -112,7 +133,7 @@ fn run_ordered(
     let mut count = before;
     while at < text.len() {
         let line = lines::next_line(&text[at..]);
-        let taken = take_line(table, alive, places, left, spelling, line);
+        let taken = take_line(table, alive, places, left, sheet, spelling, line);
         let outcome = taken.outcome;
         alive = taken.live;
         left = outcome.tally;
@@ -146,26 +167,36 @@ fn run_text(
     live: usize,
     places: &mut [u16; 1024],
     tally: Tally,
+    sheet: &SheetBytes,
     text: &[u8],
 ) -> RunOutcome
     requires { ⌜ Known (now table) live (tally .issued) (now places) ⌝ }
-    ensures { λ r. ⌜ Runs (now (table .entry)) tally (now (text .entry)) (now (table .exit)) r ⌝ }
+    ensures { λ r. ⌜ Runs (sheetIn (now (sheet .entry))) (now (table .entry)) tally (now (text .entry)) (now (table .exit)) r ⌝ }
 {
     if is_named(text) {
-        run_ordered(table, live, places, tally, Spelling::Named, 1, &text[10..])
+        run_ordered(
+            table,
+            live,
+            places,
+            tally,
+            sheet,
+            Spelling::Named,
+            1,
+            &text[10..],
+        )
     } else {
-        run_ordered(table, live, places, tally, Spelling::Plain, 0, text)
+        run_ordered(table, live, places, tally, sheet, Spelling::Plain, 0, text)
     }
 }
 
 // A run on any table and a tally by value; one that is not in order, as above 1,024 rows, is refusal 1.
-pub fn run_lent(table: &mut [Row], tally: Tally, text: &[u8]) -> RunOutcome
-    ensures { λ r. ⌜ Runs (now (table .entry)) tally (now (text .entry)) (now (table .exit)) r ⌝ }
+pub fn run_lent(table: &mut [Row], tally: Tally, sheet: &SheetBytes, text: &[u8]) -> RunOutcome
+    ensures { λ r. ⌜ Runs (sheetIn (now (sheet .entry))) (now (table .entry)) tally (now (text .entry)) (now (table .exit)) r ⌝ }
 {
     let mut places = [0u16; 1024];
     let found = ordered::look_at(table, tally.issued, &mut places);
     match found {
-        Look::InOrder(live) => run_text(table, live, &mut places, tally, text),
+        Look::InOrder(live) => run_text(table, live, &mut places, tally, sheet, text),
         Look::Disordered => RunOutcome {
             tally,
             answer: RunAnswer::Refused(Refusal::Disordered, 0),
@@ -173,12 +204,12 @@ pub fn run_lent(table: &mut [Row], tally: Tally, text: &[u8]) -> RunOutcome
     }
 }
 
-// A run of a text on the table and the tally that are lent: the number of lines allowed, or the refusal and its line.
-pub fn run(table: &mut [Row], tally: &mut [u32; 7], text: &[u8]) -> RunAnswer
-    ensures { λ r. ⌜ ranOf r (Lent.lent (now (table .exit)) (now (tally .exit))) ≡ Run.run (Lent.lent (now (table .entry)) (now (tally .entry))) (now (text .entry)) ⌝ }
+// A run of a text on the table and the tally that are lent, by a sheet: the number of lines allowed, or the refusal and its line.
+pub fn run(table: &mut [Row], tally: &mut [u32; 7], sheet: &SheetBytes, text: &[u8]) -> RunAnswer
+    ensures { λ r. ⌜ ranOf r (Lent.lent (now (table .exit)) (now (tally .exit))) ≡ Run.run (sheetIn (now (sheet .entry))) (Lent.lent (now (table .entry)) (now (tally .entry))) (now (text .entry)) ⌝ }
 {
     let t = tally_at(tally);
-    let out = run_lent(table, t, text);
+    let out = run_lent(table, t, sheet, text);
     let after = out.tally;
     set_tally(tally, after);
     let answer = out.answer;

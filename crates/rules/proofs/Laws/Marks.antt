@@ -15,6 +15,7 @@ use borrow.Author.Tests.{eqb-true, eqb-false, eq-eqb, ne-eqb, ltb-true, ltb-fals
 use Rattle.model.specs.declared.Span.{Span}
 use Rattle.model.specs.declared.Cap.{Cap}
 use Rattle.model.specs.declared.Access.{Access}
+use Rattle.model.specs.declared.Sheet.{Sheet}
 use Rattle.model.specs.declared.Effect.{Effect}
 use Rattle.model.specs.declared.Effect.the-variants.{Keep, Lower, End}
 use Rattle.model.specs.declared.Origin.{Origin}
@@ -22,14 +23,14 @@ use Rattle.model.specs.declared.Origin.the-variants.{Cell, Kin, Stranger}
 use Rattle.model.specs.Lists.{any}
 use Rattle.model.specs.Derivation.{Derivation, ancestry, inSubtree, onAncestry}
 use Rattle.model.specs.Strike.{isLower, isEnd, isCell, resultOf, inOtherCell, nearestCell, origin, strike, reached, struck}
-use Rattle.model.specs.Sheet6.{sheet6}
 use Rattle.model.specs.Values.{touches}
 use Rattle.model.specs.Table.{emptyRow, span, derivation, derivations, named, parentInOrder}
 use Rattle.model.specs.Effects.{inSubtrees}
 use Rattle.table.specs.Rows.{nameAt, parentAt, before, Rise, Found, Places, LiveRows}
-use Rattle.rules.specs.Engine.{OnAncestry, NearestAt, nearerOf, valueBelow, insideOf, SetInside, isApart, Related, weight, originOf, own, ownOfAccess, ownOfNames, Owned, mark, Marked, Spread, Downward}
+use Rattle.table.specs.Sheets.{weight}
+use Rattle.rules.specs.Engine.{OnAncestry, NearestAt, nearerOf, valueBelow, insideOf, SetInside, isApart, Related, originOf, own, ownOfAccess, ownOfNames, Owned, mark, Marked, Spread, Downward, Most}
 use Rattle.model.proofs.Offered.{test, clash, or-neither, below-differs, ancestry-here, ancestry-past, Named, place, parentInOrder-rowFitsParent, group-none, group-step, struck-step, no-ancestry, steps, rowsInOrder-falling, root-has-no-kin, Falling, later-off, nearest-cell, nearest-on, on-line}
-use Rattle.table.proofs.Offered.{last, all-before, at-before, none-named, named-none, place-of, rise-sub, rowsInOrder-rise, rowsInOrder-at}
+use Rattle.table.proofs.Offered.{extend, last, all-before, at-before, none-named, named-none, place-of, rise-sub, rowsInOrder-rise, rowsInOrder-at}
 
 -- ---- places and names
 
@@ -225,6 +226,10 @@ module _ (T : List Cap) (k i q : ℕ) (owned : ℕ → ℕ) (marks : List ℕ) (
           go (inl t) = let b : q < i = ltb-true q i t in absurd (named-none T i (parentAt T i) none q b (f .here b))
           go (inr g) = rw g (omega arith)
 
+-- no mark is above the greatest, one more
+pub most-more : (i : ℕ) (marks : List ℕ) (most m : ℕ) → i < length marks → Most i marks most → Most (i + 1) (set marks i m) (max most m)
+most-more i marks most m l h = record { each = extend (λ j. getD (set marks i m) j 0 ≤ max most m) i (λ j b. let e = getD-set-other marks i j m 0 (λ (z : j ≡ i). omega arith) in omega (arith, e, h .each j b)) (omega (arith, getD-set-same marks i m 0 l)) }
+
 -- no mark is below the parent's
 pub spread-downward : (T : List Cap) (k : ℕ) (owned : ℕ → ℕ) (marks : List ℕ) → Spread T k owned marks → Downward T k marks
 spread-downward T k owned marks s = record { child = λ i q l b e. let h : getD marks i 0 ≡ max (owned i) (getD marks q 0) = s .child i q l b e in omega arith }
@@ -244,15 +249,15 @@ greater End false true = refl
 greater End false false = refl
 
 -- a holder's own mark is its effect's, where its relation to the user is told
-own-weight : (a : Access) (s : Span) (user above : List Derivation) (c : Cap) (inCell : Bool) (relation : ℕ) (kin : Bool) → eqb relation 1 ≡ inSubtree (c .name .0) user
+own-weight : (sheet : Sheet) (a : Access) (s : Span) (user above : List Derivation) (c : Cap) (inCell : Bool) (relation : ℕ) (kin : Bool) → eqb relation 1 ≡ inSubtree (c .name .0) user
     → (inSubtree (c .name .0) user ≡ false → isApart inCell relation ≡ inOtherCell user (derivation c ∷ above)) → kin ≡ inSubtree (c .parent .0) user
-    → own a s c inCell relation kin ≡ weight (strike sheet6 a s user (derivation c ∷ above))
+    → own sheet a s c inCell relation kin ≡ weight (strike sheet a s user (derivation c ∷ above))
 unfolding strike origin
-own-weight a s user above c inCell relation kin on apart is = go (test (inSubtree (c .name .0) user)) (touches s (span c))
+own-weight sheet a s user above c inCell relation kin on apart is = go (test (inSubtree (c .name .0) user)) (touches s (span c))
   where
     go : (inSubtree (c .name .0) user ≡ true) ⊎ (inSubtree (c .name .0) user ≡ false) → (touched : Bool)
-        → cond (touched && not (eqb relation 1)) (weight (resultOf sheet6 (c .kind) a (originOf (isApart inCell relation) kin))) 0
-        ≡ weight (cond (touched && not (inSubtree (c .name .0) user)) (resultOf sheet6 (c .kind) a (cond (inOtherCell user (derivation c ∷ above)) Cell (cond (inSubtree (c .parent .0) user) Kin Stranger))) Keep)
+        → cond (touched && not (eqb relation 1)) (weight (resultOf sheet (c .kind) a (originOf (isApart inCell relation) kin))) 0
+        ≡ weight (cond (touched && not (inSubtree (c .name .0) user)) (resultOf sheet (c .kind) a (cond (inOtherCell user (derivation c ∷ above)) Cell (cond (inSubtree (c .parent .0) user) Kin Stranger))) Keep)
     go (inl t) true = rw (on, t)
     go (inl t) false = refl
     go (inr f) true = rw (on, f, apart f, is)
@@ -442,23 +447,23 @@ module _ (T : List Cap) (k : ℕ) (st : LiveRows T k) where
     marked = record { each = λ i l. marked-below (suc i) i (omega arith) l }
 
   -- an access
-  module _ (a : Access) (sp : Span) (u : ℕ) (inCell : Bool) (relation places marks : List ℕ) (rel : Related T k u inCell relation) (p : Places T k places) (s : Spread T k (ownOfAccess T inCell relation places a sp) marks) where
-    none-used : (is : Effect → Bool) → struck sheet6 is a B u sp 0 ≡ false
+  module _ (sheet : Sheet) (a : Access) (sp : Span) (u : ℕ) (inCell : Bool) (relation places marks : List ℕ) (rel : Related T k u inCell relation) (p : Places T k places) (s : Spread T k (ownOfAccess sheet T inCell relation places a sp) marks) where
+    none-used : (is : Effect → Bool) → struck sheet is a B u sp 0 ≡ false
     unfolding struck reached onAncestry
     none-used is = rw (no-ancestry (st .bound) (before T k) stand-named (st .rise))
 
-    step-used : (i : ℕ) → i < k → mark (struck sheet6 isEnd a B u sp) (struck sheet6 isLower a B u sp) (nameAt T i) ≡ max (ownOfAccess T inCell relation places a sp i) (mark (struck sheet6 isEnd a B u sp) (struck sheet6 isLower a B u sp) (parentAt T i))
+    step-used : (i : ℕ) → i < k → mark (struck sheet isEnd a B u sp) (struck sheet isLower a B u sp) (nameAt T i) ≡ max (ownOfAccess sheet T inCell relation places a sp i) (mark (struck sheet isEnd a B u sp) (struck sheet isLower a B u sp) (parentAt T i))
     step-used i l =
         let c : Cap = getD T i emptyRow in
         let above : List Derivation = ancestry B (parentAt T i) in
-        let f : (is : Effect → Bool) → struck sheet6 is a B u sp (nameAt T i) ≡ is (strike sheet6 a sp (ancestry B u) (derivation c ∷ above)) || struck sheet6 is a B u sp (parentAt T i) =
-        λ is. at-before _ T k (struck-step (st .bound) (before T k) stand-named (st .rise) sheet6 is a u sp) i l in
-        let o : ownOfAccess T inCell relation places a sp i ≡ weight (strike sheet6 a sp (ancestry B u) (derivation c ∷ above)) =
-        own-weight a sp (ancestry B u) above c inCell (getD relation i 0) (eqb (valueBelow relation (getD places i 0) i) 1) (rel .each i l) (λ z. rel .apart i l z ∙ ap (inOtherCell (ancestry B u)) (line-step i l)) (kin-told u relation places (rel .each) p i l) in
-        rw (f isEnd, f isLower, o) (sym (greater (strike sheet6 a sp (ancestry B u) (derivation c ∷ above)) (struck sheet6 isEnd a B u sp (parentAt T i)) (struck sheet6 isLower a B u sp (parentAt T i))))
+        let f : (is : Effect → Bool) → struck sheet is a B u sp (nameAt T i) ≡ is (strike sheet a sp (ancestry B u) (derivation c ∷ above)) || struck sheet is a B u sp (parentAt T i) =
+        λ is. at-before _ T k (struck-step (st .bound) (before T k) stand-named (st .rise) sheet is a u sp) i l in
+        let o : ownOfAccess sheet T inCell relation places a sp i ≡ weight (strike sheet a sp (ancestry B u) (derivation c ∷ above)) =
+        own-weight sheet a sp (ancestry B u) above c inCell (getD relation i 0) (eqb (valueBelow relation (getD places i 0) i) 1) (rel .each i l) (λ z. rel .apart i l z ∙ ap (inOtherCell (ancestry B u)) (line-step i l)) (kin-told u relation places (rel .each) p i l) in
+        rw (f isEnd, f isLower, o) (sym (greater (strike sheet a sp (ancestry B u) (derivation c ∷ above)) (struck sheet isEnd a B u sp (parentAt T i)) (struck sheet isLower a B u sp (parentAt T i))))
 
-    pub marked-use : Marked T k marks (struck sheet6 isEnd a B u sp) (struck sheet6 isLower a B u sp)
-    marked-use = marked (struck sheet6 isEnd a B u sp) (struck sheet6 isLower a B u sp) (ownOfAccess T inCell relation places a sp) marks s (rw (none-used isEnd, none-used isLower)) step-used
+    pub marked-use : Marked T k marks (struck sheet isEnd a B u sp) (struck sheet isLower a B u sp)
+    marked-use = marked (struck sheet isEnd a B u sp) (struck sheet isLower a B u sp) (ownOfAccess sheet T inCell relation places a sp) marks s (rw (none-used isEnd, none-used isLower)) step-used
 
   -- the place of a name is told by it
   module _ (u q : ℕ) (f : Found T k u q) where

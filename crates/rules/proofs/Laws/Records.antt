@@ -12,12 +12,12 @@ use lib.ListN.{length, getD, set, take, drop, length-append, length-drop, length
 use lib.Seq.{length-take-le, take-suc, drop-cons, take-at, take-length, set-at, append-snoc, drop-length}
 use borrow.Author.Tests.{leb-true, leb-false, le-leb, lt-leb}
 use Rattle.model.specs.declared.Cap.{Cap}
+use Rattle.model.specs.declared.Sheet.{Sheet}
 use Rattle.model.specs.declared.Tally.{Tally}
 use Rattle.model.specs.declared.Answer.the-variants.{Refused}
 use Rattle.model.specs.declared.Refusal.the-variants.{Disordered}
 use Rattle.model.specs.Table.{emptyRow}
 use Rattle.model.specs.Requests.{Request}
-use Rattle.model.specs.Sheet6.{sheet6}
 use Rattle.model.specs.Step.{State, after}
 use Rattle.model.specs.Step
 use Rattle.model.specs.Answers.{verdictOf}
@@ -101,21 +101,21 @@ held-least n = go (test (leb n 1024))
     go (inl y) = let l : n ≤ 1024 = leb-true n 1024 y in (omega (arith, held-few n l), omega (arith, held-few n l))
     go (inr f) = let l : 1024 < n = leb-false n 1024 f in (omega (arith, held-many n l), omega (arith, held-many n l))
 
-pub requested-few : (ws zs : List (List ℕ)) (n : ℕ) (t : Tally) (q : Request) (r : Outcome) → length ws ≡ 1024 → n ≤ 1024 → length zs ≡ n → Stepped (take n ws) t q zs r → Requested ws n t q (zs ++ drop n ws) r
-requested-few ws zs n t q r full l long s = record {
+pub requested-few : (sheet : Sheet) (ws zs : List (List ℕ)) (n : ℕ) (t : Tally) (q : Request) (r : Outcome) → length ws ≡ 1024 → n ≤ 1024 → length zs ≡ n → Stepped sheet (take n ws) t q zs r → Requested sheet ws n t q (zs ++ drop n ws) r
+requested-few sheet ws zs n t q r full l long s = record {
   long = omega (arith, length-append zs (drop n ws), length-drop n ws);
-  few = λ _. subst (λ (z : List (List ℕ)). Stepped (take n ws) t q z r) (sym (take-at zs (drop n ws) n long)) s;
+  few = λ _. subst (λ (z : List (List ℕ)). Stepped sheet (take n ws) t q z r) (sym (take-at zs (drop n ws) n long)) s;
   many = λ m. absurd (omega arith);
 }
 
-pub requested-many : (ws : List (List ℕ)) (n : ℕ) (t : Tally) (q : Request) → 1024 < n → Requested ws n t q ws (record { tally = t; answer = Refused Disordered })
-requested-many ws n t q l = record { long = refl; few = λ h. absurd (omega arith); many = λ _. (refl, refl) }
+pub requested-many : (sheet : Sheet) (ws : List (List ℕ)) (n : ℕ) (t : Tally) (q : Request) → 1024 < n → Requested sheet ws n t q ws (record { tally = t; answer = Refused Disordered })
+requested-many sheet ws n t q l = record { long = refl; few = λ h. absurd (omega arith); many = λ _. (refl, refl) }
 
 -- what is left of the records, by way of rows
-module _ (ys : List Cap) (t : Tally) (q : Request) (w ws : List (List ℕ)) (r : Outcome) (s : Requested (loaded ys w (held (length ys))) (length ys) t q ws r) where
+module _ (sheet : Sheet) (ys : List Cap) (t : Tally) (q : Request) (w ws : List (List ℕ)) (r : Outcome) (s : Requested sheet (loaded ys w (held (length ys))) (length ys) t q ws r) where
   abbrev Left : Type 0
   Left =
-      (stored ys ws (held (length ys)) ≡ after sheet6 (lends ys t) q .table) × (r .tally ≡ after sheet6 (lends ys t) q .tally)
+      (stored ys ws (held (length ys)) ≡ after sheet (lends ys t) q .table) × (r .tally ≡ after sheet (lends ys t) q .tally)
       × (verdictOf (r .answer) ≡ Step.answer (lends ys t) q)
 
   module _ (l : length ys ≤ 1024) where
@@ -138,18 +138,18 @@ module _ (ys : List Cap) (t : Tally) (q : Request) (w ws : List (List ℕ)) (r :
 
     left-few : Left
     left-few =
-        let a : Stepped w₁ t q (take (length ys) ws) r = s .few l in
+        let a : Stepped sheet w₁ t q (take (length ys) ws) r = s .few l in
         let h : lends (rowsIn w₁) t ≡ lends ys t = ap (λ (rows : List Cap). lends rows t) all-loaded in
-        (all-stored ∙ a .table ∙ ap (λ (x : State). after sheet6 x q .table) h, a .tally ∙ ap (λ (x : State). after sheet6 x q .tally) h, a .answer ∙ ap (λ (x : State). Step.answer x q) h)
+        (all-stored ∙ a .table ∙ ap (λ (x : State). after sheet x q .table) h, a .tally ∙ ap (λ (x : State). after sheet x q .tally) h, a .answer ∙ ap (λ (x : State). Step.answer x q) h)
 
   -- a longer table is not in order
   left-many : 1024 < length ys → Left
   left-many l =
       let long : 1024 < length (map wordsOf ys) = omega (arith, length-map ys wordsOf) in
-      let d : Stepped (map wordsOf ys) t q (map wordsOf ys) (record { tally = t; answer = Refused Disordered }) = stepped-disordered (map wordsOf ys) t q (too-many (map wordsOf ys) (t .issued) long) in
+      let d : Stepped sheet (map wordsOf ys) t q (map wordsOf ys) (record { tally = t; answer = Refused Disordered }) = stepped-disordered sheet (map wordsOf ys) t q (too-many (map wordsOf ys) (t .issued) long) in
       let h : lends (rowsIn (map wordsOf ys)) t ≡ lends ys t = ap (λ (rows : List Cap). lends rows t) (rows-words ys) in
       let kept : stored ys ws (held (length ys)) ≡ rowsIn (map wordsOf ys) = ap (stored ys ws) (held-many (length ys) l) ∙ sym (rows-words ys) in
-      (kept ∙ d .table ∙ ap (λ (x : State). after sheet6 x q .table) h, s .many l .0 ∙ d .tally ∙ ap (λ (x : State). after sheet6 x q .tally) h, s .many l .1 ∙ d .answer ∙ ap (λ (x : State). Step.answer x q) h)
+      (kept ∙ d .table ∙ ap (λ (x : State). after sheet x q .table) h, s .many l .0 ∙ d .tally ∙ ap (λ (x : State). after sheet x q .tally) h, s .many l .1 ∙ d .answer ∙ ap (λ (x : State). Step.answer x q) h)
 
   pub left : Left
   left = go (test (leb (length ys) 1024))

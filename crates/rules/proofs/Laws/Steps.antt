@@ -16,6 +16,7 @@ use Rattle.model.specs.declared.NewName.{NewName}
 use Rattle.model.specs.declared.Span.{Span}
 use Rattle.model.specs.declared.Cap.{Cap}
 use Rattle.model.specs.declared.Access.{Access}
+use Rattle.model.specs.declared.Sheet.{Sheet}
 use Rattle.model.specs.declared.Access.the-variants.{Reading, Writing}
 use Rattle.model.specs.declared.Tally.{Tally}
 use Rattle.rules.specs.declared.Outcome.{Outcome}
@@ -26,7 +27,6 @@ use Rattle.model.specs.declared.Refusal.the-variants.{Disordered}
 use Rattle.model.specs.declared.Answer.the-variants.{Allowed, Refused}
 use Rattle.model.specs.Lists.{first, any, all}
 use Rattle.model.specs.Strike.{isEnd, isLower, reached, struck}
-use Rattle.model.specs.Sheet6.{sheet6}
 use Rattle.model.specs.Derivation.{Derivation, ancestry, inSubtree, onAncestry}
 use Rattle.model.specs.Step.{Verdict, State, verdict, outcome, after, answer}
 use Rattle.model.specs.Table.{row, emptyRow, derivations, named, liveRows, lookup, lentTable, inOrder}
@@ -41,7 +41,7 @@ use Rattle.table.specs.Words.{rowsIn}
 use Rattle.table.specs.Rows.{nameAt, before, Filled, Front, Found, Places, Orderly}
 use Rattle.rules.specs.Engine.{Marked, kept, Ready, Settled}
 use Rattle.rules.specs.Steps.{lends, Stepped}
-use Rattle.model.proofs.Offered.{test, and-both, allowed, ordered-not-1, access-fits, Named, live-lent, Ordered, ordered, live-named, access-inOrder, access-named, order-after, reads-end-none}
+use Rattle.model.proofs.Offered.{test, and-both, allowed, ordered-not-1, access-fits, Named, live-lent, Ordered, ordered, live-named, access-inOrder, access-named, order-after}
 use Rattle.table.proofs.Offered.{length-in, before-suc, before-same, length-before, extend, Alike, places-more, found-zero, numbered, orderly-live, orderly-rise, orderly-standing, orderly-judge, orderly-zeros}
 use Rattle.rules.proofs.Laws.Settle.{before-lent, kept-revoke}
 
@@ -72,25 +72,11 @@ appended-settled T n k q c places b few l z f m g p = record {
     new : getD (set T k c) k emptyRow ≡ c
     new = getD-set-same T k c emptyRow (omega arith)
 
--- a read ends no row
-no-end : (s : Span) (user holder : List Derivation) → reached sheet6 isEnd Reading s user holder ≡ false
-unfolding reached onAncestry
-no-end s user [] = refl
-no-end s user (d ∷ above) = rw (reads-end-none s user (d ∷ above)) (no-end s user above)
-
-pub read-marks : (marks : List ℕ) (T : List Cap) (k u : ℕ) (s : Span) (lowers : ℕ → Bool) → Marked T k marks (struck sheet6 isEnd Reading (derivations (before T k)) u s) lowers → (j : ℕ) → j < k → getD marks j 0 < 2
-unfolding struck
-read-marks marks T k u s lowers m j l = go (lowers (nameAt T j)) (m .each j l ∙ ap (λ (b : Bool). cond b 2 (cond (lowers (nameAt T j)) 1 0)) (no-end s (ancestry (derivations (before T k)) u) (ancestry (derivations (before T k)) (nameAt T j))))
-  where
-    go : (b : Bool) → getD marks j 0 ≡ cond b 1 0 → getD marks j 0 < 2
-    go true e = omega arith
-    go false e = omega arith
-
 -- the marks of an access leave what the rules leave
-pub kept-used : (marks : List ℕ) (T : List Cap) (k u : ℕ) (a : Access) (s : Span) → Marked T k marks (struck sheet6 isEnd a (derivations (before T k)) u s) (struck sheet6 isLower a (derivations (before T k)) u s)
-    → kept marks T k ≡ afterAccess sheet6 a u s (before T k)
+pub kept-used : (sheet : Sheet) (marks : List ℕ) (T : List Cap) (k u : ℕ) (a : Access) (s : Span) → Marked T k marks (struck sheet isEnd a (derivations (before T k)) u s) (struck sheet isLower a (derivations (before T k)) u s)
+    → kept marks T k ≡ afterAccess sheet a u s (before T k)
 unfolding afterAccess
-kept-used marks T k u a s m = kept-revoke marks (struck sheet6 isEnd a (derivations (before T k)) u s) (struck sheet6 isLower a (derivations (before T k)) u s) T k m
+kept-used sheet marks T k u a s m = kept-revoke marks (struck sheet isEnd a (derivations (before T k)) u s) (struck sheet isLower a (derivations (before T k)) u s) T k m
 
 module _ (ws : List (List ℕ)) (k issued : ℕ) (o : Orderly (rowsIn ws) (length ws) k issued) where
   abbrev T : List Cap
@@ -122,8 +108,8 @@ module _ (ws : List (List ℕ)) (k issued : ℕ) (o : Orderly (rowsIn ws) (lengt
   depth-borrow w u s r kind h = leb-false 64 (lookup (u .0) (before T k) .depth) (rw live-is at (allowed (viewOf T issued) (Single (Borrow w u s r kind)) h 8))
 
 -- after an access through any name the table is in order, its live rows are those that are left, and they are no more than before
-module _ (ws : List (List ℕ)) (k issued : ℕ) (o : Orderly (rowsIn ws) (length ws) k issued) (a : Access) (u : ℕ) (s : Span) (ws′ : List (List ℕ)) {r : ℕ} {places : List ℕ}
-    (left : Settled (rowsIn ws′) (length ws) r (afterAccess sheet6 a u s (before (rowsIn ws) k)) places) (long : length ws′ ≡ length ws) where
+module _ (ws : List (List ℕ)) (k issued : ℕ) (o : Orderly (rowsIn ws) (length ws) k issued) (sheet : Sheet) (a : Access) (u : ℕ) (s : Span) (ws′ : List (List ℕ)) {r : ℕ} {places : List ℕ}
+    (left : Settled (rowsIn ws′) (length ws) r (afterAccess sheet a u s (before (rowsIn ws) k)) places) (long : length ws′ ≡ length ws) where
   abbrev old : List Cap
   old = before (rowsIn ws) k
 
@@ -136,17 +122,17 @@ module _ (ws : List (List ℕ)) (k issued : ℕ) (o : Orderly (rowsIn ws) (lengt
     all = length-in ws′;
     front = rw long (left .front);
     ordered =
-        ap (λ (t : List Cap). inOrder t issued) (left .table ∙ ap₂ (λ (m : ℕ) (rows : List Cap). lentTable m (afterAccess sheet6 a u s rows)) (sym (o .all)) (sym live-old))
-        ∙ access-inOrder sheet6 (viewOf (rowsIn ws) issued) (ordered (rowsIn ws) issued (o .ordered)) a u s;
+        ap (λ (t : List Cap). inOrder t issued) (left .table ∙ ap₂ (λ (m : ℕ) (rows : List Cap). lentTable m (afterAccess sheet a u s rows)) (sym (o .all)) (sym live-old))
+        ∙ access-inOrder sheet (viewOf (rowsIn ws) issued) (ordered (rowsIn ws) issued (o .ordered)) a u s;
   }
 
-  pub access-rows : before (rowsIn ws′) r ≡ afterAccess sheet6 a u s old
+  pub access-rows : before (rowsIn ws′) r ≡ afterAccess sheet a u s old
   access-rows =
       sym (orderly-live (rowsIn ws′) (length ws′) r issued access-orderly) ∙ ap liveRows (left .table)
-      ∙ live-lent (length ws) (afterAccess sheet6 a u s old) (access-named sheet6 old (subst Named live-old (live-named (rowsIn ws))) a u s)
+      ∙ live-lent (length ws) (afterAccess sheet a u s old) (access-named sheet old (subst Named live-old (live-named (rowsIn ws))) a u s)
 
   pub access-few : r ≤ k
-  access-few = omega (arith, length-before (rowsIn ws′) r, ap length access-rows, access-fits sheet6 a u s old, length-before (rowsIn ws) k)
+  access-few = omega (arith, length-before (rowsIn ws′) r, ap length access-rows, access-fits sheet a u s old, length-before (rowsIn ws) k)
 
   pub access-ready : Ready ws′ r
   access-ready = ready ws′ r issued access-orderly
@@ -157,14 +143,14 @@ module _ (ws : List (List ℕ)) (k issued : ℕ) (o : Orderly (rowsIn ws) (lengt
 
 -- ---- the whole step
 
-settled-refused : (h : State) (req : Request) (j : ℕ) → (j ≡ 0 → ⊥) → (j ≡ 1 → ⊥) → (outcome sheet6 j h req .table ≡ h .table) × (outcome sheet6 j h req .tally ≡ countRefused (h .tally))
-settled-refused h req zero a b = absurd (a refl)
-settled-refused h req (suc zero) a b = absurd (b refl)
-settled-refused h req (suc (suc j)) a b = (refl, refl)
+settled-refused : (sheet : Sheet) (h : State) (req : Request) (j : ℕ) → (j ≡ 0 → ⊥) → (j ≡ 1 → ⊥) → (outcome sheet j h req .table ≡ h .table) × (outcome sheet j h req .tally ≡ countRefused (h .tally))
+settled-refused sheet h req zero a b = absurd (a refl)
+settled-refused sheet h req (suc zero) a b = absurd (b refl)
+settled-refused sheet h req (suc (suc j)) a b = (refl, refl)
 
-module _ (ws : List (List ℕ)) (t : Tally) (req : Request) where
+module _ (sheet : Sheet) (ws : List (List ℕ)) (t : Tally) (req : Request) where
   -- a table out of order
-  pub stepped-disordered : inOrder (rowsIn ws) (t .issued) ≡ false → Stepped ws t req ws (record { tally = t; answer = Refused Disordered })
+  pub stepped-disordered : inOrder (rowsIn ws) (t .issued) ≡ false → Stepped sheet ws t req ws (record { tally = t; answer = Refused Disordered })
   unfolding judge refusals after answer
   stepped-disordered h = record { table = rw h; tally = rw h; answer = rw h }
 
@@ -174,10 +160,10 @@ module _ (ws : List (List ℕ)) (t : Tally) (req : Request) where
 
     -- an allowed event
     pub stepped-allowed : (ws′ : List (List ℕ)) (y : Tally) (x : Name) → verdictOf (Allowed x) ≡ verdict (judge (viewOf (rowsIn ws) (t .issued)) req) (newName (t .issued) req)
-        → rowsIn ws′ ≡ lentTable (length ws) (rowsAfter sheet6 (t .issued) (before (rowsIn ws) k) req) → y ≡ countAllowed req t → Stepped ws t req ws′ (record { tally = y; answer = Allowed x })
+        → rowsIn ws′ ≡ lentTable (length ws) (rowsAfter sheet (t .issued) (before (rowsIn ws) k) req) → y ≡ countAllowed req t → Stepped sheet ws t req ws′ (record { tally = y; answer = Allowed x })
     unfolding after answer
     stepped-allowed ws′ y x q h c = record {
-      table = h ∙ rw zero-is (ap₂ (λ (m : ℕ) (rows : List Cap). lentTable m (rowsAfter sheet6 (t .issued) rows req)) (sym (o .all)) (sym (live-is ws k (t .issued) o)));
+      table = h ∙ rw zero-is (ap₂ (λ (m : ℕ) (rows : List Cap). lentTable m (rowsAfter sheet (t .issued) rows req)) (sym (o .all)) (sym (live-is ws k (t .issued) o)));
       tally = c ∙ rw zero-is;
       answer = q;
     }
@@ -187,11 +173,11 @@ module _ (ws : List (List ℕ)) (t : Tally) (req : Request) where
 
     -- a refused one
     pub stepped-refused : (y : Tally) (x : Refusal) → verdictOf (Refused x) ≡ verdict (judge (viewOf (rowsIn ws) (t .issued)) req) (newName (t .issued) req) → y ≡ countRefused t
-        → Stepped ws t req ws (record { tally = y; answer = Refused x })
+        → Stepped sheet ws t req ws (record { tally = y; answer = Refused x })
     unfolding after answer
     stepped-refused y x q c = record {
-      table = sym (settled-refused (lends (rowsIn ws) t) req (judge (viewOf (rowsIn ws) (t .issued)) req) not-0 not-1 .0);
-      tally = c ∙ sym (settled-refused (lends (rowsIn ws) t) req (judge (viewOf (rowsIn ws) (t .issued)) req) not-0 not-1 .1);
+      table = sym (settled-refused sheet (lends (rowsIn ws) t) req (judge (viewOf (rowsIn ws) (t .issued)) req) not-0 not-1 .0);
+      tally = c ∙ sym (settled-refused sheet (lends (rowsIn ws) t) req (judge (viewOf (rowsIn ws) (t .issued)) req) not-0 not-1 .1);
       answer = q;
     }
       where
@@ -205,36 +191,36 @@ module _ (ws : List (List ℕ)) (t : Tally) (req : Request) where
         not-1 = ordered-not-1 (viewOf (rowsIn ws) (t .issued)) req (o .ordered)
 
 -- the table is in order after it too
-pub orderly-after : (ws : List (List ℕ)) (t : Tally) (req : Request) (k : ℕ) (ws′ : List (List ℕ)) (r : Outcome) (live : ℕ) → length ws′ ≡ length ws → Orderly (rowsIn ws) (length ws) k (t .issued) → Stepped ws t req ws′ r → Front (rowsIn ws′) (length ws) live → Orderly (rowsIn ws′) (length ws′) live (r .tally .issued)
-orderly-after ws t req k ws′ r live long o s f = record {
+pub orderly-after : (sheet : Sheet) (ws : List (List ℕ)) (t : Tally) (req : Request) (k : ℕ) (ws′ : List (List ℕ)) (r : Outcome) (live : ℕ) → length ws′ ≡ length ws → Orderly (rowsIn ws) (length ws) k (t .issued) → Stepped sheet ws t req ws′ r → Front (rowsIn ws′) (length ws) live → Orderly (rowsIn ws′) (length ws′) live (r .tally .issued)
+orderly-after sheet ws t req k ws′ r live long o s f = record {
   few = rw long (o .few);
   all = length-in ws′;
   front = rw long f;
   ordered =
       ap₂ (λ (rows : List Cap) (y : Tally). inOrder rows (y .issued)) (s .table) (s .tally)
-      ∙ order-after sheet6 (lends (rowsIn ws) t) req (o .ordered);
+      ∙ order-after sheet (lends (rowsIn ws) t) req (o .ordered);
 }
 
 -- ---- the rows after an event
 
-module _ (issued : ℕ) (rows : List Cap) where
-  pub next-create : (w : NewName) (s : Span) (r : ℕ) (c : Cap) → c ≡ row (record { name = issued + 1; parent = 0; span = s; kind = 0 }) r 1 → c ∷ afterAccess sheet6 Writing (issued + 1) s rows ≡ rowsAfter sheet6 issued rows (Single (Create w s r))
+module _ (sheet : Sheet) (issued : ℕ) (rows : List Cap) where
+  pub next-create : (w : NewName) (s : Span) (r : ℕ) (c : Cap) → c ≡ row (record { name = issued + 1; parent = 0; span = s; kind = 0 }) r 1 → c ∷ afterAccess sheet Writing (issued + 1) s rows ≡ rowsAfter sheet issued rows (Single (Create w s r))
   unfolding rowsAfter
   next-create w s r c e = rw (e, add-one)
 
-  pub next-borrow : (w : NewName) (u : Name) (s : Span) (r kind d : ℕ) (c : Cap) → d ≡ lookup (u .0) rows .depth → c ≡ row (record { name = issued + 1; parent = u .0; span = s; kind = kind }) r (d + 1) → c ∷ rows ≡ rowsAfter sheet6 issued rows (Single (Borrow w u s r kind))
+  pub next-borrow : (w : NewName) (u : Name) (s : Span) (r kind d : ℕ) (c : Cap) → d ≡ lookup (u .0) rows .depth → c ≡ row (record { name = issued + 1; parent = u .0; span = s; kind = kind }) r (d + 1) → c ∷ rows ≡ rowsAfter sheet issued rows (Single (Borrow w u s r kind))
   unfolding rowsAfter
   next-borrow w u s r kind d c f e = rw (e, f, add-one, add-one)
 
-  pub next-read : (u : Name) (s : Span) → afterAccess sheet6 Reading (u .0) s rows ≡ rowsAfter sheet6 issued rows (Single (Read u s))
+  pub next-read : (u : Name) (s : Span) → afterAccess sheet Reading (u .0) s rows ≡ rowsAfter sheet issued rows (Single (Read u s))
   unfolding rowsAfter
   next-read u s = refl
 
-  pub next-write : (u : Name) (s : Span) → afterAccess sheet6 Writing (u .0) s rows ≡ rowsAfter sheet6 issued rows (Single (Write u s))
+  pub next-write : (u : Name) (s : Span) → afterAccess sheet Writing (u .0) s rows ≡ rowsAfter sheet issued rows (Single (Write u s))
   unfolding rowsAfter
   next-write u s = refl
 
-  pub next-drop : (u : Name) → rowsWithout (u .0 ∷ []) rows ≡ rowsAfter sheet6 issued rows (Single (Drop u))
+  pub next-drop : (u : Name) → rowsWithout (u .0 ∷ []) rows ≡ rowsAfter sheet issued rows (Single (Drop u))
   unfolding rowsAfter
   next-drop u = refl
 

@@ -9,11 +9,15 @@ use lib.Seq.{getD-set-same, getD-set-other}
 use Rattle.model.specs.declared.Access.{Access}
 use Rattle.model.specs.declared.Access.the-variants.{Reading, Writing}
 use Rattle.model.specs.declared.Effect.{Effect}
+use Rattle.model.specs.declared.Effect.the-variants.{Keep, Lower, End}
+use Rattle.model.specs.declared.Results.{Results}
+use Rattle.model.specs.declared.Conflicts.{Conflicts}
+use Rattle.model.specs.declared.Sheet.{Sheet}
 use Rattle.model.specs.declared.Origin.{Origin}
 use Rattle.model.specs.declared.Origin.the-variants.{Cell, Kin, Stranger}
 use Rattle.model.specs.Strike.{resultOf}
 use Rattle.model.specs.Sheet6.{sheet6}
-use Rattle.table.specs.Sheets.{effectIn, resultIn, sheetIn, sheetLent, holderNumber, placeOf, weight, bytes6, Taken}
+use Rattle.table.specs.Sheets.{effectIn, resultIn, sheetIn, sheetLent, holderNumber, placeOf, weight, withResults, withConflicts, bytesOf, bytes6, Taken}
 use Rattle.table.proofs.Laws.Prefix.{extend}
 
 -- a list that is filled up with one value has that one where the list has none
@@ -79,8 +83,65 @@ weight-at bytes kind a from place e = ap (λ (i : ℕ). weight (resultIn bytes i
 pub same-sheet : (xs ys : List ℕ) → ((i : ℕ) → i < 18 → getD xs i 0 ≡ getD ys i 0) → sheetIn xs ≡ sheetIn ys
 unfolding sheetIn
 same-sheet xs ys h =
-    rw (h 0 (omega arith), h 1 (omega arith), h 2 (omega arith), h 3 (omega arith), h 4 (omega arith), h 5 (omega arith), h 6 (omega arith), h 7 (omega arith), h 8 (omega arith),
-    h 9 (omega arith), h 10 (omega arith), h 11 (omega arith), h 12 (omega arith), h 13 (omega arith), h 14 (omega arith), h 15 (omega arith), h 16 (omega arith), h 17 (omega arith))
+    rw (
+      h 0 (omega arith),
+      h 1 (omega arith),
+      h 2 (omega arith),
+      h 3 (omega arith),
+      h 4 (omega arith),
+      h 5 (omega arith),
+      h 6 (omega arith),
+      h 7 (omega arith),
+      h 8 (omega arith),
+      h 9 (omega arith),
+      h 10 (omega arith),
+      h 11 (omega arith),
+      h 12 (omega arith),
+      h 13 (omega arith),
+      h 14 (omega arith),
+      h 15 (omega arith),
+      h 16 (omega arith),
+      h 17 (omega arith),
+    )
+
+-- results that are put in their places change no length
+pub results-long : (bytes : List ℕ) (first : ℕ) (r : Results) → length (withResults bytes first r) ≡ length bytes
+results-long bytes first r =
+    length-set (set (set bytes first (weight (r .cell))) (first + 1) (weight (r .kin))) (first + 2) (weight (r .stranger))
+    ∙ length-set (set bytes first (weight (r .cell))) (first + 1) (weight (r .kin)) ∙ length-set bytes first (weight (r .cell))
+
+pub conflicts-long : (bytes : List ℕ) (first : ℕ) (c : Conflicts) → length (withConflicts bytes first c) ≡ length bytes
+conflicts-long bytes first c = results-long (withResults bytes first (c .read)) (first + 3) (c .write) ∙ results-long bytes first (c .read)
+
+-- a sheet is that of its bytes
+effect-back : (e : Effect) → effectIn (weight e) ≡ e
+effect-back Keep = refl
+effect-back Lower = refl
+effect-back End = refl
+
+pub bytes-back : (sheet : Sheet) → sheetIn (bytesOf sheet) ≡ sheet
+unfolding sheetIn bytesOf
+bytes-back sheet =
+    rw (
+      effect-back (sheet .reference .read .cell),
+      effect-back (sheet .reference .read .kin),
+      effect-back (sheet .reference .read .stranger),
+      effect-back (sheet .reference .write .cell),
+      effect-back (sheet .reference .write .kin),
+      effect-back (sheet .reference .write .stranger),
+      effect-back (sheet .raw .read .cell),
+      effect-back (sheet .raw .read .kin),
+      effect-back (sheet .raw .read .stranger),
+      effect-back (sheet .raw .write .cell),
+      effect-back (sheet .raw .write .kin),
+      effect-back (sheet .raw .write .stranger),
+      effect-back (sheet .cell .read .cell),
+      effect-back (sheet .cell .read .kin),
+      effect-back (sheet .cell .read .stranger),
+      effect-back (sheet .cell .write .cell),
+      effect-back (sheet .cell .write .kin),
+      effect-back (sheet .cell .write .stranger),
+    )
 
 -- card 6's sheet is that of its bytes, and that of none
 pub bytes6-is : sheetIn bytes6 ≡ sheet6
@@ -103,8 +164,8 @@ taking-more lent bytes i l t =
     record {
       long = length-set bytes i (getD lent i 2) ∙ t .long;
       each = extend (λ j. getD (set bytes i (getD lent i 2)) j 0 ≡ getD lent j 2) i
-        (λ j b. getD-set-other bytes i j (getD lent i 2) 0 (λ e. omega arith) ∙ t .each j b)
-        (getD-set-same bytes i (getD lent i 2) 0 (omega (arith, t .long)));
+          (λ j b. getD-set-other bytes i j (getD lent i 2) 0 (λ e. omega arith) ∙ t .each j b)
+          (getD-set-same bytes i (getD lent i 2) 0 (omega (arith, t .long)));
     }
 
 pub taken-all : (lent bytes : List ℕ) → (length lent ≡ 0 → ⊥) → Taking lent bytes 18 → Taken lent bytes

@@ -8,6 +8,8 @@ use native.Mathlib.Omega.{arith}
 use lib.Dec.{eqb, leb}
 use lib.ListN.{length, replicate, drop, length-append, length-replicate, length-drop}
 use borrow.Author.Tests.{leb-true, leb-false, le-leb}
+use Rattle.model.specs.declared.Sheet.{Sheet}
+use Rattle.model.specs.Sheet6.{sheet6}
 use Rattle.model.specs.declared.Cap.{Cap}
 use Rattle.model.specs.declared.Event.{Event}
 use Rattle.model.specs.declared.Event.the-variants.{Create, Borrow, Read, Write, Drop}
@@ -68,32 +70,33 @@ judge-most : (t : List Cap) (i : ℕ) (q : Request) → judge (viewOf t i) q ≤
 unfolding judge
 judge-most t i q = first-most (refusals (viewOf t i) q) (refusals-most t i q)
 
-line-most : (k : Spelling) (h : State) (l : List ℕ) → takeLine lent k h l .refusal ≤ 13
-unfolding answer
-line-most k h l = event (readEvent k l)
-  where
-    group : (r : Result (List ℕ)) → ((n : ℕ) → r ≡ refused n → n ≡ 2) → takeRead lent h (groupOf r) .refusal ≤ 13
-    group (value names) two = judge-most (h .table) (h .tally .issued) (Group names)
-    group (refused n) two = omega (arith, two n refl)
+module _ (sheet : Sheet) where
+  line-most : (k : Spelling) (h : State) (l : List ℕ) → takeLine (lent sheet) k h l .refusal ≤ 13
+  unfolding answer
+  line-most k h l = event (readEvent k l)
+    where
+      group : (r : Result (List ℕ)) → ((n : ℕ) → r ≡ refused n → n ≡ 2) → takeRead (lent sheet) h (groupOf r) .refusal ≤ 13
+      group (value names) two = judge-most (h .table) (h .tally .issued) (Group names)
+      group (refused n) two = omega (arith, two n refl)
 
-    event : (r : Result Event) → takeRead lent h (orGroup l r) .refusal ≤ 13
-    event (value e) = judge-most (h .table) (h .tally .issued) (Single e)
-    event (refused n) = group (readGroup l) (refused-group-is-2 l)
+      event : (r : Result Event) → takeRead (lent sheet) h (orGroup l r) .refusal ≤ 13
+      event (value e) = judge-most (h .table) (h .tally .issued) (Single e)
+      event (refused n) = group (readGroup l) (refused-group-is-2 l)
 
-lines-most : (k : Spelling) (before : ℕ) (h : State) (ls : List (List ℕ)) → runLines lent k before h ls .refusal ≤ 13
-unfolding runLines
-lines-most k before h [] = omega arith
-lines-most k before h (l ∷ ls) =
-    let t = takeLine lent k h l in
-    turned (λ (r : Ran State). r .refusal ≤ 13) (eqb (t .refusal) 0) (runLines lent k (before + 1) (t .state) ls) (record { refusal = t .refusal; number = before + 1; state = t .state })
-    (lines-most k (before + 1) (t .state) ls) (line-most k h l)
+  lines-most : (k : Spelling) (before : ℕ) (h : State) (ls : List (List ℕ)) → runLines (lent sheet) k before h ls .refusal ≤ 13
+  unfolding runLines
+  lines-most k before h [] = omega arith
+  lines-most k before h (l ∷ ls) =
+      let t = takeLine (lent sheet) k h l in
+      turned (λ (r : Ran State). r .refusal ≤ 13) (eqb (t .refusal) 0) (runLines (lent sheet) k (before + 1) (t .state) ls) (record { refusal = t .refusal; number = before + 1; state = t .state })
+      (lines-most k (before + 1) (t .state) ls) (line-most k h l)
 
-pub refusal-run : (h : State) (text : List ℕ) → run h text .refusal ≤ 13
-unfolding runFrom
-refusal-run h text =
-    turned (λ (r : Ran State). r .refusal ≤ 13) (inOrder (h .table) (h .tally .issued)) (runTrace lent h (linesOf text)) (record { refusal = 1; number = 0; state = h })
-    (of-trace (λ (r : Ran State). r .refusal ≤ 13) h (linesOf text) (lines-most Plain 0 h (linesOf text)) (λ line rest e. lines-most Named 1 h rest))
-    (omega arith)
+  pub refusal-run : (h : State) (text : List ℕ) → run sheet h text .refusal ≤ 13
+  unfolding runFrom
+  refusal-run h text =
+      turned (λ (r : Ran State). r .refusal ≤ 13) (inOrder (h .table) (h .tally .issued)) (runTrace (lent sheet) h (linesOf text)) (record { refusal = 1; number = 0; state = h })
+      (of-trace sheet (λ (r : Ran State). r .refusal ≤ 13) h (linesOf text) (lines-most Plain 0 h (linesOf text)) (λ line rest e. lines-most Named 1 h rest))
+      (omega arith)
 
 -- ---- the line of an answer, and all that is printed
 
@@ -110,9 +113,9 @@ check-fits input = go (leb (length input) 65536) refl
   where
     go : (t : Bool) → leb (length input) 65536 ≡ t → length (checkText input) ≤ 39968
     go true e =
-        let r = run (initial 1024 noCounts) input in
+        let r = run sheet6 (initial 1024 noCounts) input in
         let few = leb-true (length input) 65536 e in
-        let first = answer-fits (r .refusal) (r .number) (refusal-run (initial 1024 noCounts) input) (omega (arith, number-run (initial 1024 noCounts) input)) in
+        let first = answer-fits (r .refusal) (r .number) (refusal-run sheet6 (initial 1024 noCounts) input) (omega (arith, number-run sheet6 (initial 1024 noCounts) input)) in
         let second = listing-fits (r .state .table) (r .state .tally .issued) (ran-order input r refl) in
         omega (arith, ap length (ran-report input r refl few), length-append (answerLine (r .refusal) (r .number)) (listing (r .state .table) (r .state .tally .issued)))
     go false e = omega (arith, ap length (long-text input (leb-false (length input) 65536 e)))

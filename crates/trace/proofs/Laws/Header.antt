@@ -7,6 +7,7 @@ use Prim.Native.Nat.{ℕ, suc, _≤_, _<_}
 use native.Mathlib.Omega.{arith}
 use lib.ListN.{length, drop}
 use lib.Seq.{length-take-le}
+use Rattle.model.specs.declared.Sheet.{Sheet}
 use Rattle.model.specs.declared.Tally.{Tally}
 use Rattle.model.specs.Step.{State}
 use Rattle.model.specs.Table.{inOrder}
@@ -45,14 +46,15 @@ unfolding runTrace partsOf
 trace-plain [] h c s = refl
 trace-plain (b ∷ t) h c s = rw (parts-next newline (b ∷ t) (omega arith), h)
 
--- a run of a table in order goes by its lines
-in-order : (ws : List (List ℕ)) (t : Tally) (text : List ℕ) → inOrder (rowsIn ws) (t .issued) ≡ true → runTrace lent (lends (rowsIn ws) t) (linesOf text) ≡ run (lends (rowsIn ws) t) text
-unfolding runFrom
-in-order ws t text o = rw o
+module _ (sheet : Sheet) where
+  -- a run of a table in order goes by its lines
+  in-order : (ws : List (List ℕ)) (t : Tally) (text : List ℕ) → inOrder (rowsIn ws) (t .issued) ≡ true → runTrace (lent sheet) (lends (rowsIn ws) t) (linesOf text) ≡ run sheet (lends (rowsIn ws) t) text
+  unfolding runFrom
+  in-order ws t text o = rw o
 
-module _ (ws : List (List ℕ)) (t : Tally) (text : List ℕ) (o : inOrder (rowsIn ws) (t .issued) ≡ true) {ws′ : List (List ℕ)} {r : RunOutcome} where
-  pub runs-named : same (nextLine text) header ≡ true → {rest : List ℕ} → rest ≡ drop 10 text → RunsLines Named 1 ws t rest ws′ r → Runs ws t text ws′ r
-  runs-named h e k = record { ran = k .ran ∙ ap (λ (l : List ℕ). runLines lent Named 1 (lends (rowsIn ws) t) (linesOf l)) e ∙ sym (trace-named text h lent (lends (rowsIn ws) t)) ∙ in-order ws t text o }
+  module _ (ws : List (List ℕ)) (t : Tally) (text : List ℕ) (o : inOrder (rowsIn ws) (t .issued) ≡ true) {ws′ : List (List ℕ)} {r : RunOutcome} where
+    pub runs-named : same (nextLine text) header ≡ true → {rest : List ℕ} → rest ≡ drop 10 text → RunsLines sheet Named 1 ws t rest ws′ r → Runs sheet ws t text ws′ r
+    runs-named h e k = record { ran = k .ran ∙ ap (λ (l : List ℕ). runLines (lent sheet) Named 1 (lends (rowsIn ws) t) (linesOf l)) e ∙ sym (trace-named text h (lent sheet) (lends (rowsIn ws) t)) ∙ in-order ws t text o }
 
-  pub runs-plain : same (nextLine text) header ≡ false → RunsLines Plain 0 ws t text ws′ r → Runs ws t text ws′ r
-  runs-plain h k = record { ran = k .ran ∙ sym (trace-plain text h lent (lends (rowsIn ws) t)) ∙ in-order ws t text o }
+    pub runs-plain : same (nextLine text) header ≡ false → RunsLines sheet Plain 0 ws t text ws′ r → Runs sheet ws t text ws′ r
+    runs-plain h k = record { ran = k .ran ∙ sym (trace-plain text h (lent sheet) (lends (rowsIn ws) t)) ∙ in-order ws t text o }

@@ -9,7 +9,7 @@ use Rattle.model.specs.declared.Cap.{Cap}
 use Rattle.model.specs.Requests.{Request}
 use Rattle.model.specs.declared.Tally.{Tally}
 use Rattle.model.specs.Table.{inOrder}
-use Rattle.model.specs.Sheet6.{sheet6}
+use Rattle.model.specs.declared.Sheet.{Sheet}
 use Rattle.model.specs.Step.{Verdict, State, initial}
 use Rattle.model.specs.Step
 use Rattle.model.specs.History.{History, emptyHistory}
@@ -24,60 +24,60 @@ use Rattle.text.specs.Request.{readRequest}
 use Rattle.trace.specs.Run.{header, Taken, Ran, takeRead, takeLine, runLines, runTrace, runFrom, lent, run}
 use Rattle.trace.specs.HistoryRun.{noted, SameRun}
 
-module _ (n : ℕ) where
+module _ (sheet : Sheet) (n : ℕ) where
   -- a line, and a run, of the lent table and of the history
   record SameLine (r : Taken State) (q : Taken History) : Type 0 where
     refusals : r .refusal ≡ q .refusal
-    match : Match sheet6 n (r .state) (q .state)
+    match : Match sheet n (r .state) (q .state)
 
   record Same (r : Ran State) (q : Ran History) : Type 0 where
     refusals : r .refusal ≡ q .refusal
     numbers : r .number ≡ q .number
-    match : Match sheet6 n (r .state) (q .state)
+    match : Match sheet n (r .state) (q .state)
 
-  same-line : (k : Spelling) (h : State) (H : History) → Match sheet6 n h H → (l : List ℕ) → SameLine (takeLine lent k h l) (takeLine (noted n) k H l)
+  same-line : (k : Spelling) (h : State) (H : History) → Match sheet n h H → (l : List ℕ) → SameLine (takeLine (lent sheet) k h l) (takeLine (noted sheet n) k H l)
   same-line k h H m l = go (readRequest k l)
     where
-      go : (r : Result Request) → SameLine (takeRead lent h r) (takeRead (noted n) H r)
+      go : (r : Result Request) → SameLine (takeRead (lent sheet) h r) (takeRead (noted sheet n) H r)
       go (value q) =
-          record { refusals = ap (λ (v : Verdict). v .refusal) (match-answer sheet6 n h H m q); match = match-after sheet6 n h H m q }
+          record { refusals = ap (λ (v : Verdict). v .refusal) (match-answer sheet n h H m q); match = match-after sheet n h H m q }
       go (refused x) = record { refusals = refl; match = record { same-table = m .same-table; same-issued = m .same-issued; kept = m .kept } }
 
-  same-lines : (k : Spelling) (before : ℕ) (h : State) (H : History) → Match sheet6 n h H → (ls : List (List ℕ)) → Same (runLines lent k before h ls) (runLines (noted n) k before H ls)
+  same-lines : (k : Spelling) (before : ℕ) (h : State) (H : History) → Match sheet n h H → (ls : List (List ℕ)) → Same (runLines (lent sheet) k before h ls) (runLines (noted sheet n) k before H ls)
   unfolding runLines
   same-lines k before h H m [] = record { refusals = refl; numbers = refl; match = m }
-  same-lines k before h H m (l ∷ ls) = rw (s .refusals) (go (eqb (t .refusal) 0) (same-lines k (before + 1) (takeLine lent k h l .state) (t .state) (s .match) ls))
+  same-lines k before h H m (l ∷ ls) = rw (s .refusals) (go (eqb (t .refusal) 0) (same-lines k (before + 1) (takeLine (lent sheet) k h l .state) (t .state) (s .match) ls))
     where
-      s : SameLine (takeLine lent k h l) (takeLine (noted n) k H l)
+      s : SameLine (takeLine (lent sheet) k h l) (takeLine (noted sheet n) k H l)
       s = same-line k h H m l
 
       t : Taken History
-      t = takeLine (noted n) k H l
+      t = takeLine (noted sheet n) k H l
 
-      go : (b : Bool) → Same (runLines lent k (before + 1) (takeLine lent k h l .state) ls) (runLines (noted n) k (before + 1) (takeLine (noted n) k H l .state) ls)
-          → Same (cond b (runLines lent k (before + 1) (takeLine lent k h l .state) ls) (record { refusal = takeLine (noted n) k H l .refusal; number = before + 1; state = takeLine lent k h l .state }))
-          (cond b (runLines (noted n) k (before + 1) (takeLine (noted n) k H l .state) ls) (record { refusal = takeLine (noted n) k H l .refusal; number = before + 1; state = takeLine (noted n) k H l .state }))
+      go : (b : Bool) → Same (runLines (lent sheet) k (before + 1) (takeLine (lent sheet) k h l .state) ls) (runLines (noted sheet n) k (before + 1) (takeLine (noted sheet n) k H l .state) ls)
+          → Same (cond b (runLines (lent sheet) k (before + 1) (takeLine (lent sheet) k h l .state) ls) (record { refusal = takeLine (noted sheet n) k H l .refusal; number = before + 1; state = takeLine (lent sheet) k h l .state }))
+          (cond b (runLines (noted sheet n) k (before + 1) (takeLine (noted sheet n) k H l .state) ls) (record { refusal = takeLine (noted sheet n) k H l .refusal; number = before + 1; state = takeLine (noted sheet n) k H l .state }))
       go true rest = rest
       go false rest = record { refusals = refl; numbers = refl; match = s .match }
 
-  same-trace : (h : State) (H : History) → Match sheet6 n h H → (ls : List (List ℕ)) → Same (runTrace lent h ls) (runTrace (noted n) H ls)
+  same-trace : (h : State) (H : History) → Match sheet n h H → (ls : List (List ℕ)) → Same (runTrace (lent sheet) h ls) (runTrace (noted sheet n) H ls)
   unfolding runTrace
   same-trace h H m [] = same-lines Plain 0 h H m []
   same-trace h H m (l ∷ ls) = go (same l header)
     where
-      go : (b : Bool) → Same (cond b (runLines lent Named 1 h ls) (runLines lent Plain 0 h (l ∷ ls))) (cond b (runLines (noted n) Named 1 H ls) (runLines (noted n) Plain 0 H (l ∷ ls)))
+      go : (b : Bool) → Same (cond b (runLines (lent sheet) Named 1 h ls) (runLines (lent sheet) Plain 0 h (l ∷ ls))) (cond b (runLines (noted sheet n) Named 1 H ls) (runLines (noted sheet n) Plain 0 H (l ∷ ls)))
       go true = same-lines Named 1 h H m ls
       go false = same-lines Plain 0 h H m (l ∷ ls)
 
-  same-from : (h : State) (H : History) → Match sheet6 n h H → (text : List ℕ) → Same (runFrom lent h text) (runFrom (noted n) H text)
+  same-from : (h : State) (H : History) → Match sheet n h H → (text : List ℕ) → Same (runFrom (lent sheet) h text) (runFrom (noted sheet n) H text)
   unfolding runFrom
-  same-from h H m text = rw (ap₂ (λ (t : List Cap) (i : ℕ). inOrder t i) (m .same-table) (m .same-issued)) (go (inOrder (History.table sheet6 n (H .notes)) (H .count)))
+  same-from h H m text = rw (ap₂ (λ (t : List Cap) (i : ℕ). inOrder t i) (m .same-table) (m .same-issued)) (go (inOrder (History.table sheet n (H .notes)) (H .count)))
     where
-      go : (b : Bool) → Same (cond b (runTrace lent h (linesOf text)) (record { refusal = 1; number = 0; state = h })) (cond b (runTrace (noted n) H (linesOf text)) (record { refusal = 1; number = 0; state = H }))
+      go : (b : Bool) → Same (cond b (runTrace (lent sheet) h (linesOf text)) (record { refusal = 1; number = 0; state = h })) (cond b (runTrace (noted sheet n) H (linesOf text)) (record { refusal = 1; number = 0; state = H }))
       go true = same-trace h H m (linesOf text)
       go false = record { refusals = refl; numbers = refl; match = m }
 
-pub same-run : (n : ℕ) (t : Tally) → t .issued ≡ 0 → (text : List ℕ) → SameRun n t text
-same-run n t z text =
-    let s = same-from n (initial n t) emptyHistory (at-first sheet6 n t z) text in
+pub same-run : (sheet : Sheet) (n : ℕ) (t : Tally) → t .issued ≡ 0 → (text : List ℕ) → SameRun sheet n t text
+same-run sheet n t z text =
+    let s = same-from sheet n (initial n t) emptyHistory (at-first sheet n t z) text in
     record { same-refusal = s .refusals; same-number = s .numbers; same-table = s .match .same-table; same-issued = s .match .same-issued }

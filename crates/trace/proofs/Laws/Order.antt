@@ -8,6 +8,7 @@ use Prim.Native.Nat.{ℕ, suc, _+_, _≤_, _<_}
 use native.Mathlib.Omega.{arith}
 use lib.Dec.{eqb}
 use lib.ListN.{length}
+use Rattle.model.specs.declared.Sheet.{Sheet}
 use Rattle.model.specs.Step.{State}
 use Rattle.model.specs.Table.{inOrder}
 use Rattle.text.specs.Class.{classOf, newline}
@@ -26,30 +27,6 @@ pub turned : {S : Type 0} (P : Ran S → Type 0) (t : Bool) (rest end : Ran S) �
 turned P true rest end p q = p
 turned P false rest end p q = q
 
-order-lines : (k : Spelling) (before : ℕ) (h : State) (ls : List (List ℕ)) → Ordered h → Ordered (runLines lent k before h ls .state)
-unfolding runLines
-order-lines k before h [] o = o
-order-lines k before h (l ∷ ls) o =
-    let t = takeLine lent k h l in
-    turned (λ (r : Ran State). Ordered (r .state)) (eqb (t .refusal) 0) (runLines lent k (before + 1) (t .state) ls) (record { refusal = t .refusal; number = before + 1; state = t .state }) (order-lines k (before + 1) (t .state) ls (line-order k h l o)) (line-order k h l o)
-
--- what holds of the lines in either spelling holds of a trace
-pub of-trace : (P : Ran State → Type 0) (h : State) (ls : List (List ℕ)) → P (runLines lent Plain 0 h ls) → ((line : List ℕ) (rest : List (List ℕ)) → ls ≡ line ∷ rest → P (runLines lent Named 1 h rest))
-    → P (runTrace lent h ls)
-unfolding runTrace
-of-trace P h [] p q = p
-of-trace P h (line ∷ ls) p q = turned P (same line header) (runLines lent Named 1 h ls) (runLines lent Plain 0 h (line ∷ ls)) (q line ls refl) p
-
-pub order-run : (h : State) (text : List ℕ) → Ordered h → Ordered (run h text .state)
-unfolding runFrom
-order-run h text o =
-    rw o (of-trace (λ (r : Ran State). Ordered (r .state)) h (linesOf text) (order-lines Plain 0 h (linesOf text) o) (λ line rest e. order-lines Named 1 h rest o))
-
--- a table that is not in order is refused before any line
-pub refused-run : (h : State) (text : List ℕ) → inOrder (h .table) (h .tally .issued) ≡ false → run h text ≡ record { refusal = 1; number = 0; state = h }
-unfolding runFrom
-refused-run h text d = rw d
-
 -- a line that is refused has a number above those before it
 abbrev pub Behind : ℕ → Ran State → Type 0
 Behind before r = (r .refusal ≡ 0) ⊎ (before < r .number)
@@ -57,25 +34,6 @@ Behind before r = (r .refusal ≡ 0) ⊎ (before < r .number)
 behind-more : (before : ℕ) (r : Ran State) → Behind (before + 1) r → Behind before r
 behind-more before r (inl z) = inl z
 behind-more before r (inr l) = inr (omega arith)
-
-pub refused-line : (k : Spelling) (before : ℕ) (h : State) (ls : List (List ℕ)) → Behind before (runLines lent k before h ls)
-unfolding runLines
-refused-line k before h [] = inl refl
-refused-line k before h (l ∷ ls) =
-    let t = takeLine lent k h l in
-    let rest = runLines lent k (before + 1) (t .state) ls in
-    turned (Behind before) (eqb (t .refusal) 0) rest (record { refusal = t .refusal; number = before + 1; state = t .state }) (behind-more before rest (refused-line k (before + 1) (t .state) ls)) (inr (omega arith))
-
-pub refused-trace : (h : State) (ls : List (List ℕ)) → Behind 0 (runTrace lent h ls)
-refused-trace h ls = of-trace (Behind 0) h ls (refused-line Plain 0 h ls) (λ line rest e. behind-more 0 (runLines lent Named 1 h rest) (refused-line Named 1 h rest))
-
-number-lines : (k : Spelling) (before : ℕ) (h : State) (ls : List (List ℕ)) → runLines lent k before h ls .number ≤ before + length ls
-unfolding runLines
-number-lines k before h [] = omega arith
-number-lines k before h (l ∷ ls) =
-    let t = takeLine lent k h l in
-    turned (λ (r : Ran State). r .number ≤ before + suc (length ls)) (eqb (t .refusal) 0) (runLines lent k (before + 1) (t .state) ls) (record { refusal = t .refusal; number = before + 1; state = t .state })
-    (omega (arith, number-lines k (before + 1) (t .state) ls)) (omega arith)
 
 lines-few : (text : List ℕ) → length (linesOf text) ≤ length text
 unfolding partsOf push
@@ -87,10 +45,54 @@ lines-few (b ∷ s) = go (eqb (classOf b) newline) (linesOf s) (lines-few s)
     go false [] h = omega arith
     go false (l ∷ ls) h = omega arith
 
-pub number-run : (h : State) (text : List ℕ) → run h text .number ≤ length text
-unfolding runFrom
-number-run h text =
-    turned (λ (r : Ran State). r .number ≤ length text) (inOrder (h .table) (h .tally .issued)) (runTrace lent h (linesOf text)) (record { refusal = 1; number = 0; state = h })
-    (of-trace (λ (r : Ran State). r .number ≤ length text) h (linesOf text) (omega (arith, number-lines Plain 0 h (linesOf text), lines-few text))
-    (λ line rest e. omega (arith, number-lines Named 1 h rest, lines-few text, ap length e)))
-    (omega arith)
+module _ (sheet : Sheet) where
+  order-lines : (k : Spelling) (before : ℕ) (h : State) (ls : List (List ℕ)) → Ordered h → Ordered (runLines (lent sheet) k before h ls .state)
+  unfolding runLines
+  order-lines k before h [] o = o
+  order-lines k before h (l ∷ ls) o =
+      let t = takeLine (lent sheet) k h l in
+      turned (λ (r : Ran State). Ordered (r .state)) (eqb (t .refusal) 0) (runLines (lent sheet) k (before + 1) (t .state) ls) (record { refusal = t .refusal; number = before + 1; state = t .state }) (order-lines k (before + 1) (t .state) ls (line-order sheet k h l o)) (line-order sheet k h l o)
+
+  -- what holds of the lines in either spelling holds of a trace
+  pub of-trace : (P : Ran State → Type 0) (h : State) (ls : List (List ℕ)) → P (runLines (lent sheet) Plain 0 h ls) → ((line : List ℕ) (rest : List (List ℕ)) → ls ≡ line ∷ rest → P (runLines (lent sheet) Named 1 h rest))
+      → P (runTrace (lent sheet) h ls)
+  unfolding runTrace
+  of-trace P h [] p q = p
+  of-trace P h (line ∷ ls) p q = turned P (same line header) (runLines (lent sheet) Named 1 h ls) (runLines (lent sheet) Plain 0 h (line ∷ ls)) (q line ls refl) p
+
+  pub order-run : (h : State) (text : List ℕ) → Ordered h → Ordered (run sheet h text .state)
+  unfolding runFrom
+  order-run h text o =
+      rw o (of-trace (λ (r : Ran State). Ordered (r .state)) h (linesOf text) (order-lines Plain 0 h (linesOf text) o) (λ line rest e. order-lines Named 1 h rest o))
+
+  -- a table that is not in order is refused before any line
+  pub refused-run : (h : State) (text : List ℕ) → inOrder (h .table) (h .tally .issued) ≡ false → run sheet h text ≡ record { refusal = 1; number = 0; state = h }
+  unfolding runFrom
+  refused-run h text d = rw d
+
+  pub refused-line : (k : Spelling) (before : ℕ) (h : State) (ls : List (List ℕ)) → Behind before (runLines (lent sheet) k before h ls)
+  unfolding runLines
+  refused-line k before h [] = inl refl
+  refused-line k before h (l ∷ ls) =
+      let t = takeLine (lent sheet) k h l in
+      let rest = runLines (lent sheet) k (before + 1) (t .state) ls in
+      turned (Behind before) (eqb (t .refusal) 0) rest (record { refusal = t .refusal; number = before + 1; state = t .state }) (behind-more before rest (refused-line k (before + 1) (t .state) ls)) (inr (omega arith))
+
+  pub refused-trace : (h : State) (ls : List (List ℕ)) → Behind 0 (runTrace (lent sheet) h ls)
+  refused-trace h ls = of-trace (Behind 0) h ls (refused-line Plain 0 h ls) (λ line rest e. behind-more 0 (runLines (lent sheet) Named 1 h rest) (refused-line Named 1 h rest))
+
+  number-lines : (k : Spelling) (before : ℕ) (h : State) (ls : List (List ℕ)) → runLines (lent sheet) k before h ls .number ≤ before + length ls
+  unfolding runLines
+  number-lines k before h [] = omega arith
+  number-lines k before h (l ∷ ls) =
+      let t = takeLine (lent sheet) k h l in
+      turned (λ (r : Ran State). r .number ≤ before + suc (length ls)) (eqb (t .refusal) 0) (runLines (lent sheet) k (before + 1) (t .state) ls) (record { refusal = t .refusal; number = before + 1; state = t .state })
+      (omega (arith, number-lines k (before + 1) (t .state) ls)) (omega arith)
+
+  pub number-run : (h : State) (text : List ℕ) → run sheet h text .number ≤ length text
+  unfolding runFrom
+  number-run h text =
+      turned (λ (r : Ran State). r .number ≤ length text) (inOrder (h .table) (h .tally .issued)) (runTrace (lent sheet) h (linesOf text)) (record { refusal = 1; number = 0; state = h })
+      (of-trace (λ (r : Ran State). r .number ≤ length text) h (linesOf text) (omega (arith, number-lines Plain 0 h (linesOf text), lines-few text))
+      (λ line rest e. omega (arith, number-lines Named 1 h rest, lines-few text, ap length e)))
+      (omega arith)

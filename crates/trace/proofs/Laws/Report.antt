@@ -14,9 +14,13 @@ use Rattle.model.specs.declared.Cap.{Cap}
 use Rattle.model.specs.declared.Refusal.{Refusal}
 use Rattle.model.specs.Answers.{number}
 use Rattle.model.specs.Table.{emptyRow, inOrder}
+use Rattle.model.specs.declared.Sheet.{Sheet}
+use Rattle.model.specs.Sheet6.{sheet6}
 use Rattle.model.specs.Step.{State, initial}
 use Rattle.model.proofs.Offered.{order-fresh}
+use Rattle.table.proofs.Offered.{bytes6-is}
 use Rattle.table.specs.Words.{capOf, rowsIn}
+use Rattle.table.specs.Sheets.{sheetIn, bytes6}
 use Rattle.rules.specs.Steps.{lends}
 use Rattle.text.specs.Event.{bytes, line}
 use Rattle.text.specs.Result.{value, refused}
@@ -134,16 +138,18 @@ empty-rows : rowsIn zeros ≡ replicate 1024 emptyRow
 unfolding rowsIn
 empty-rows = rows-empty 1024
 
-pub ran-is : {input : List ℕ} {ws′ : List (List ℕ)} {r : RunOutcome} → Runs zeros noCounts input ws′ r → {a : RunAnswer} → r .answer ≡ a → ranOf a (lends (rowsIn ws′) (r .tally)) ≡ run (initial 1024 noCounts) input
-ran-is {input} {ws′} {r} k e =
-    ap (λ (a : RunAnswer). ranOf a (lends (rowsIn ws′) (r .tally))) (sym e) ∙ k .ran ∙ ap (λ (t : List Cap). run (record { table = t; tally = noCounts }) input) empty-rows
+pub ran-is : {bytes input : List ℕ} {ws′ : List (List ℕ)} {r : RunOutcome} → bytes ≡ bytes6 → Runs (sheetIn bytes) zeros noCounts input ws′ r → {a : RunAnswer} → r .answer ≡ a
+    → ranOf a (lends (rowsIn ws′) (r .tally)) ≡ run sheet6 (initial 1024 noCounts) input
+ran-is {bytes} {input} {ws′} {r} six k e =
+    ap (λ (a : RunAnswer). ranOf a (lends (rowsIn ws′) (r .tally))) (sym e) ∙ k .ran
+    ∙ ap₂ (λ (sheet : Sheet) (t : List Cap). run sheet (record { table = t; tally = noCounts }) input) (ap sheetIn six ∙ bytes6-is) empty-rows
 
-module _ (input : List ℕ) (s : Ran State) (is : s ≡ run (initial 1024 noCounts) input) where
+module _ (input : List ℕ) (s : Ran State) (is : s ≡ run sheet6 (initial 1024 noCounts) input) where
   pub ran-order : inOrder (s .state .table) (s .state .tally .issued) ≡ true
-  ran-order = ap (λ (r : Ran State). inOrder (r .state .table) (r .state .tally .issued)) is ∙ order-run (initial 1024 noCounts) input (order-fresh 1024 noCounts (omega arith) refl)
+  ran-order = ap (λ (r : Ran State). inOrder (r .state .table) (r .state .tally .issued)) is ∙ order-run sheet6 (initial 1024 noCounts) input (order-fresh 1024 noCounts (omega arith) refl)
 
   pub ran-number : s .number ≤ length input
-  ran-number = omega (arith, ap (λ (r : Ran State). r .number) is, number-run (initial 1024 noCounts) input)
+  ran-number = omega (arith, ap (λ (r : Ran State). r .number) is, number-run sheet6 (initial 1024 noCounts) input)
 
   pub ran-report : length input ≤ 65536 → report s ≡ checkText input
   unfolding checkText

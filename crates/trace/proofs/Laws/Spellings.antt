@@ -13,6 +13,7 @@ use borrow.Author.Tests.{leb-true, eqb-true}
 use Rattle.model.specs.declared.Event.the-variants.{Create, Borrow, Read, Write, Drop}
 use Rattle.model.specs.Requests.{Request, Single, Group, risesAbove, risesStrictly, isGroup}
 use Rattle.model.specs.Effects.{issuedAfter}
+use Rattle.model.specs.declared.Sheet.{Sheet}
 use Rattle.model.specs.Sheet6.{sheet6}
 use Rattle.model.specs.Step.{State, initial, answer, after}
 use Rattle.model.specs.Table.{inOrder}
@@ -73,10 +74,10 @@ record Higher (q p : Ran State) : Type 0 where
   states : q .state ≡ p .state
 
 -- behind the requests, both have the same line or none
-same-rests : {rest rest′ : List ℕ} → Rests rest rest′ → (before : ℕ) (h : State) → Higher (runLines lent Named (before + 1) h (linesOf rest′)) (runLines lent Plain before h (linesOf rest))
+same-rests : (sheet : Sheet) {rest rest′ : List ℕ} → Rests rest rest′ → (before : ℕ) (h : State) → Higher (runLines (lent sheet) Named (before + 1) h (linesOf rest′)) (runLines (lent sheet) Plain before h (linesOf rest))
 unfolding runLines partsOf
-same-rests none before h = record { refusals = refl; numbers = refl; states = refl }
-same-rests (misspelt {rest = rest} {rest′ = rest′} some line no-plain no-named) before h =
+same-rests sheet none before h = record { refusals = refl; numbers = refl; states = refl }
+same-rests sheet (misspelt {rest = rest} {rest′ = rest′} some line no-plain no-named) before h =
     let some′ : 0 < length rest′ = omega (arith, part-some newline rest some, ap length line, length-take (through newline rest′) rest′) in
     rw (parts-next newline rest some, parts-next newline rest′ some′, ← line, no-plain, no-named) (record { refusals = refl; numbers = refl; states = refl })
 
@@ -85,11 +86,11 @@ rests-example : Rests (bytes "(read 01 0 8)\n(drop 1)\n") (bytes "(read 01 0 8)\
 unfolding readEvent guess hasSpelling spell readGroup guessNames namesFrom isGroup risesStrictly risesAbove spellGroup spaced decimal numeral numberFrom through classOf same
 rests-example = misspelt {rest = bytes "(read 01 0 8)\n(drop 1)\n"} (omega arith) refl refl refl
 
-module _ {rest rest′ : List ℕ} (rests : Rests rest rest′) where
+module _ (sheet : Sheet) {rest rest′ : List ℕ} (rests : Rests rest rest′) where
   same-lines : (qs : List Request) → Spelled qs → (before : ℕ) (h : State) → inOrder (h .table) (h .tally .issued) ≡ true → (i : ℕ) → i ≡ h .tally .issued
-      → Higher (runLines lent Named (before + 1) h (linesOf (textOf (allRightlyNamed i qs) ++ rest′))) (runLines lent Plain before h (linesOf (plainText qs ++ rest)))
+      → Higher (runLines (lent sheet) Named (before + 1) h (linesOf (textOf (allRightlyNamed i qs) ++ rest′))) (runLines (lent sheet) Plain before h (linesOf (plainText qs ++ rest)))
   unfolding textOf allRightlyNamed runLines
-  same-lines [] sp before h o i is = same-rests rests before h
+  same-lines [] sp before h o i is = same-rests sheet rests before h
   same-lines (q ∷ qs) sp before h o i is =
       let small : suc i < 2 ^ 32 = omega (arith, is, leb-true (h .tally .issued) 1000000 (ordered (h .table) (h .tally .issued) o .names-left)) in
       rw (
@@ -100,26 +101,26 @@ module _ {rest rest′ : List ℕ} (rests : Rests rest rest′) where
         answers,
         afters,
       )
-      (go (eqb (answer h (unnamed q) .refusal) 0) refl (same-lines qs (sp .1) (before + 1) (after sheet6 h (unnamed q)) (order-after sheet6 h (unnamed q) o) (issuedAfter i q)))
+      (go (eqb (answer h (unnamed q) .refusal) 0) refl (same-lines qs (sp .1) (before + 1) (after sheet h (unnamed q)) (order-after sheet h (unnamed q) o) (issuedAfter i q)))
     where
       answers : answer h (rightlyNamed i q) ≡ answer h (unnamed q)
       answers = ap (λ (j : ℕ). answer h (rightlyNamed j q)) is ∙ same-answer h q
 
-      afters : after sheet6 h (rightlyNamed i q) ≡ after sheet6 h (unnamed q)
-      afters = ap (λ (j : ℕ). after sheet6 h (rightlyNamed j q)) is ∙ same-after sheet6 h q
+      afters : after sheet h (rightlyNamed i q) ≡ after sheet h (unnamed q)
+      afters = ap (λ (j : ℕ). after sheet h (rightlyNamed j q)) is ∙ same-after sheet h q
 
       next : State
-      next = after sheet6 h (unnamed q)
+      next = after sheet h (unnamed q)
 
       plain : Ran State
-      plain = runLines lent Plain (before + 1) next (linesOf (plainText qs ++ rest))
+      plain = runLines (lent sheet) Plain (before + 1) next (linesOf (plainText qs ++ rest))
 
       named : Ran State
-      named = runLines lent Named (before + 1 + 1) next (linesOf (textOf (allRightlyNamed (issuedAfter i q) qs) ++ rest′))
+      named = runLines (lent sheet) Named (before + 1 + 1) next (linesOf (textOf (allRightlyNamed (issuedAfter i q) qs) ++ rest′))
 
       go : (b : Bool) → eqb (answer h (unnamed q) .refusal) 0 ≡ b → (issuedAfter i q ≡ next .tally .issued → Higher named plain)
           → Higher (cond b named (record { refusal = answer h (unnamed q) .refusal; number = before + 1 + 1; state = next })) (cond b plain (record { refusal = answer h (unnamed q) .refusal; number = before + 1; state = next }))
-      go true z ih = ih (ap (λ (j : ℕ). issuedAfter j q) is ∙ sym (issued-allowed sheet6 h q (eqb-true _ 0 z)))
+      go true z ih = ih (ap (λ (j : ℕ). issuedAfter j q) is ∙ sym (issued-allowed sheet h q (eqb-true _ 0 z)))
       go false z ih = record { refusals = refl; numbers = refl; states = refl }
 
 higher-is : (r n : ℕ) → (r ≡ 0) ⊎ (0 < n) → n + 1 ≡ oneHigher r n
@@ -161,7 +162,7 @@ header-first : (t : List ℕ) → same (nextLine (header ++ t)) header ≡ true
 unfolding through classOf same
 header-first t = refl
 
-module _ (h : State) (qs : List Request) (sp : Spelled qs) {rest rest′ : List ℕ} (rests : Rests rest rest′) (old : OldTrace (plainText qs ++ rest)) (o : inOrder (h .table) (h .tally .issued) ≡ true) where
+module _ (sheet : Sheet) (h : State) (qs : List Request) (sp : Spelled qs) {rest rest′ : List ℕ} (rests : Rests rest rest′) (old : OldTrace (plainText qs ++ rest)) (o : inOrder (h .table) (h .tally .issued) ≡ true) where
   abbrev plain : List ℕ
   plain = plainText qs ++ rest
 
@@ -169,27 +170,27 @@ module _ (h : State) (qs : List Request) (sp : Spelled qs) {rest rest′ : List 
   abbrev behind : List ℕ
   behind = textOf (allRightlyNamed (h .tally .issued) qs) ++ rest′
 
-  plain-run : run h plain ≡ runLines lent Plain 0 h (linesOf plain)
+  plain-run : run sheet h plain ≡ runLines (lent sheet) Plain 0 h (linesOf plain)
   unfolding runFrom
-  plain-run = rw o (trace-plain plain old lent h)
+  plain-run = rw o (trace-plain plain old (lent sheet) h)
 
-  named-run : run h (header ++ behind) ≡ runLines lent Named 1 h (linesOf behind)
+  named-run : run sheet h (header ++ behind) ≡ runLines (lent sheet) Named 1 h (linesOf behind)
   unfolding runFrom
-  named-run = rw o (trace-named (header ++ behind) (header-first behind) lent h)
+  named-run = rw o (trace-named (header ++ behind) (header-first behind) (lent sheet) h)
 
-  in-order : SameVerdicts h plain (header ++ behind)
+  in-order : SameVerdicts sheet h plain (header ++ behind)
   in-order =
-      let s = same-lines rests qs sp 0 h o (h .tally .issued) refl in
-      let p = runLines lent Plain 0 h (linesOf plain) in
+      let s = same-lines sheet rests qs sp 0 h o (h .tally .issued) refl in
+      let p = runLines (lent sheet) Plain 0 h (linesOf plain) in
       record {
         same-refusal = rw (named-run, plain-run) (s .refusals);
-        one-higher = rw (named-run, plain-run) (s .numbers ∙ higher-is (p .refusal) (p .number) (refused-line Plain 0 h (linesOf plain)));
+        one-higher = rw (named-run, plain-run) (s .numbers ∙ higher-is (p .refusal) (p .number) (refused-line sheet Plain 0 h (linesOf plain)));
         same-state = rw (named-run, plain-run) (s .states);
       }
 
-pub same-verdicts : (h : State) (qs : List Request) → Spelled qs → {rest rest′ : List ℕ} → Rests rest rest′ → OldTrace (plainText qs ++ rest)
-    → SameVerdicts h (plainText qs ++ rest) (namedText (h .tally .issued) qs ++ rest′)
-same-verdicts h qs sp {rest} {rest′} rests old = go (test (inOrder (h .table) (h .tally .issued)))
+pub same-verdicts : (sheet : Sheet) (h : State) (qs : List Request) → Spelled qs → {rest rest′ : List ℕ} → Rests rest rest′ → OldTrace (plainText qs ++ rest)
+    → SameVerdicts sheet h (plainText qs ++ rest) (namedText (h .tally .issued) qs ++ rest′)
+same-verdicts sheet h qs sp {rest} {rest′} rests old = go (test (inOrder (h .table) (h .tally .issued)))
   where
     plain : List ℕ
     plain = plainText qs ++ rest
@@ -197,11 +198,11 @@ same-verdicts h qs sp {rest} {rest′} rests old = go (test (inOrder (h .table) 
     named : List ℕ
     named = namedText (h .tally .issued) qs ++ rest′
 
-    go : (inOrder (h .table) (h .tally .issued) ≡ true) ⊎ (inOrder (h .table) (h .tally .issued) ≡ false) → SameVerdicts h plain named
-    go (inl o) = in-order h qs sp rests old o
+    go : (inOrder (h .table) (h .tally .issued) ≡ true) ⊎ (inOrder (h .table) (h .tally .issued) ≡ false) → SameVerdicts sheet h plain named
+    go (inl o) = in-order sheet h qs sp rests old o
     go (inr d) =
-        let p = refused-run h plain d in
-        let n = refused-run h named d in
+        let p = refused-run sheet h plain d in
+        let n = refused-run sheet h named d in
         record { same-refusal = rw (n, p); one-higher = rw (n, p); same-state = rw (n, p) }
 
 -- ---- what `capcheck` prints
@@ -212,7 +213,7 @@ ran-text text l = sym (ran-report text (checked text) refl l)
 pub same-checks : (qs : List Request) → Spelled qs → {rest rest′ : List ℕ} → Rests rest rest′ → OldTrace (plainText qs ++ rest)
     → length (plainText qs ++ rest) ≤ 65536 → length (namedText 0 qs ++ rest′) ≤ 65536 → SameChecks (plainText qs ++ rest) (namedText 0 qs ++ rest′)
 same-checks qs sp {rest} {rest′} rests old few few′ =
-    let v = same-verdicts (initial 1024 noCounts) qs sp rests old in
+    let v = same-verdicts sheet6 (initial 1024 noCounts) qs sp rests old in
     record {
       plain-report = ran-text (plainText qs ++ rest) few;
       named-report = ran-text (namedText 0 qs ++ rest′) few′ ∙ ap report (λ i. record { refusal = v .same-refusal i; number = v .one-higher i; state = v .same-state i });

@@ -12,7 +12,7 @@ use lib.Seq.{take-nil, take-length}
 use borrow.Author.Tests.{eq-eqb, ne-eqb}
 use Rattle.model.specs.declared.Event.{Event}
 use Rattle.model.specs.Table.{inOrder}
-use Rattle.model.specs.Sheet6.{sheet6}
+use Rattle.model.specs.declared.Sheet.{Sheet}
 use Rattle.model.specs.Step.{view, State, answer}
 use Rattle.model.specs.Requests.{Request}
 use Rattle.model.proofs.Offered.{test, clash, ordered-not-1, refused-table, refused-tally}
@@ -74,223 +74,224 @@ request-not-1 : (h : State) (q : Request) → Ordered h → answer h q .refusal 
 unfolding answer
 request-not-1 h q o z = ordered-not-1 (view h) q o z
 
-line-not-1 : (k : Spelling) (h : State) (l : List ℕ) → Ordered h → takeLine lent k h l .refusal ≡ 1 → ⊥
-line-not-1 k h l o = go (readRequest k l) refl
-  where
-    go : (r : Result Request) → readRequest k l ≡ r → takeRead lent h r .refusal ≡ 1 → ⊥
-    go (value q) is z = request-not-1 h q o z
-    go (refused x) is z = omega (arith, misread-2 k l x is)
+module _ (sheet : Sheet) where
+  line-not-1 : (k : Spelling) (h : State) (l : List ℕ) → Ordered h → takeLine (lent sheet) k h l .refusal ≡ 1 → ⊥
+  line-not-1 k h l o = go (readRequest k l) refl
+    where
+      go : (r : Result Request) → readRequest k l ≡ r → takeRead (lent sheet) h r .refusal ≡ 1 → ⊥
+      go (value q) is z = request-not-1 h q o z
+      go (refused x) is z = omega (arith, misread-2 k l x is)
 
--- a line that is refused by another number leaves the table, and adds one to the refused count
-line-refused : (k : Spelling) (h : State) (l : List ℕ) (j : ℕ) → takeLine lent k h l .refusal ≡ suc (suc j)
-    → takeLine lent k h l .state ≡ lent .misspelt h
-line-refused k h l j = go (readRequest k l)
-  where
-    go : (r : Result Request) → takeRead lent h r .refusal ≡ suc (suc j) → takeRead lent h r .state ≡ lent .misspelt h
-    go (value q) z = λ i. record { table = refused-table sheet6 h q (suc j) z i; tally = refused-tally sheet6 h q j z i }
-    go (refused x) z = refl
+  -- a line that is refused by another number leaves the table, and adds one to the refused count
+  line-refused : (k : Spelling) (h : State) (l : List ℕ) (j : ℕ) → takeLine (lent sheet) k h l .refusal ≡ suc (suc j)
+      → takeLine (lent sheet) k h l .state ≡ lent sheet .misspelt h
+  line-refused k h l j = go (readRequest k l)
+    where
+      go : (r : Result Request) → takeRead (lent sheet) h r .refusal ≡ suc (suc j) → takeRead (lent sheet) h r .state ≡ lent sheet .misspelt h
+      go (value q) z = λ i. record { table = refused-table sheet h q (suc j) z i; tally = refused-tally sheet h q j z i }
+      go (refused x) z = refl
 
--- ---- lines
+  -- ---- lines
 
-not-1 : (k : Spelling) (before : ℕ) (h : State) (ls : List (List ℕ)) → Ordered h → runLines lent k before h ls .refusal ≡ 1 → ⊥
-unfolding runLines
-not-1 k before h [] o = λ (z : _≡_ {A = ℕ} 0 1). omega arith
-not-1 k before h (l ∷ ls) o =
-    let t = takeLine lent k h l in
-    turned (λ (r : Ran State). r .refusal ≡ 1 → ⊥) (eqb (t .refusal) 0) (runLines lent k (before + 1) (t .state) ls) (record { refusal = t .refusal; number = before + 1; state = t .state })
-    (not-1 k (before + 1) (t .state) ls (line-order k h l o)) (line-not-1 k h l o)
+  not-1 : (k : Spelling) (before : ℕ) (h : State) (ls : List (List ℕ)) → Ordered h → runLines (lent sheet) k before h ls .refusal ≡ 1 → ⊥
+  unfolding runLines
+  not-1 k before h [] o = λ (z : _≡_ {A = ℕ} 0 1). omega arith
+  not-1 k before h (l ∷ ls) o =
+      let t = takeLine (lent sheet) k h l in
+      turned (λ (r : Ran State). r .refusal ≡ 1 → ⊥) (eqb (t .refusal) 0) (runLines (lent sheet) k (before + 1) (t .state) ls) (record { refusal = t .refusal; number = before + 1; state = t .state })
+      (not-1 k (before + 1) (t .state) ls (line-order sheet k h l o)) (line-not-1 k h l o)
 
--- where all are allowed, they are counted
-all-lines : (k : Spelling) (before : ℕ) (h : State) (ls : List (List ℕ)) → runLines lent k before h ls .refusal ≡ 0
-    → runLines lent k before h ls .number ≡ before + length ls
-unfolding runLines
-all-lines k before h [] z = omega arith
-all-lines k before h (l ∷ ls) z = go (test (eqb (t .refusal) 0)) (all-lines k (before + 1) (t .state) ls) z
-  where
-    t : Taken State
-    t = takeLine lent k h l
+  -- where all are allowed, they are counted
+  all-lines : (k : Spelling) (before : ℕ) (h : State) (ls : List (List ℕ)) → runLines (lent sheet) k before h ls .refusal ≡ 0
+      → runLines (lent sheet) k before h ls .number ≡ before + length ls
+  unfolding runLines
+  all-lines k before h [] z = omega arith
+  all-lines k before h (l ∷ ls) z = go (test (eqb (t .refusal) 0)) (all-lines k (before + 1) (t .state) ls) z
+    where
+      t : Taken State
+      t = takeLine (lent sheet) k h l
 
-    go : (eqb (t .refusal) 0 ≡ true) ⊎ (eqb (t .refusal) 0 ≡ false)
-        → (runLines lent k (before + 1) (t .state) ls .refusal ≡ 0 → runLines lent k (before + 1) (t .state) ls .number ≡ before + 1 + length ls)
-        → runLines lent k before h (l ∷ ls) .refusal ≡ 0 → runLines lent k before h (l ∷ ls) .number ≡ before + suc (length ls)
-    go (inl e) ih z = rw e (omega (arith, ih (rw e at z)))
-    go (inr e) ih z = clash (eq-eqb (t .refusal) 0 (rw e at z)) e
+      go : (eqb (t .refusal) 0 ≡ true) ⊎ (eqb (t .refusal) 0 ≡ false)
+          → (runLines (lent sheet) k (before + 1) (t .state) ls .refusal ≡ 0 → runLines (lent sheet) k (before + 1) (t .state) ls .number ≡ before + 1 + length ls)
+          → runLines (lent sheet) k before h (l ∷ ls) .refusal ≡ 0 → runLines (lent sheet) k before h (l ∷ ls) .number ≡ before + suc (length ls)
+      go (inl e) ih z = rw e (omega (arith, ih (rw e at z)))
+      go (inr e) ih z = clash (eq-eqb (t .refusal) 0 (rw e at z)) e
 
--- A run f of lines, where so many were taken before them, ends at a refused line: how many it takes before that one, and what it does with
--- those alone, and with that one besides.
-record Ends (f : List (List ℕ) → Ran State) (before : ℕ) (ls : List (List ℕ)) : Type 0 where
-  taken : ℕ
-  inside : taken < length ls
-  number : f ls .number ≡ before + suc taken
-  allowed : f (take taken ls) .refusal ≡ 0
-  count : f (take taken ls) .number ≡ before + taken
-  state : f ls .state ≡ lent .misspelt (f (take taken ls) .state)
-  until : f (take (suc taken) ls) ≡ f ls
+  -- A run f of lines, where so many were taken before them, ends at a refused line: how many it takes before that one, and what it does with
+  -- those alone, and with that one besides.
+  record Ends (f : List (List ℕ) → Ran State) (before : ℕ) (ls : List (List ℕ)) : Type 0 where
+    taken : ℕ
+    inside : taken < length ls
+    number : f ls .number ≡ before + suc taken
+    allowed : f (take taken ls) .refusal ≡ 0
+    count : f (take taken ls) .number ≡ before + taken
+    state : f ls .state ≡ lent sheet .misspelt (f (take taken ls) .state)
+    until : f (take (suc taken) ls) ≡ f ls
 
-ends-lines : (k : Spelling) (before : ℕ) (h : State) (ls : List (List ℕ)) (j : ℕ) → runLines lent k before h ls .refusal ≡ suc (suc j)
-    → Ends (runLines lent k before h) before ls
-unfolding runLines
-ends-lines k before h [] j = λ (z : _≡_ {A = ℕ} 0 (suc (suc j))). absurd (omega arith)
-ends-lines k before h (l ∷ ls) j = go (test (eqb (t .refusal) 0)) (ends-lines k (before + 1) (t .state) ls j)
-  where
-    t : Taken State
-    t = takeLine lent k h l
+  ends-lines : (k : Spelling) (before : ℕ) (h : State) (ls : List (List ℕ)) (j : ℕ) → runLines (lent sheet) k before h ls .refusal ≡ suc (suc j)
+      → Ends (runLines (lent sheet) k before h) before ls
+  unfolding runLines
+  ends-lines k before h [] j = λ (z : _≡_ {A = ℕ} 0 (suc (suc j))). absurd (omega arith)
+  ends-lines k before h (l ∷ ls) j = go (test (eqb (t .refusal) 0)) (ends-lines k (before + 1) (t .state) ls j)
+    where
+      t : Taken State
+      t = takeLine (lent sheet) k h l
 
-    go : (eqb (t .refusal) 0 ≡ true) ⊎ (eqb (t .refusal) 0 ≡ false)
-        → (runLines lent k (before + 1) (t .state) ls .refusal ≡ suc (suc j) → Ends (runLines lent k (before + 1) (t .state)) (before + 1) ls)
-        → runLines lent k before h (l ∷ ls) .refusal ≡ suc (suc j) → Ends (runLines lent k before h) before (l ∷ ls)
-    go (inl e) ih z =
-        let r = ih (rw e at z) in
-        record {
-          taken = suc (r .taken);
-          inside = omega arith;
-          number = rw e (omega (arith, r .number));
-          allowed = rw e (r .allowed);
-          count = rw e (omega (arith, r .count));
-          state = rw e (r .state);
-          until = rw e (r .until);
-        }
-    go (inr e) ih z = record {
-      taken = 0;
-      inside = omega arith;
-      number = rw e;
-      allowed = refl;
-      count = omega arith;
-      state = rw e (line-refused k h l j (rw e at z));
-      until = rw e;
-    }
-
--- ---- a trace
-
-trace-not-1 : (h : State) (ls : List (List ℕ)) → Ordered h → runTrace lent h ls .refusal ≡ 1 → ⊥
-trace-not-1 h ls o = of-trace (λ (r : Ran State). r .refusal ≡ 1 → ⊥) h ls (not-1 Plain 0 h ls o) (λ line rest e. not-1 Named 1 h rest o)
-
-trace-all : (h : State) (ls : List (List ℕ)) → runTrace lent h ls .refusal ≡ 0 → runTrace lent h ls .number ≡ length ls
-trace-all h ls =
-    of-trace (λ (r : Ran State). r .refusal ≡ 0 → r .number ≡ length ls) h ls (λ z. omega (arith, all-lines Plain 0 h ls z))
-    (λ line rest e z. omega (arith, all-lines Named 1 h rest z, ap length e))
-
--- the first lines of one without the header have none either
-plain-first : (h : State) (l : List ℕ) (ls : List (List ℕ)) → same l header ≡ false → (n : ℕ)
-    → runTrace lent h (take n (l ∷ ls)) ≡ runLines lent Plain 0 h (take n (l ∷ ls))
-unfolding runTrace
-plain-first h l ls e zero = refl
-plain-first h l ls e (suc n) = rw e
-
-ends-trace : (h : State) (ls : List (List ℕ)) (j : ℕ) → runTrace lent h ls .refusal ≡ suc (suc j) → Ends (runTrace lent h) 0 ls
-unfolding runTrace runLines
-ends-trace h [] j = λ (z : _≡_ {A = ℕ} 0 (suc (suc j))). absurd (omega arith)
-ends-trace h (l ∷ ls) j = go (test (same l header))
-  where
-    go : (same l header ≡ true) ⊎ (same l header ≡ false) → runTrace lent h (l ∷ ls) .refusal ≡ suc (suc j) → Ends (runTrace lent h) 0 (l ∷ ls)
-    go (inl e) z =
-        let r = ends-lines Named 1 h ls j (rw e at z) in
-        record {
-          taken = suc (r .taken);
-          inside = omega arith;
-          number = rw e (omega (arith, r .number));
-          allowed = rw e (r .allowed);
-          count = rw e (omega (arith, r .count));
-          state = rw e (r .state);
-          until = rw e (r .until);
-        }
-    go (inr e) z =
-        let r = ends-lines Plain 0 h (l ∷ ls) j (rw e at z) in
-        let first = plain-first h l ls e (r .taken) in
-        record {
-          taken = r .taken;
-          inside = r .inside;
-          number = rw e (r .number);
-          allowed = rw first (r .allowed);
-          count = rw first (r .count);
-          state = rw (e, first) (r .state);
-          until = rw e (r .until);
-        }
-
--- ---- a text
-
-module _ (h : State) (text : List ℕ) (o : Ordered h) where
-  run-is : run h text ≡ runTrace lent h (linesOf text)
-  unfolding runFrom
-  run-is = rw o
-
-  first-is : (k : ℕ) → run h (firstLines k text) ≡ runTrace lent h (take k (linesOf text))
-  unfolding runFrom
-  first-is k = rw (o, lines-first k text)
-
-  number-is : run h text .number ≡ runTrace lent h (linesOf text) .number
-  number-is = ap (λ (r : Ran State). r .number) run-is
-
-  ends : (k : ℕ) → run h text .refusal ≡ suc (suc k) → Ends (runTrace lent h) 0 (linesOf text)
-  ends k z = ends-trace h (linesOf text) k (ap (λ (r : Ran State). r .refusal) (sym run-is) ∙ z)
-
-  all-allowed : run h text .refusal ≡ 0 → run h text .number ≡ length (linesOf text)
-  all-allowed z = number-is ∙ trace-all h (linesOf text) (ap (λ (r : Ran State). r .refusal) (sym run-is) ∙ z)
-
-  not-refused-1 : run h text .refusal ≡ 1 → ⊥
-  not-refused-1 z = trace-not-1 h (linesOf text) o (ap (λ (r : Ran State). r .refusal) (sym run-is) ∙ z)
-
-  refused-at : (k : ℕ) → run h text .refusal ≡ suc (suc k) → RefusedLine h text
-  refused-at k z =
-      let r = ends k z in
-      let n = r .taken in
-      let number : run h text .number ≡ suc n = omega (arith, number-is, r .number) in
-      let before : runBefore h text ≡ runTrace lent h (take n (linesOf text)) = ap (λ (i : ℕ). run h (firstLines (pred i) text)) number ∙ first-is n in
-      let state : run h text .state ≡ lent .misspelt (runBefore h text .state) =
-      ap (λ (s : Ran State). s .state) run-is ∙ r .state ∙ ap (λ (s : Ran State). lent .misspelt (s .state)) (sym before)
-      in
-      record {
-        from-1 = omega arith;
-        a-line = omega (arith, r .inside);
-        before-allowed = ap (λ (s : Ran State). s .refusal) before ∙ r .allowed;
-        before-number = ap (λ (s : Ran State). s .number) before ∙ omega (arith, r .count);
-        same-table = ap (λ (s : State). s .table) state;
-        counted = ap (λ (s : State). s .tally) state;
+      go : (eqb (t .refusal) 0 ≡ true) ⊎ (eqb (t .refusal) 0 ≡ false)
+          → (runLines (lent sheet) k (before + 1) (t .state) ls .refusal ≡ suc (suc j) → Ends (runLines (lent sheet) k (before + 1) (t .state)) (before + 1) ls)
+          → runLines (lent sheet) k before h (l ∷ ls) .refusal ≡ suc (suc j) → Ends (runLines (lent sheet) k before h) before (l ∷ ls)
+      go (inl e) ih z =
+          let r = ih (rw e at z) in
+          record {
+            taken = suc (r .taken);
+            inside = omega arith;
+            number = rw e (omega (arith, r .number));
+            allowed = rw e (r .allowed);
+            count = rw e (omega (arith, r .count));
+            state = rw e (r .state);
+            until = rw e (r .until);
+          }
+      go (inr e) ih z = record {
+        taken = 0;
+        inside = omega arith;
+        number = rw e;
+        allowed = refl;
+        count = omega arith;
+        state = rw e (line-refused k h l j (rw e at z));
+        until = rw e;
       }
 
-  ordered-until : run h (firstLines (run h text .number) text) ≡ run h text
-  ordered-until = first-is (run h text .number) ∙ go (run h text .refusal) refl ∙ sym run-is
+  -- ---- a trace
+
+  trace-not-1 : (h : State) (ls : List (List ℕ)) → Ordered h → runTrace (lent sheet) h ls .refusal ≡ 1 → ⊥
+  trace-not-1 h ls o = of-trace sheet (λ (r : Ran State). r .refusal ≡ 1 → ⊥) h ls (not-1 Plain 0 h ls o) (λ line rest e. not-1 Named 1 h rest o)
+
+  trace-all : (h : State) (ls : List (List ℕ)) → runTrace (lent sheet) h ls .refusal ≡ 0 → runTrace (lent sheet) h ls .number ≡ length ls
+  trace-all h ls =
+      of-trace sheet (λ (r : Ran State). r .refusal ≡ 0 → r .number ≡ length ls) h ls (λ z. omega (arith, all-lines Plain 0 h ls z))
+      (λ line rest e z. omega (arith, all-lines Named 1 h rest z, ap length e))
+
+  -- the first lines of one without the header have none either
+  plain-first : (h : State) (l : List ℕ) (ls : List (List ℕ)) → same l header ≡ false → (n : ℕ)
+      → runTrace (lent sheet) h (take n (l ∷ ls)) ≡ runLines (lent sheet) Plain 0 h (take n (l ∷ ls))
+  unfolding runTrace
+  plain-first h l ls e zero = refl
+  plain-first h l ls e (suc n) = rw e
+
+  ends-trace : (h : State) (ls : List (List ℕ)) (j : ℕ) → runTrace (lent sheet) h ls .refusal ≡ suc (suc j) → Ends (runTrace (lent sheet) h) 0 ls
+  unfolding runTrace runLines
+  ends-trace h [] j = λ (z : _≡_ {A = ℕ} 0 (suc (suc j))). absurd (omega arith)
+  ends-trace h (l ∷ ls) j = go (test (same l header))
     where
-      upto : (n : ℕ) → run h text .number ≡ n → runTrace lent h (take n (linesOf text)) ≡ runTrace lent h (linesOf text)
-          → runTrace lent h (take (run h text .number) (linesOf text)) ≡ runTrace lent h (linesOf text)
-      upto n e p = ap (λ (i : ℕ). runTrace lent h (take i (linesOf text))) e ∙ p
+      go : (same l header ≡ true) ⊎ (same l header ≡ false) → runTrace (lent sheet) h (l ∷ ls) .refusal ≡ suc (suc j) → Ends (runTrace (lent sheet) h) 0 (l ∷ ls)
+      go (inl e) z =
+          let r = ends-lines Named 1 h ls j (rw e at z) in
+          record {
+            taken = suc (r .taken);
+            inside = omega arith;
+            number = rw e (omega (arith, r .number));
+            allowed = rw e (r .allowed);
+            count = rw e (omega (arith, r .count));
+            state = rw e (r .state);
+            until = rw e (r .until);
+          }
+      go (inr e) z =
+          let r = ends-lines Plain 0 h (l ∷ ls) j (rw e at z) in
+          let first = plain-first h l ls e (r .taken) in
+          record {
+            taken = r .taken;
+            inside = r .inside;
+            number = rw e (r .number);
+            allowed = rw first (r .allowed);
+            count = rw first (r .count);
+            state = rw (e, first) (r .state);
+            until = rw e (r .until);
+          }
 
-      go : (x : ℕ) → run h text .refusal ≡ x → runTrace lent h (take (run h text .number) (linesOf text)) ≡ runTrace lent h (linesOf text)
-      go zero z = upto (length (linesOf text)) (all-allowed z) (ap (runTrace lent h) (take-length (linesOf text)))
-      go (suc zero) z = absurd (not-refused-1 z)
-      go (suc (suc k)) z = let r = ends k z in upto (suc (r .taken)) (omega (arith, number-is, r .number)) (r .until)
+  -- ---- a text
 
-  no-line-0 : LineZero h text
-  no-line-0 = record {
-    given-1 = rw (o, ne-eqb (run h text .refusal) 1 not-refused-1);
-    line-0 = λ z. absurd (not-refused-1 z);
-    only-1 = λ k z n. absurd (go k z n (refused-trace h (linesOf text)));
-  }
-    where
-      go : (k : ℕ) → run h text .refusal ≡ suc k → run h text .number ≡ 0 → Behind 0 (runTrace lent h (linesOf text)) → ⊥
-      go k z n (inl y) = omega (arith, ap (λ (r : Ran State). r .refusal) run-is)
-      go k z n (inr l) = omega (arith, number-is)
+  module _ (h : State) (text : List ℕ) (o : Ordered h) where
+    run-is : run sheet h text ≡ runTrace (lent sheet) h (linesOf text)
+    unfolding runFrom
+    run-is = rw o
 
-pub stops : (h : State) (text : List ℕ) → Stops h text
-stops h text = go (test (inOrder (h .table) (h .tally .issued)))
-  where
-    go : (Ordered h) ⊎ (inOrder (h .table) (h .tally .issued) ≡ false) → Stops h text
-    go (inl o) = record {
-      until = ordered-until h text o;
-      allowed = all-allowed h text o;
-      line-zero = no-line-0 h text o;
-      refused = refused-at h text o;
-    }
-    go (inr d) =
-        let r = refused-run h text d in
-        let one : run h text .refusal ≡ 1 = ap (λ (s : Ran State). s .refusal) r in
+    first-is : (k : ℕ) → run sheet h (firstLines k text) ≡ runTrace (lent sheet) h (take k (linesOf text))
+    unfolding runFrom
+    first-is k = rw (o, lines-first k text)
+
+    number-is : run sheet h text .number ≡ runTrace (lent sheet) h (linesOf text) .number
+    number-is = ap (λ (r : Ran State). r .number) run-is
+
+    ends : (k : ℕ) → run sheet h text .refusal ≡ suc (suc k) → Ends (runTrace (lent sheet) h) 0 (linesOf text)
+    ends k z = ends-trace h (linesOf text) k (ap (λ (r : Ran State). r .refusal) (sym run-is) ∙ z)
+
+    all-allowed : run sheet h text .refusal ≡ 0 → run sheet h text .number ≡ length (linesOf text)
+    all-allowed z = number-is ∙ trace-all h (linesOf text) (ap (λ (r : Ran State). r .refusal) (sym run-is) ∙ z)
+
+    not-refused-1 : run sheet h text .refusal ≡ 1 → ⊥
+    not-refused-1 z = trace-not-1 h (linesOf text) o (ap (λ (r : Ran State). r .refusal) (sym run-is) ∙ z)
+
+    refused-at : (k : ℕ) → run sheet h text .refusal ≡ suc (suc k) → RefusedLine sheet h text
+    refused-at k z =
+        let r = ends k z in
+        let n = r .taken in
+        let number : run sheet h text .number ≡ suc n = omega (arith, number-is, r .number) in
+        let before : runBefore sheet h text ≡ runTrace (lent sheet) h (take n (linesOf text)) = ap (λ (i : ℕ). run sheet h (firstLines (pred i) text)) number ∙ first-is n in
+        let state : run sheet h text .state ≡ lent sheet .misspelt (runBefore sheet h text .state) =
+        ap (λ (s : Ran State). s .state) run-is ∙ r .state ∙ ap (λ (s : Ran State). lent sheet .misspelt (s .state)) (sym before)
+        in
         record {
-          until = refused-run h (firstLines (run h text .number) text) d ∙ sym r;
-          allowed = λ z. absurd (omega arith);
-          line-zero = record {
-            given-1 = rw (r, d);
-            line-0 = λ z. ap (λ (s : Ran State). s .number) r;
-            only-1 = λ k z n. omega arith;
-          };
-          refused = λ k z. absurd (omega arith);
+          from-1 = omega arith;
+          a-line = omega (arith, r .inside);
+          before-allowed = ap (λ (s : Ran State). s .refusal) before ∙ r .allowed;
+          before-number = ap (λ (s : Ran State). s .number) before ∙ omega (arith, r .count);
+          same-table = ap (λ (s : State). s .table) state;
+          counted = ap (λ (s : State). s .tally) state;
         }
+
+    ordered-until : run sheet h (firstLines (run sheet h text .number) text) ≡ run sheet h text
+    ordered-until = first-is (run sheet h text .number) ∙ go (run sheet h text .refusal) refl ∙ sym run-is
+      where
+        upto : (n : ℕ) → run sheet h text .number ≡ n → runTrace (lent sheet) h (take n (linesOf text)) ≡ runTrace (lent sheet) h (linesOf text)
+            → runTrace (lent sheet) h (take (run sheet h text .number) (linesOf text)) ≡ runTrace (lent sheet) h (linesOf text)
+        upto n e p = ap (λ (i : ℕ). runTrace (lent sheet) h (take i (linesOf text))) e ∙ p
+
+        go : (x : ℕ) → run sheet h text .refusal ≡ x → runTrace (lent sheet) h (take (run sheet h text .number) (linesOf text)) ≡ runTrace (lent sheet) h (linesOf text)
+        go zero z = upto (length (linesOf text)) (all-allowed z) (ap (runTrace (lent sheet) h) (take-length (linesOf text)))
+        go (suc zero) z = absurd (not-refused-1 z)
+        go (suc (suc k)) z = let r = ends k z in upto (suc (r .taken)) (omega (arith, number-is, r .number)) (r .until)
+
+    no-line-0 : LineZero sheet h text
+    no-line-0 = record {
+      given-1 = rw (o, ne-eqb (run sheet h text .refusal) 1 not-refused-1);
+      line-0 = λ z. absurd (not-refused-1 z);
+      only-1 = λ k z n. absurd (go k z n (refused-trace sheet h (linesOf text)));
+    }
+      where
+        go : (k : ℕ) → run sheet h text .refusal ≡ suc k → run sheet h text .number ≡ 0 → Behind 0 (runTrace (lent sheet) h (linesOf text)) → ⊥
+        go k z n (inl y) = omega (arith, ap (λ (r : Ran State). r .refusal) run-is)
+        go k z n (inr l) = omega (arith, number-is)
+
+  pub stops : (h : State) (text : List ℕ) → Stops sheet h text
+  stops h text = go (test (inOrder (h .table) (h .tally .issued)))
+    where
+      go : (Ordered h) ⊎ (inOrder (h .table) (h .tally .issued) ≡ false) → Stops sheet h text
+      go (inl o) = record {
+        until = ordered-until h text o;
+        allowed = all-allowed h text o;
+        line-zero = no-line-0 h text o;
+        refused = refused-at h text o;
+      }
+      go (inr d) =
+          let r = refused-run sheet h text d in
+          let one : run sheet h text .refusal ≡ 1 = ap (λ (s : Ran State). s .refusal) r in
+          record {
+            until = refused-run sheet h (firstLines (run sheet h text .number) text) d ∙ sym r;
+            allowed = λ z. absurd (omega arith);
+            line-zero = record {
+              given-1 = rw (r, d);
+              line-0 = λ z. ap (λ (s : Ran State). s .number) r;
+              only-1 = λ k z n. omega arith;
+            };
+            refused = λ k z. absurd (omega arith);
+          }

@@ -12,6 +12,7 @@ use Rattle.text.specs.Class.{newline}
 use Rattle.text.specs.Line.{through, nextLine, linesOf, partsOf}
 use Rattle.text.specs.Read.{readEvent}
 use Rattle.text.specs.Group.{readGroup}
+use Rattle.model.specs.declared.Sheet.{Sheet}
 use Rattle.model.specs.Requests.{Request, Single, Group}
 use Rattle.text.specs.declared.spelling.Spelling.{Spelling}
 use Rattle.text.specs.Result.{Result, value, refused}
@@ -26,7 +27,6 @@ use Rattle.model.specs.declared.Answer.{Answer}
 use Rattle.model.specs.declared.Answer.the-variants.{Allowed, Refused}
 use Rattle.model.specs.Answers.{number, verdictOf}
 use Rattle.model.specs.Counts.{countRefused}
-use Rattle.model.specs.Sheet6.{sheet6}
 use Rattle.model.specs.Step.{Verdict, State}
 use Rattle.model.specs.Table.{inOrder}
 use Rattle.model.proofs.Offered.{order-after}
@@ -39,33 +39,33 @@ use Rattle.text.specs.Request.{readRequest}
 use Rattle.trace.specs.Run.{takeRead, takeLine, runLines, lent, ranOf, TakesGroup, Takes}
 
 -- a line keeps a table in order
-pub line-order : (k : Spelling) (h : State) (l : List ℕ) → inOrder (h .table) (h .tally .issued) ≡ true → inOrder (takeLine lent k h l .state .table) (takeLine lent k h l .state .tally .issued) ≡ true
-line-order k h l o = go (readRequest k l)
+pub line-order : (sheet : Sheet) (k : Spelling) (h : State) (l : List ℕ) → inOrder (h .table) (h .tally .issued) ≡ true → inOrder (takeLine (lent sheet) k h l .state .table) (takeLine (lent sheet) k h l .state .tally .issued) ≡ true
+line-order sheet k h l o = go (readRequest k l)
   where
-    go : (r : Result Request) → inOrder (takeRead lent h r .state .table) (takeRead lent h r .state .tally .issued) ≡ true
-    go (value q) = order-after sheet6 h q o
+    go : (r : Result Request) → inOrder (takeRead (lent sheet) h r .state .table) (takeRead (lent sheet) h r .state .tally .issued) ≡ true
+    go (value q) = order-after sheet h q o
     go (refused k) = o
 
-module _ (ws : List (List ℕ)) (t : Tally) (line : List ℕ) where
+module _ (sheet : Sheet) (ws : List (List ℕ)) (t : Tally) (line : List ℕ) where
   -- a line that spells an event goes by the event's step
-  pub taken-event : (k : Spelling) {e : Event} {ws′ : List (List ℕ)} {r : Outcome} → readEvent k line ≡ value e → Stepped ws t (Single e) ws′ r → Takes k ws t line ws′ r
+  pub taken-event : (k : Spelling) {e : Event} {ws′ : List (List ℕ)} {r : Outcome} → readEvent k line ≡ value e → Stepped sheet ws t (Single e) ws′ r → Takes sheet k ws t line ws′ r
   taken-event k q s = record {
     refusal = rw q (ap (λ (v : Verdict). v .refusal) (s .answer));
     state = rw q (ap₂ (λ (rows : List Cap) (y : Tally). record { table = rows; tally = y }) (s .table) (s .tally));
   }
 
   -- any other goes by the names that it spells
-  pub taken-other : (k : Spelling) {x : ℕ} {ws′ : List (List ℕ)} {r : Outcome} → readEvent k line ≡ refused x → TakesGroup ws t line ws′ r → Takes k ws t line ws′ r
+  pub taken-other : (k : Spelling) {x : ℕ} {ws′ : List (List ℕ)} {r : Outcome} → readEvent k line ≡ refused x → TakesGroup sheet ws t line ws′ r → Takes sheet k ws t line ws′ r
   taken-other k q s = record { refusal = rw q (s .refusal); state = rw q (s .state) }
 
-  pub taken-group : {names : List ℕ} {ws′ : List (List ℕ)} {r : Outcome} → readGroup line ≡ value names → Stepped ws t (Group names) ws′ r → TakesGroup ws t line ws′ r
+  pub taken-group : {names : List ℕ} {ws′ : List (List ℕ)} {r : Outcome} → readGroup line ≡ value names → Stepped sheet ws t (Group names) ws′ r → TakesGroup sheet ws t line ws′ r
   taken-group q s = record {
     refusal = rw q (ap (λ (v : Verdict). v .refusal) (s .answer));
     state = rw q (ap₂ (λ (rows : List Cap) (y : Tally). record { table = rows; tally = y }) (s .table) (s .tally));
   }
 
   -- a line that spells none is refused
-  pub taken-misspelt : {y : Tally} → readGroup line ≡ refused 2 → y ≡ countRefused t → TakesGroup ws t line ws (record { tally = y; answer = Refused Misspelt })
+  pub taken-misspelt : {y : Tally} → readGroup line ≡ refused 2 → y ≡ countRefused t → TakesGroup sheet ws t line ws (record { tally = y; answer = Refused Misspelt })
   taken-misspelt q c = record { refusal = rw q; state = rw (q, c) }
 
 -- line is the next line of what is left of s from a position on
@@ -88,29 +88,29 @@ module _ (s : List ℕ) (at : ℕ) (more : at < length s) (line : List ℕ) (is 
   rest-is : drop (through newline (drop at s)) (drop at s) ≡ drop (at + length line) s
   rest-is = drop-drop (through newline (drop at s)) at s ∙ ap (λ (k : ℕ). drop (at + k) s) (sym line-length)
 
-  module _ (k : Spelling) (count : ℕ) (h : State) where
+  module _ (sheet : Sheet) (k : Spelling) (count : ℕ) (h : State) where
     abbrev taken : State
-    taken = takeLine lent k h line .state
+    taken = takeLine (lent sheet) k h line .state
 
-    turn : runLines lent k count h (linesOf (drop at s)) ≡ cond (eqb (takeLine lent k h line .refusal) 0) (runLines lent k (count + 1) taken (linesOf (drop (at + length line) s))) (record { refusal = takeLine lent k h line .refusal; number = count + 1; state = taken })
+    turn : runLines (lent sheet) k count h (linesOf (drop at s)) ≡ cond (eqb (takeLine (lent sheet) k h line .refusal) 0) (runLines (lent sheet) k (count + 1) taken (linesOf (drop (at + length line) s))) (record { refusal = takeLine (lent sheet) k h line .refusal; number = count + 1; state = taken })
     unfolding runLines
     turn = rw (parts-next newline (drop at s) left-some, rest-is, line-is)
 
   -- the line was taken on the words of a table
-  module _ (count : ℕ) {k : Spelling} {ws : List (List ℕ)} {t : Tally} {ws′ : List (List ℕ)} {r : Outcome} (took : Takes k ws t line ws′ r) where
+  module _ (count : ℕ) {sheet : Sheet} {k : Spelling} {ws : List (List ℕ)} {t : Tally} {ws′ : List (List ℕ)} {r : Outcome} (took : Takes sheet k ws t line ws′ r) where
     -- it is allowed, and the run goes on behind it
-    pub turn-on : {x : Name} → r .answer ≡ Allowed x → runLines lent k (count + 1) (lends (rowsIn ws′) (r .tally)) (linesOf (drop (at + length line) s)) ≡ runLines lent k count (lends (rowsIn ws) t) (linesOf (drop at s))
+    pub turn-on : {x : Name} → r .answer ≡ Allowed x → runLines (lent sheet) k (count + 1) (lends (rowsIn ws′) (r .tally)) (linesOf (drop (at + length line) s)) ≡ runLines (lent sheet) k count (lends (rowsIn ws) t) (linesOf (drop at s))
     turn-on e =
-        let zero-is : takeLine lent k (lends (rowsIn ws) t) line .refusal ≡ 0 = sym (took .refusal) ∙ ap (λ (a : Answer). verdictOf a .refusal) e in
-        rw (took .state) (sym (turn k count (lends (rowsIn ws) t) ∙ rw zero-is))
+        let zero-is : takeLine (lent sheet) k (lends (rowsIn ws) t) line .refusal ≡ 0 = sym (took .refusal) ∙ ap (λ (a : Answer). verdictOf a .refusal) e in
+        rw (took .state) (sym (turn sheet k count (lends (rowsIn ws) t) ∙ rw zero-is))
 
     -- it is refused, and the run ends there
-    pub turn-ends : {x : Refusal} → r .answer ≡ Refused x → ranOf (RunRefused x (count + 1)) (lends (rowsIn ws′) (r .tally)) ≡ runLines lent k count (lends (rowsIn ws) t) (linesOf (drop at s))
+    pub turn-ends : {x : Refusal} → r .answer ≡ Refused x → ranOf (RunRefused x (count + 1)) (lends (rowsIn ws′) (r .tally)) ≡ runLines (lent sheet) k count (lends (rowsIn ws) t) (linesOf (drop at s))
     turn-ends {x} e =
-        let is : takeLine lent k (lends (rowsIn ws) t) line .refusal ≡ number x = sym (took .refusal) ∙ ap (λ (a : Answer). verdictOf a .refusal) e in
-        rw (took .state) (sym (turn k count (lends (rowsIn ws) t) ∙ rw (is, numbered x)))
+        let is : takeLine (lent sheet) k (lends (rowsIn ws) t) line .refusal ≡ number x = sym (took .refusal) ∙ ap (λ (a : Answer). verdictOf a .refusal) e in
+        rw (took .state) (sym (turn sheet k count (lends (rowsIn ws) t) ∙ rw (is, numbered x)))
 
 -- nothing is left
-pub run-ends : (k : Spelling) (s : List ℕ) (at count : ℕ) (h : State) → length s ≤ at → record { refusal = 0; number = count; state = h } ≡ runLines lent k count h (linesOf (drop at s))
+pub run-ends : (sheet : Sheet) (k : Spelling) (s : List ℕ) (at count : ℕ) (h : State) → length s ≤ at → record { refusal = 0; number = count; state = h } ≡ runLines (lent sheet) k count h (linesOf (drop at s))
 unfolding runLines partsOf
-run-ends k s at count h e = rw (drop-of-length-le s e)
+run-ends sheet k s at count h e = rw (drop-of-length-le s e)

@@ -11,6 +11,7 @@ use Rattle.model.specs.declared.Cap.{Cap}
 use Rattle.model.specs.declared.Tally.{Tally}
 use Rattle.model.specs.Requests.{requestOf}
 use Rattle.table.specs.Words.{rowsIn}
+use Rattle.table.specs.Sheets.{sheetIn}
 use Rattle.table.specs.Known.{Known}
 use Rattle.rules.specs.Steps.{lends}
 use Rattle.kelzoud_events.specs.Interface.{answerWords, requestIn}
@@ -20,15 +21,15 @@ use Rattle.kelzoud_events.proofs.batch.take_turns.Statement.{statement}
 use Rattle.kelzoud_events.proofs.batch.take_turns.Tie as tie
 
 abbrev Inv-loop : tie.InvT-loop
-Inv-loop table₀ live places₀ events names m answers₀ tally₀ alive₀ i₀ table places answers tally alive i =
+Inv-loop table₀ live places₀ sheet events names m answers₀ tally₀ alive₀ i₀ table places answers tally alive i =
     (i ≤ m) × (length table ≡ length table₀) × (length answers ≡ length answers₀) × Known table alive (tally .issued) places
-    × Ran (lends (rowsIn table₀) tally₀) events names i answers₀ (lends (rowsIn table) tally) answers
+    × Ran (sheetIn sheet) (lends (rowsIn table₀) tally₀) events names i answers₀ (lends (rowsIn table) tally) answers
 
 abbrev μ-loop : tie.MeasureT-loop
-μ-loop table₀ live places₀ events names m answers₀ tally₀ alive₀ i₀ table places answers tally alive i = m - i
+μ-loop table₀ live places₀ sheet events names m answers₀ tally₀ alive₀ i₀ table places answers tally alive i = m - i
 
 loop-holds : tie.Need-loop-holds Inv-loop μ-loop
-loop-holds c = (omega arith, refl, refl, c .before .pre .0, ran-none _ _ _ _)
+loop-holds c = (omega arith, refl, refl, c .before .pre .0, ran-none _ _ _ _ _)
 
 words-at-requires : tie.Need-words-at-requires Inv-loop μ-loop
 words-at-requires c κs = omega (arith, c .before .before .before .pre .1, c .loop-test .taken)
@@ -47,7 +48,7 @@ loop-again c =
       c .before .before .before .before .before .table .given ∙ l .inv .1,
       c .answers .given ∙ l .inv .2,
       p .ensures .1,
-      rw (c .before .put-answer .ensures) (ran-more (s .args .names .now) _ (s .args .events .now) (l .i) (s .args .answers .now) (lends (rowsIn (l .table)) (l .tally)) (l .answers) _ (lends (rowsIn (p .last .0)) (p .result .outcome .tally)) _ (l .inv .4) (omega (arith, s .pre .1, c .before .before .before .before .before .before .before .before .before .before .before .before .loop-test .taken)) (omega (arith, s .pre .2, c .before .before .before .before .before .before .before .before .before .before .before .before .loop-test .taken)) q (ap₂ (λ (x : List Cap) (y : Tally). lends x y) (st .table) (st .tally)) (ap answerWords (st .answer))),
+      rw (c .before .put-answer .ensures) (ran-more (s .args .names .now) (sheetIn (s .args .sheet .now)) _ (s .args .events .now) (l .i) (s .args .answers .now) (lends (rowsIn (l .table)) (l .tally)) (l .answers) _ (lends (rowsIn (p .last .0)) (p .result .outcome .tally)) _ (l .inv .4) (omega (arith, s .pre .1, c .before .before .before .before .before .before .before .before .before .before .before .before .loop-test .taken)) (omega (arith, s .pre .2, c .before .before .before .before .before .before .before .before .before .before .before .before .loop-test .taken)) q (ap₂ (λ (x : List Cap) (y : Tally). lends x y) (st .table) (st .tally)) (ap answerWords (st .answer))),
     )
 
 same-length : tie.Need-same-length Inv-loop μ-loop

@@ -6,6 +6,7 @@ use lib.ListN.{length, take}
 use lib.Seq.{length-take-le}
 use borrow.Author.Needs.{needs}
 use Rattle.model.specs.Requests.{requestOf}
+use Rattle.table.specs.Sheets.{sheetIn}
 use Rattle.rules.proofs.Laws.Records.{requested-few, requested-many}
 use Rattle.rules.proofs.records.request_first.Statement.{statement}
 use Rattle.rules.proofs.records.request_first.Tie as tie
@@ -17,10 +18,10 @@ returns : tie.Need-returns
 returns c =
     let s = c .before .before .before .before .before in
     let long : length (c .before .step .last .0) ≡ length (take (s .args .n) (s .args .rows .now)) = c .rows .given .0 in
-    requested-few (s .args .rows .now) (c .before .step .last .0) (s .args .n) (s .args .t) (requestOf (s .args .asked) (s .args .names .now)) (c .before .step .result) (s .pre) (c .before .before .before .if1 .taken) (long ∙ length-take-le (s .args .n) (s .args .rows .now) (omega (arith, s .pre, c .before .before .before .if1 .taken))) (c .before .step .ensures)
+    requested-few (sheetIn (s .args .sheet .now)) (s .args .rows .now) (c .before .step .last .0) (s .args .n) (s .args .t) (requestOf (s .args .asked) (s .args .names .now)) (c .before .step .result) (s .pre) (c .before .before .before .if1 .taken) (long ∙ length-take-le (s .args .n) (s .args .rows .now) (omega (arith, s .pre, c .before .before .before .if1 .taken))) (c .before .step .ensures)
 
 returns-2 : tie.Need-returns-2
-returns-2 c = let s = c .before .before in requested-many (s .args .rows .now) (s .args .n) (s .args .t) (requestOf (s .args .asked) (s .args .names .now)) (c .if1 .left)
+returns-2 c = let s = c .before .before in requested-many (sheetIn (s .args .sheet .now)) (s .args .rows .now) (s .args .n) (s .args .t) (requestOf (s .args .asked) (s .args .names .now)) (c .if1 .left)
 
 pub request-first-spec : {M : Type 1} → statement M
 request-first-spec =

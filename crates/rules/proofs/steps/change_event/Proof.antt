@@ -13,10 +13,10 @@ use Rattle.model.specs.declared.Access.the-variants.{Reading, Writing}
 use Rattle.model.specs.Derivation.{ancestry, inSubtree}
 use Rattle.model.specs.Table.{derivations}
 use Rattle.model.specs.Requests.{Single}
-use Rattle.model.specs.Sheet6.{sheet6}
 use Rattle.model.specs.Refusals.{viewOf, judge}
 use Rattle.model.specs.Effects.{afterAccess, rowsWithout, rowsAfter}
 use Rattle.table.specs.Words.{rowsIn}
+use Rattle.table.specs.Sheets.{sheetIn}
 use Rattle.table.specs.Rows.{before, Found}
 use Rattle.table.proofs.Offered.{length-in, orderly-issued, orderly-few, orderly-rise}
 use Rattle.rules.proofs.Laws.Steps.{ready, access-rows, access-few, access-ready, access-root, room-create, room-borrow, there-borrow, depth-borrow, next-create, next-borrow, next-read, next-write, next-drop}
@@ -29,14 +29,14 @@ add-new-row c =
     let i : s .args .issued ≤ 1000000 = orderly-issued T (length ws) (s .args .k) (s .args .issued) (s .pre .0) in
     omega arith
 
-add-write-rows : tie.Need-add-write-rows
-add-write-rows c =
+add-access-rows : tie.Need-add-access-rows
+add-access-rows c =
     let s = c .before .before .before .before .before .before in let ws = s .args .table .now in let T = rowsIn ws in
     let i : s .args .issued ≤ 1000000 = orderly-issued T (length ws) (s .args .k) (s .args .issued) (s .pre .0) in
     omega arith
 
-write-rows-requires : tie.Need-write-rows-requires
-write-rows-requires c κs =
+access-rows-requires : tie.Need-access-rows-requires
+access-rows-requires c κs =
     let s = c .before .before .before .before .before .before in let ws = s .args .table .now in
     (ready ws (s .args .k) (s .args .issued) (s .pre .0), s .pre .2)
 
@@ -45,9 +45,9 @@ append-requires c κs =
     let s = c .before .before .before .before .before .before .before .before .before .before in let ws = s .args .table .now in let T = rowsIn ws in
     let j = subst (λ (x : Event). judge (viewOf T (s .args .issued)) (Single x) ≡ 0) (c .before .before .before .before .before .before .before .before .e .given .1) (s .pre .1) in
     let span = c .before .before .before .before .before .before .before .before .e .given .0 .1 .0 in
-    let left = c .before .before .before .write-rows .ensures in let long = c .before .before .table .given in
+    let left = c .before .before .before .access-rows .ensures in let long = c .before .before .table .given in
     let room : s .args .k < length ws = room-create ws (s .args .k) (s .args .issued) (s .pre .0) (c .before .before .before .before .before .before .before .before .e .given .0 .0) span (c .before .before .before .before .before .before .before .before .e .given .0 .1 .1 .0) j in
-    (omega (arith, room, access-few ws (s .args .k) (s .args .issued) (s .pre .0) Writing (s .args .issued + 1) span (c .before .before .before .write-rows .last .0) left long), access-ready ws (s .args .k) (s .args .issued) (s .pre .0) Writing (s .args .issued + 1) span (c .before .before .before .write-rows .last .0) left long, left .placed, subst (λ (d : Cap). Found (rowsIn (c .before .before .before .write-rows .last .0)) (c .before .before .before .write-rows .result) (d .parent .0) (c .before .before .before .write-rows .result)) (sym (c .before .before .before .before .before .before .new-row .ensures)) (access-root ws (s .args .k) (s .args .issued) (s .pre .0) Writing (s .args .issued + 1) span (c .before .before .before .write-rows .last .0) left long), subst (λ (d : Cap). 0 < d .name .0) (sym (c .before .before .before .before .before .before .new-row .ensures)) (omega arith))
+    (omega (arith, room, access-few ws (s .args .k) (s .args .issued) (s .pre .0) (sheetIn (s .args .sheet .now)) Writing (s .args .issued + 1) span (c .before .before .before .access-rows .last .0) left long), access-ready ws (s .args .k) (s .args .issued) (s .pre .0) (sheetIn (s .args .sheet .now)) Writing (s .args .issued + 1) span (c .before .before .before .access-rows .last .0) left long, left .placed, subst (λ (d : Cap). Found (rowsIn (c .before .before .before .access-rows .last .0)) (c .before .before .before .access-rows .result) (d .parent .0) (c .before .before .before .access-rows .result)) (sym (c .before .before .before .before .before .before .new-row .ensures)) (access-root ws (s .args .k) (s .args .issued) (s .pre .0) (sheetIn (s .args .sheet .now)) Writing (s .args .issued + 1) span (c .before .before .before .access-rows .last .0) left long), subst (λ (d : Cap). 0 < d .name .0) (sym (c .before .before .before .before .before .before .new-row .ensures)) (omega arith))
 
 find-requires : tie.Need-find-requires
 find-requires c κs =
@@ -78,13 +78,13 @@ append-requires-2 c κs =
     let j = subst (λ (x : Event). judge (viewOf T (s .args .issued)) (Single x) ≡ 0) (c .before .before .before .before .before .before .before .before .e2 .given .1) (s .pre .1) in
     (room-borrow ws (s .args .k) (s .args .issued) (s .pre .0) (c .before .before .before .before .before .before .before .before .e2 .given .0 .0) (c .before .before .before .before .before .before .before .before .e2 .given .0 .1 .0) (c .before .before .before .before .before .before .before .before .e2 .given .0 .1 .1 .0) (c .before .before .before .before .before .before .before .before .e2 .given .0 .1 .1 .1 .0) (c .before .before .before .before .before .before .before .before .e2 .given .0 .1 .1 .1 .1 .0) j, ready ws (s .args .k) (s .args .issued) (s .pre .0), s .pre .2, subst (λ (d : Cap). Found T (s .args .k) (d .parent .0) (c .before .before .before .before .before .find .result)) (sym (c .before .before .new-row2 .ensures)) (c .before .before .before .before .before .find .ensures), subst (λ (d : Cap). 0 < d .name .0) (sym (c .before .before .new-row2 .ensures)) (omega arith))
 
-read-rows-requires : tie.Need-read-rows-requires
-read-rows-requires c κs =
+access-rows-requires-2 : tie.Need-access-rows-requires-2
+access-rows-requires-2 c κs =
     let s = c .before .before .before .before .before in let ws = s .args .table .now in let T = rowsIn ws in
     (ready ws (s .args .k) (s .args .issued) (s .pre .0), s .pre .2)
 
-write-rows-requires-2 : tie.Need-write-rows-requires-2
-write-rows-requires-2 c κs =
+access-rows-requires-3 : tie.Need-access-rows-requires-3
+access-rows-requires-3 c κs =
     let s = c .before .before .before .before .before in let ws = s .args .table .now in let T = rowsIn ws in
     (ready ws (s .args .k) (s .args .issued) (s .pre .0), s .pre .2)
 
@@ -98,32 +98,32 @@ returns c =
     let s = c .before .before .before .before .before .before .before .before .before .before .before .before in let ws = s .args .table .now in let T = rowsIn ws in
     let span = c .before .before .before .before .before .before .before .before .before .before .e .given .0 .1 .0 in
     let new = c .before .before .before .before .before .before .before .before .new-row .result in
-    let rows = access-rows ws (s .args .k) (s .args .issued) (s .pre .0) Writing (s .args .issued + 1) span (c .before .before .before .before .before .write-rows .last .0) (c .before .before .before .before .before .write-rows .ensures) (c .before .before .before .before .table .given) in
-    let e = ap (λ (l : List Cap). new ∷ l) rows ∙ next-create (s .args .issued) (before T (s .args .k)) (c .before .before .before .before .before .before .before .before .before .before .e .given .0 .0) span (c .before .before .before .before .before .before .before .before .before .before .e .given .0 .1 .1 .0) new (c .before .before .before .before .before .before .before .before .new-row .ensures) ∙ ap (λ (x : Event). rowsAfter sheet6 (s .args .issued) (before T (s .args .k)) (Single x)) (sym (c .before .before .before .before .before .before .before .before .before .before .e .given .1)) in
+    let rows = access-rows ws (s .args .k) (s .args .issued) (s .pre .0) (sheetIn (s .args .sheet .now)) Writing (s .args .issued + 1) span (c .before .before .before .before .before .access-rows .last .0) (c .before .before .before .before .before .access-rows .ensures) (c .before .before .before .before .table .given) in
+    let e = ap (λ (l : List Cap). new ∷ l) rows ∙ next-create (sheetIn (s .args .sheet .now)) (s .args .issued) (before T (s .args .k)) (c .before .before .before .before .before .before .before .before .before .before .e .given .0 .0) span (c .before .before .before .before .before .before .before .before .before .before .e .given .0 .1 .1 .0) new (c .before .before .before .before .before .before .before .before .new-row .ensures) ∙ ap (λ (x : Event). rowsAfter (sheetIn (s .args .sheet .now)) (s .args .issued) (before T (s .args .k)) (Single x)) (sym (c .before .before .before .before .before .before .before .before .before .before .e .given .1)) in
     rw (← e, ← (c .before .before .before .before .table .given)) (c .before .append .ensures)
 
 returns-2 : tie.Need-returns-2
 returns-2 c =
     let s = c .before .before .before .before .before .before .before .before .before .before .before .before in let ws = s .args .table .now in let T = rowsIn ws in
-    let e : (c .before .before .before .before .new-row2 .result ∷ before T (s .args .k)) ≡ rowsAfter sheet6 (s .args .issued) (before T (s .args .k)) (Single (s .args .e)) = next-borrow (s .args .issued) (before T (s .args .k)) (c .before .before .before .before .before .before .before .before .before .before .e2 .given .0 .0) (c .before .before .before .before .before .before .before .before .before .before .e2 .given .0 .1 .0) (c .before .before .before .before .before .before .before .before .before .before .e2 .given .0 .1 .1 .0) (c .before .before .before .before .before .before .before .before .before .before .e2 .given .0 .1 .1 .1 .0) (c .before .before .before .before .before .before .before .before .before .before .e2 .given .0 .1 .1 .1 .1 .0) (c .before .before .before .before .before .depth-at .result) (c .before .before .before .before .new-row2 .result) (c .before .before .before .before .before .depth-at .ensures) (c .before .before .before .before .new-row2 .ensures) ∙ ap (λ (x : Event). rowsAfter sheet6 (s .args .issued) (before T (s .args .k)) (Single x)) (sym (c .before .before .before .before .before .before .before .before .before .before .e2 .given .1)) in
+    let e : (c .before .before .before .before .new-row2 .result ∷ before T (s .args .k)) ≡ rowsAfter (sheetIn (s .args .sheet .now)) (s .args .issued) (before T (s .args .k)) (Single (s .args .e)) = next-borrow (sheetIn (s .args .sheet .now)) (s .args .issued) (before T (s .args .k)) (c .before .before .before .before .before .before .before .before .before .before .e2 .given .0 .0) (c .before .before .before .before .before .before .before .before .before .before .e2 .given .0 .1 .0) (c .before .before .before .before .before .before .before .before .before .before .e2 .given .0 .1 .1 .0) (c .before .before .before .before .before .before .before .before .before .before .e2 .given .0 .1 .1 .1 .0) (c .before .before .before .before .before .before .before .before .before .before .e2 .given .0 .1 .1 .1 .1 .0) (c .before .before .before .before .before .depth-at .result) (c .before .before .before .before .new-row2 .result) (c .before .before .before .before .before .depth-at .ensures) (c .before .before .before .before .new-row2 .ensures) ∙ ap (λ (x : Event). rowsAfter (sheetIn (s .args .sheet .now)) (s .args .issued) (before T (s .args .k)) (Single x)) (sym (c .before .before .before .before .before .before .before .before .before .before .e2 .given .1)) in
     rw (← e) (c .before .append2 .ensures)
 
 returns-3 : tie.Need-returns-3
 returns-3 c =
     let s = c .before .before .before .before .before .before .before in let ws = s .args .table .now in let T = rowsIn ws in
-    let e : afterAccess sheet6 Reading (c .before .before .before .before .before .e3 .given .0 .0 .0) (c .before .before .before .before .before .e3 .given .0 .1 .0) (before T (s .args .k)) ≡ rowsAfter sheet6 (s .args .issued) (before T (s .args .k)) (Single (s .args .e)) = next-read (s .args .issued) (before T (s .args .k)) (c .before .before .before .before .before .e3 .given .0 .0) (c .before .before .before .before .before .e3 .given .0 .1 .0) ∙ ap (λ (x : Event). rowsAfter sheet6 (s .args .issued) (before T (s .args .k)) (Single x)) (sym (c .before .before .before .before .before .e3 .given .1)) in
-    rw (← e) (c .before .read-rows .ensures)
+    let e : afterAccess (sheetIn (s .args .sheet .now)) Reading (c .before .before .before .before .before .e3 .given .0 .0 .0) (c .before .before .before .before .before .e3 .given .0 .1 .0) (before T (s .args .k)) ≡ rowsAfter (sheetIn (s .args .sheet .now)) (s .args .issued) (before T (s .args .k)) (Single (s .args .e)) = next-read (sheetIn (s .args .sheet .now)) (s .args .issued) (before T (s .args .k)) (c .before .before .before .before .before .e3 .given .0 .0) (c .before .before .before .before .before .e3 .given .0 .1 .0) ∙ ap (λ (x : Event). rowsAfter (sheetIn (s .args .sheet .now)) (s .args .issued) (before T (s .args .k)) (Single x)) (sym (c .before .before .before .before .before .e3 .given .1)) in
+    rw (← e) (c .before .access-rows2 .ensures)
 
 returns-4 : tie.Need-returns-4
 returns-4 c =
     let s = c .before .before .before .before .before .before .before in let ws = s .args .table .now in let T = rowsIn ws in
-    let e : afterAccess sheet6 Writing (c .before .before .before .before .before .e4 .given .0 .0 .0) (c .before .before .before .before .before .e4 .given .0 .1 .0) (before T (s .args .k)) ≡ rowsAfter sheet6 (s .args .issued) (before T (s .args .k)) (Single (s .args .e)) = next-write (s .args .issued) (before T (s .args .k)) (c .before .before .before .before .before .e4 .given .0 .0) (c .before .before .before .before .before .e4 .given .0 .1 .0) ∙ ap (λ (x : Event). rowsAfter sheet6 (s .args .issued) (before T (s .args .k)) (Single x)) (sym (c .before .before .before .before .before .e4 .given .1)) in
-    rw (← e) (c .before .write-rows2 .ensures)
+    let e : afterAccess (sheetIn (s .args .sheet .now)) Writing (c .before .before .before .before .before .e4 .given .0 .0 .0) (c .before .before .before .before .before .e4 .given .0 .1 .0) (before T (s .args .k)) ≡ rowsAfter (sheetIn (s .args .sheet .now)) (s .args .issued) (before T (s .args .k)) (Single (s .args .e)) = next-write (sheetIn (s .args .sheet .now)) (s .args .issued) (before T (s .args .k)) (c .before .before .before .before .before .e4 .given .0 .0) (c .before .before .before .before .before .e4 .given .0 .1 .0) ∙ ap (λ (x : Event). rowsAfter (sheetIn (s .args .sheet .now)) (s .args .issued) (before T (s .args .k)) (Single x)) (sym (c .before .before .before .before .before .e4 .given .1)) in
+    rw (← e) (c .before .access-rows3 .ensures)
 
 returns-5 : tie.Need-returns-5
 returns-5 c =
     let s = c .before .before .before .before .before .before .before .before in let ws = s .args .table .now in let T = rowsIn ws in
-    let e : rowsWithout (c .before .before .before .before .before .before .e5 .given .0 .0 .0 ∷ []) (before T (s .args .k)) ≡ rowsAfter sheet6 (s .args .issued) (before T (s .args .k)) (Single (s .args .e)) = next-drop (s .args .issued) (before T (s .args .k)) (c .before .before .before .before .before .before .e5 .given .0 .0) ∙ ap (λ (x : Event). rowsAfter sheet6 (s .args .issued) (before T (s .args .k)) (Single x)) (sym (c .before .before .before .before .before .before .e5 .given .1)) in
+    let e : rowsWithout (c .before .before .before .before .before .before .e5 .given .0 .0 .0 ∷ []) (before T (s .args .k)) ≡ rowsAfter (sheetIn (s .args .sheet .now)) (s .args .issued) (before T (s .args .k)) (Single (s .args .e)) = next-drop (sheetIn (s .args .sheet .now)) (s .args .issued) (before T (s .args .k)) (c .before .before .before .before .before .before .e5 .given .0 .0) ∙ ap (λ (x : Event). rowsAfter (sheetIn (s .args .sheet .now)) (s .args .issued) (before T (s .args .k)) (Single x)) (sym (c .before .before .before .before .before .before .e5 .given .1)) in
     rw (← e) (c .before .drop-names .ensures)
 
 pub change-event-spec : {M : Type 1} → statement M
@@ -134,8 +134,8 @@ change-event-spec =
     add-new-row
     (λ c. search needs)
     (λ c κs. search needs)
-    add-write-rows
-    write-rows-requires
+    add-access-rows
+    access-rows-requires
     append-requires
     (λ c. search needs)
     find-requires
@@ -147,9 +147,9 @@ change-event-spec =
     (λ c κs. search needs)
     append-requires-2
     (λ c. search needs)
-    read-rows-requires
+    access-rows-requires-2
     (λ c. search needs)
-    write-rows-requires-2
+    access-rows-requires-3
     (λ c. search needs)
     (λ c. search needs)
     drop-names-requires

@@ -11,6 +11,7 @@ use Rattle.model.specs.Effects.{newName}
 use Rattle.model.specs.Step.{Verdict, verdict}
 use Rattle.model.specs.Answers.{verdictOf}
 use Rattle.table.specs.Words.{rowsIn}
+use Rattle.table.specs.Sheets.{sheetIn}
 use Rattle.table.proofs.Offered.{orderly-issued}
 use Rattle.rules.proofs.Laws.Steps.{allowed-zero, stepped-allowed, stepped-refused, orderly-after, counted}
 use Rattle.rules.proofs.steps.take.Statement.{statement}
@@ -22,7 +23,7 @@ change-requires c κs =
     let req : Request = requestOf (s .args .asked) (s .args .names .now) in
     let v : Verdict = verdict (judge (viewOf (rowsIn ws) (s .args .t .issued)) req) (newName (s .args .t .issued) req) in
     let q : verdictOf (Allowed (c .before .before .before .a2 .given .0 .0)) ≡ v = subst (λ (x : Answer). verdictOf x ≡ v) (c .before .before .before .a2 .given .1) (c .before .before .before .before .before .judge-request .ensures) in
-    (s .pre, allowed-zero ws (s .args .t) req (s .args .k) (s .pre .orderly) (c .before .before .before .a2 .given .0 .0) q)
+    (s .pre, allowed-zero (sheetIn (s .args .sheet .now)) ws (s .args .t) req (s .args .k) (s .pre .orderly) (c .before .before .before .a2 .given .0 .0) q)
 
 count-allowed-requires : tie.Need-count-allowed-requires
 count-allowed-requires c κs =
@@ -35,8 +36,8 @@ returns c =
     let req : Request = requestOf (s .args .asked) (s .args .names .now) in
     let v : Verdict = verdict (judge (viewOf (rowsIn ws) (s .args .t .issued)) req) (newName (s .args .t .issued) req) in
     let q : verdictOf (Refused (c .before .before .a .given .0 .0)) ≡ v = subst (λ (x : Answer). verdictOf x ≡ v) (c .before .before .a .given .1) (c .before .before .before .before .judge-request .ensures) in
-    let st = stepped-refused ws (s .args .t) req (s .args .k) o (c .count-refused .result) (c .before .before .a .given .0 .0) q (c .count-refused .ensures) in
-    (st, record { orderly = orderly-after ws (s .args .t) req (s .args .k) ws _ (s .args .k) refl o st (o .front); placed = s .pre .placed })
+    let st = stepped-refused (sheetIn (s .args .sheet .now)) ws (s .args .t) req (s .args .k) o (c .count-refused .result) (c .before .before .a .given .0 .0) q (c .count-refused .ensures) in
+    (st, record { orderly = orderly-after (sheetIn (s .args .sheet .now)) ws (s .args .t) req (s .args .k) ws _ (s .args .k) refl o st (o .front); placed = s .pre .placed })
 
 returns-2 : tie.Need-returns-2
 returns-2 c =
@@ -46,8 +47,8 @@ returns-2 c =
     let told = c .before .before .before .before .before .before .a2 .given in
     let v : Verdict = verdict (judge (viewOf (rowsIn ws) (s .args .t .issued)) req) (newName (s .args .t .issued) req) in
     let q : verdictOf (Allowed (told .0 .0)) ≡ v = subst (λ (x : Answer). verdictOf x ≡ v) (told .1) (c .before .before .before .before .before .before .before .before .judge-request .ensures) in
-    let st = stepped-allowed ws (s .args .t) req (s .args .k) o (left .last .0) (c .count-allowed .result) (told .0 .0) q (left .ensures .table) (c .count-allowed .ensures ∙ counted (s .args .asked) (s .args .names .now) (s .args .t)) in
-    (st, record { orderly = orderly-after ws (s .args .t) req (s .args .k) (left .last .0) _ (left .result) (c .before .table .given) o st (left .ensures .front); placed = left .ensures .placed })
+    let st = stepped-allowed (sheetIn (s .args .sheet .now)) ws (s .args .t) req (s .args .k) o (left .last .0) (c .count-allowed .result) (told .0 .0) q (left .ensures .table) (c .count-allowed .ensures ∙ counted (s .args .asked) (s .args .names .now) (s .args .t)) in
+    (st, record { orderly = orderly-after (sheetIn (s .args .sheet .now)) ws (s .args .t) req (s .args .k) (left .last .0) _ (left .result) (c .before .table .given) o st (left .ensures .front); placed = left .ensures .placed })
 
 pub take-spec : {M : Type 1} → statement M
 take-spec =

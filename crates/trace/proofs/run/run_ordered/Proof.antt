@@ -8,6 +8,7 @@ use lib.ListN.{length, drop}
 use borrow.Author.Needs.{needs}
 use Rattle.table.specs.Words.{rowsIn}
 use Rattle.table.specs.Known.{Known}
+use Rattle.table.specs.Sheets.{sheetIn}
 use Rattle.rules.specs.Steps.{lends}
 use Rattle.text.specs.Line.{linesOf}
 use Rattle.trace.specs.Run.{lent, runLines}
@@ -20,12 +21,12 @@ use Rattle.text.proofs.lines.next_line.Reads as next-line-reads
 use Rattle.trace.proofs.run.take_line.Reads as take-line-reads
 
 abbrev Inv-loop : tie.InvT-loop
-Inv-loop table₀ live places₀ spelling before text left₀ alive₀ at₀ count₀ table places left alive at count =
+Inv-loop table₀ live places₀ sheet spelling before text left₀ alive₀ at₀ count₀ table places left alive at count =
     (at ≤ length text) × (count ≤ at + 1) × Known table alive (left .issued) places × (length table ≡ length table₀)
-    × (runLines lent spelling count (lends (rowsIn table) left) (linesOf (drop at text)) ≡ runLines lent spelling before (lends (rowsIn table₀) left₀) (linesOf text))
+    × (runLines (lent (sheetIn sheet)) spelling count (lends (rowsIn table) left) (linesOf (drop at text)) ≡ runLines (lent (sheetIn sheet)) spelling before (lends (rowsIn table₀) left₀) (linesOf text))
 
 abbrev μ-loop : tie.MeasureT-loop
-μ-loop table₀ live places₀ spelling before text left₀ alive₀ at₀ count₀ table places left alive at count = length text - at
+μ-loop table₀ live places₀ sheet spelling before text left₀ alive₀ at₀ count₀ table places left alive at count = length text - at
 
 loop-holds : tie.Need-loop-holds Inv-loop μ-loop
 loop-holds c = (omega arith, omega (arith, c .before .pre .1), c .before .pre .0, refl, refl)
@@ -55,7 +56,7 @@ same-length-2 : tie.Need-same-length-2 Inv-loop μ-loop
 same-length-2 c = c .before .loop .inv .3
 
 returns-2 : tie.Need-returns-2 Inv-loop μ-loop
-returns-2 c = record { ran = run-ends (c .before .before .before .args .spelling) (c .before .before .before .args .text .now) (c .before .loop .at) (c .before .loop .count) (lends (rowsIn (c .before .loop .table)) (c .before .loop .left)) (c .loop-test .left) ∙ c .before .loop .inv .4 }
+returns-2 c = record { ran = run-ends (sheetIn (c .before .before .before .args .sheet .now)) (c .before .before .before .args .spelling) (c .before .before .before .args .text .now) (c .before .loop .at) (c .before .loop .count) (lends (rowsIn (c .before .loop .table)) (c .before .loop .left)) (c .loop-test .left) ∙ c .before .loop .inv .4 }
 
 pub run-ordered-spec : {M : Type 1} → statement M
 run-ordered-spec =

@@ -9,6 +9,7 @@ use lib.Seq.{take-all}
 use borrow.Author.Needs.{needs}
 use Rattle.text.specs.Line.{nextLine}
 use Rattle.text.specs.Read.{same}
+use Rattle.table.specs.Sheets.{sheetIn}
 use Rattle.trace.specs.Run.{header}
 use Rattle.trace.proofs.Laws.Header.{header-inside, runs-named, runs-plain}
 use Rattle.trace.proofs.run.run_text.Statement.{statement}
@@ -27,12 +28,12 @@ returns c =
     let s = c .before .before .before .before .before .before .before .before in
     let text = s .args .text .now in
     let h : same (nextLine text) header ≡ true = sym (c .before .before .before .before .before .before .is-named .ensures) ∙ c .before .before .before .before .before .if1 .taken in
-    runs-named (s .args .table .now) (s .args .tally) text (s .pre .orderly .ordered) h (take-all (length text - 10) (drop 10 text) (omega (arith, length-drop 10 text))) (c .before .run-ordered .ensures)
+    runs-named (sheetIn (s .args .sheet .now)) (s .args .table .now) (s .args .tally) text (s .pre .orderly .ordered) h (take-all (length text - 10) (drop 10 text) (omega (arith, length-drop 10 text))) (c .before .run-ordered .ensures)
 
 returns-2 : tie.Need-returns-2
 returns-2 c =
     let s = c .before .before .before .before .before .before .before in
-    runs-plain (s .args .table .now) (s .args .tally) (s .args .text .now) (s .pre .orderly .ordered) (sym (c .before .before .before .before .before .is-named .ensures) ∙ c .before .before .before .before .if1 .left) (c .before .run-ordered2 .ensures)
+    runs-plain (sheetIn (s .args .sheet .now)) (s .args .table .now) (s .args .tally) (s .args .text .now) (s .pre .orderly .ordered) (sym (c .before .before .before .before .before .is-named .ensures) ∙ c .before .before .before .before .if1 .left) (c .before .run-ordered2 .ensures)
 
 pub run-text-spec : {M : Type 1} → statement M
 run-text-spec =

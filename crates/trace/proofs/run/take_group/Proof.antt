@@ -10,6 +10,7 @@ use Rattle.model.specs.Answers.{number}
 use Rattle.text.specs.Result.{Result, value, refused}
 use Rattle.text.specs.Group.{readGroup, groupAnswer, countOf}
 use Rattle.text.proofs.Offered.{refused-group-is-2}
+use Rattle.table.specs.Sheets.{sheetIn}
 use Rattle.trace.proofs.Laws.Turn.{taken-group, taken-misspelt}
 use Rattle.trace.proofs.Laws.Names.{Got, got, none-got}
 use borrow.Author.Needs.{needs}
@@ -31,13 +32,13 @@ returns c =
     let s = c .before .before .before .before .before .before .before .before .before .before .before in
     let g = left (c .before .before .before .before .before .before) in
     let k = c .before .take .ensures in
-    (taken-group (s .args .table .now) (s .args .tally) (s .args .line .now) (g .read ∙ ap value (sym (g .taken))) (k .0), k .1)
+    (taken-group (sheetIn (s .args .sheet .now)) (s .args .table .now) (s .args .tally) (s .args .line .now) (g .read ∙ ap value (sym (g .taken))) (k .0), k .1)
 
 returns-2 : tie.Need-returns-2
 returns-2 c =
     let s = c .before .before .before .before .before .before in
     let read : readGroup (s .args .line .now) ≡ refused 2 = none-got (s .args .line .now) (number (c .before .enum-told .given .0 .0)) (ap groupAnswer (sym (c .before .enum-told .given .1)) ∙ c .before .before .before .read-group .ensures .0) in
-    (taken-misspelt (s .args .table .now) (s .args .tally) (s .args .line .now) read (c .count-refused .ensures), rw (ap (λ (y : Tally). y .issued) (c .count-refused .ensures)) (s .pre))
+    (taken-misspelt (sheetIn (s .args .sheet .now)) (s .args .table .now) (s .args .tally) (s .args .line .now) read (c .count-refused .ensures), rw (ap (λ (y : Tally). y .issued) (c .count-refused .ensures)) (s .pre))
 
 pub take-group-spec : {M : Type 1} → statement M
 take-group-spec =

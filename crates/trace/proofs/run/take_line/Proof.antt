@@ -5,6 +5,7 @@ use Prim.Native.Nat.{ℕ}
 use Rattle.model.specs.Answers.{number}
 use Rattle.text.specs.Result.{refused}
 use Rattle.text.specs.Read.{readAnswer, readEvent}
+use Rattle.table.specs.Sheets.{sheetIn}
 use Rattle.trace.proofs.Laws.Turn.{taken-event, taken-other}
 use borrow.Author.Needs.{needs}
 use Rattle.trace.proofs.run.take_line.Statement.{statement}
@@ -14,13 +15,13 @@ returns : tie.Need-returns
 returns c =
     let s = c .before .before .before .before .before .before .before .before .before .before in
     let k = c .before .take .ensures in
-    (taken-event (s .args .table .now) (s .args .tally) (s .args .line .now) (s .args .spelling) (sym (ap readAnswer (sym (c .before .before .before .before .before .before .found .given .1)) ∙ c .before .before .before .before .before .before .before .before .read-event .ensures)) (k .0), k .1)
+    (taken-event (sheetIn (s .args .sheet .now)) (s .args .table .now) (s .args .tally) (s .args .line .now) (s .args .spelling) (sym (ap readAnswer (sym (c .before .before .before .before .before .before .found .given .1)) ∙ c .before .before .before .before .before .before .before .before .read-event .ensures)) (k .0), k .1)
 
 returns-2 : tie.Need-returns-2
 returns-2 c =
     let s = c .before .before .before .before .before .before .before .before in
     let read : readEvent (s .args .spelling) (s .args .line .now) ≡ refused (number (c .before .before .before .before .enum-told .given .0 .0)) = sym (ap readAnswer (sym (c .before .before .before .before .enum-told .given .1)) ∙ c .before .before .before .before .before .before .read-event .ensures) in
-    (taken-other (s .args .table .now) (s .args .tally) (s .args .line .now) (s .args .spelling) read (c .before .take-group .ensures .0), c .before .take-group .ensures .1)
+    (taken-other (sheetIn (s .args .sheet .now)) (s .args .table .now) (s .args .tally) (s .args .line .now) (s .args .spelling) read (c .before .take-group .ensures .0), c .before .take-group .ensures .1)
 
 pub take-line-spec : {M : Type 1} → statement M
 take-line-spec =
