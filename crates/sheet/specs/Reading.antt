@@ -74,6 +74,12 @@ pub record Brackets (line : List ℕ) (at : ℕ) (opening : List ℕ) (own : Lis
 abbrev pub countsAt : Counted → ℕ → ℕ
 countsAt r p = min (min (getD (r .holders) (holderAt p) 0) 2 * min (getD (r .accesses) (accessAt p) 0) 2 * min (getD (r .origins) (originAt p) 0) 2) 2
 
+-- how often each combination is given, up to twice, and its result, both of their lengths
+pub record Ready (seen results : List ℕ) : Type 0 where
+  pub seen-long : length seen ≡ 18
+  pub results-long : length results ≡ 18
+  pub small : (p : ℕ) → p < 18 → getD seen p 0 ≤ 2
+
 -- what a line adds
 pub record Adds (r : Counted) (seen results seen′ results′ : List ℕ) : Type 0 where
   pub seen-long : length seen′ ≡ 18

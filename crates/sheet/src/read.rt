@@ -8,11 +8,11 @@ ghost use mathlib.Core.Path.{_≡_};
 ghost use mathlib.Core.List.{[]};
 ghost use Prim.Native.Nat.{_<_, min};
 ghost use lib.Dec.{eqb, ltb};
-ghost use lib.ListN.{length, getD};
+ghost use lib.ListN.{getD};
 ghost use Rattle.model.specs.Lists.{any};
 ghost use Rattle.sheet.specs.Rules.{places};
 ghost use Rattle.sheet.specs.ReadSheet.{judgeText, sheetInto, sheetAnswer};
-ghost use Rattle.sheet.specs.Reading.{countsAt, Adds, Noted, ReadsLines};
+ghost use Rattle.sheet.specs.Reading.{countsAt, Ready, Adds, Noted, ReadsLines};
 
 // What reading a sheet answers: it is one, or the refusal.
 pub enum SheetRead {
@@ -40,7 +40,7 @@ fn given_by(rule: Counted, place: usize) -> u8
 
 // What a line adds: how often each combination is given, up to twice, and the result of the first line that gives it.
 fn add_rule(rule: Counted, seen: &mut [u8; 18], results: &mut [u8; 18])
-    requires { ⌜ (length (now seen) ≡ 18) × (length (now results) ≡ 18) ⌝ }
+    requires { ⌜ Ready (now seen) (now results) ⌝ }
     ensures { λ _. ⌜ Adds rule (now (seen .entry)) (now (results .entry)) (now (seen .exit)) (now (results .exit)) ⌝ }
 {
     let mut p: usize = 0;
