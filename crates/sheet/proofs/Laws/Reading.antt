@@ -10,9 +10,9 @@ use native.Mathlib.Numerals.{add-one}
 use native.Mathlib.Omega.{arith}
 use lib.Dec.{eqb, ltb}
 use lib.ListN.{length, getD, set, take, drop, replicate, length-drop, length-set, getD-replicate, drop-of-length-le}
-use lib.Seq.{take-all, length-take-le, drop-drop, drop-cons, getD-set-same, getD-set-other}
-use borrow.Author.Tests.{ltb-true, ltb-false, eq-eqb, ne-eqb, eqb-true, eqb-false}
-use Rattle.model.specs.Lists.{filter, any, all}
+use lib.Seq.{take-all, length-take-le, drop-drop, drop-cons, ext-getD, getD-set-same, getD-set-other}
+use borrow.Author.Tests.{ltb-true, ltb-false, lt-ltb, le-ltb, eq-eqb, ne-eqb, eqb-true, eqb-false}
+use Rattle.model.specs.Lists.{filter, any, all, first}
 use Rattle.model.proofs.Offered.{test, unless, clash, and-both}
 use Rattle.text.specs.Event.{bytes}
 use Rattle.text.specs.Line.{through, nextPart, push, partsOf}
@@ -24,8 +24,8 @@ use Rattle.sheet.specs.declared.rule.Found.{Found}
 use Rattle.sheet.specs.declared.rule.Counted.{Counted}
 use Rattle.sheet.specs.Words.{holderWords, accessWords, originWords, resultWords, inside, closing, ending, numberAmong}
 use Rattle.sheet.specs.Rule.{Listed, listedOf, listed, behind, Rule, isRule, readRule}
-use Rattle.sheet.specs.Rules.{places, holderAt, accessAt, originAt, times, givenBy, given, resultGiven, judgeRules}
-use Rattle.sheet.specs.ReadSheet.{rulesIn}
+use Rattle.sheet.specs.Rules.{places, holderAt, accessAt, originAt, times, givenBy, given, resultGiven, judgeRules, bytesGiven}
+use Rattle.sheet.specs.ReadSheet.{rulesIn, judgeText, sheetInto}
 use Rattle.text.specs.Class.{classOf, space, newline}
 use Rattle.sheet.specs.Reading.{wordsFor, wordCode, wordsFrom, Behind, Counts, Lists, Brackets, Counting, countsAt, Ready, Adds, Noted, ReadsLines}
 
@@ -442,3 +442,99 @@ module _ (text : List ℕ) (at : ℕ) where
   module _ (more : at < length text) (line : List ℕ) (is : line ≡ nextPart newline (take (length text - at) (drop at text))) where
     pub lines-next : rulesIn (drop at text) ≡ readRule line ∷ rulesIn (drop (at + length line) text)
     lines-next = rw (part-then newline text at (omega arith) line is more)
+
+-- the lines up to a place are rules and added up
+pub record Reads (text : List ℕ) (at : ℕ) (seen results : List ℕ) : Type 0 where
+  pub rules : all isRule (rulesIn (drop at text)) ≡ all isRule (rulesIn text)
+  pub adding : Adding (rulesIn text) (rulesIn (drop at text)) seen results
+
+pub reads-none : (text seen results : List ℕ) → Noted [] seen results → Reads text 0 seen results
+reads-none text seen results h = record { rules = refl; adding = adding-start (rulesIn text) seen results h }
+
+module _ (text : List ℕ) (at : ℕ) (seen results : List ℕ) (h : Reads text at seen results) where
+  pub reads-all : length text ≤ at → ReadsLines text true seen results
+  reads-all e = record {
+    rules = (rw (lines-end text at e) at (h .rules));
+    noted = λ t. adding-end (rulesIn text) seen results (rw (lines-end text at e) at (h .adding));
+  }
+
+  module _ (more : at < length text) (line : List ℕ) (is : line ≡ nextPart newline (take (length text - at) (drop at text))) (k : Counted) (counting : Counting (readRule line) k) where
+    pub reads-stops : 3 ≤ k .result → ReadsLines text false seen results
+    reads-stops e =
+        let no-rule : isRule (readRule line) ≡ false = le-ltb (readRule line .result) 3 (omega (arith, counting .result)) in
+        record { rules = rw no-rule at (rw (lines-next text at more line is) at (h .rules)); noted = λ t. clash t refl }
+
+    pub reads-more : k .result < 3 → (seen′ results′ : List ℕ) → Adds k seen results seen′ results′ → Reads text (at + length line) seen′ results′
+    reads-more l seen′ results′ adds =
+        let a-rule : isRule (readRule line) ≡ true = lt-ltb (readRule line .result) 3 (omega (arith, counting .result)) in
+        record {
+          rules = rw a-rule at (rw (lines-next text at more line is) at (h .rules));
+          adding = adding-more (rulesIn text) (readRule line) (rulesIn (drop (at + length line) text)) k counting seen results seen′ results′ adds (rw (lines-next text at more line is) at (h .adding));
+        }
+
+-- ---- a sheet
+
+pub noted-none : Noted [] (replicate 18 0) (replicate 18 2)
+unfolding given resultGiven
+noted-none = record { seen-long = refl; results-long = refl; seen-each = λ p l. getD-replicate {A = ℕ} 18 p 0 0 l; results-each = λ p l. getD-replicate {A = ℕ} 18 p 2 0 l }
+
+some-wrong : (rules : List Rule) → any (λ r. not (isRule r)) rules ≡ not (all isRule rules)
+some-wrong [] = refl
+some-wrong (r ∷ rules) = go (isRule r) (some-wrong rules)
+  where
+    go : (b : Bool) → any (λ r. not (isRule r)) rules ≡ not (all isRule rules) → not b || any (λ r. not (isRule r)) rules ≡ not (b && all isRule rules)
+    go true e = e
+    go false e = refl
+
+-- a test of every place
+any-same : (f g : ℕ → Bool) → ((p : ℕ) → p < 18 → f p ≡ g p) → any f places ≡ any g places
+any-same f g h =
+    rw (h 0 (omega arith), h 1 (omega arith), h 2 (omega arith), h 3 (omega arith), h 4 (omega arith), h 5 (omega arith), h 6 (omega arith), h 7 (omega arith), h 8 (omega arith),
+    h 9 (omega arith), h 10 (omega arith), h 11 (omega arith), h 12 (omega arith), h 13 (omega arith), h 14 (omega arith), h 15 (omega arith), h 16 (omega arith), h 17 (omega arith))
+
+map-within : (f : ℕ → ℕ) (l : List ℕ) (p : ℕ) → p < length l → getD (map f l) p 0 ≡ f (getD l p 0)
+map-within f [] p h = absurd (omega arith)
+map-within f (x ∷ l) zero h = refl
+map-within f (x ∷ l) (suc p) h = map-within f l p (omega arith)
+
+pub sheet-misspelt : (text lent : List ℕ) → false ≡ all isRule (rulesIn text) → (2 ≡ judgeText text) × (lent ≡ sheetInto text lent)
+unfolding judgeRules sheetInto
+sheet-misspelt text lent e = (rw (some-wrong (rulesIn text), ← e), rw (some-wrong (rulesIn text), ← e))
+
+module _ (text lent seen results : List ℕ) (rules : true ≡ all isRule (rulesIn text)) (noted : Noted (rulesIn text) seen results) where
+  twice-same : any (λ p. ltb 1 (given (rulesIn text) p)) places ≡ any (λ p. ltb 1 (getD seen p 0)) places
+  twice-same = any-same (λ p. ltb 1 (given (rulesIn text) p)) (λ p. ltb 1 (getD seen p 0)) (λ p l. go p l (test (ltb 1 (given (rulesIn text) p))))
+    where
+      go : (p : ℕ) → p < 18 → (ltb 1 (given (rulesIn text) p) ≡ true) ⊎ (ltb 1 (given (rulesIn text) p) ≡ false) → ltb 1 (given (rulesIn text) p) ≡ ltb 1 (getD seen p 0)
+      go p l (inl t) = t ∙ sym (lt-ltb 1 (getD seen p 0) (omega (arith, noted .seen-each p l, ltb-true 1 (given (rulesIn text) p) t)))
+      go p l (inr f) = f ∙ sym (le-ltb 1 (getD seen p 0) (omega (arith, noted .seen-each p l, ltb-false 1 (given (rulesIn text) p) f)))
+
+  missing-same : any (λ p. eqb (given (rulesIn text) p) 0) places ≡ any (λ p. eqb (getD seen p 0) 0) places
+  missing-same = any-same (λ p. eqb (given (rulesIn text) p) 0) (λ p. eqb (getD seen p 0) 0) (λ p l. go p l (test (eqb (given (rulesIn text) p) 0)))
+    where
+      go : (p : ℕ) → p < 18 → (eqb (given (rulesIn text) p) 0 ≡ true) ⊎ (eqb (given (rulesIn text) p) 0 ≡ false) → eqb (given (rulesIn text) p) 0 ≡ eqb (getD seen p 0) 0
+      go p l (inl t) = t ∙ sym (eq-eqb (getD seen p 0) 0 (omega (arith, noted .seen-each p l, eqb-true (given (rulesIn text) p) 0 t)))
+      go p l (inr f) = f ∙ sym (ne-eqb (getD seen p 0) 0 (λ e. eqb-false (given (rulesIn text) p) 0 f (omega (arith, noted .seen-each p l))))
+
+  judged : judgeText text ≡ first ((14, any (λ p. ltb 1 (getD seen p 0)) places) ∷ (15, any (λ p. eqb (getD seen p 0) 0) places) ∷ [])
+  unfolding judgeRules
+  judged = rw (some-wrong (rulesIn text), ← rules, twice-same, missing-same)
+
+  pub sheet-twice : any (λ p. ltb 1 (getD seen p 0)) places ≡ true → (14 ≡ judgeText text) × (lent ≡ sheetInto text lent)
+  unfolding sheetInto
+  sheet-twice t = (rw (judged, t), rw (judged, t))
+
+  module _ (once : any (λ p. ltb 1 (getD seen p 0)) places ≡ false) where
+    pub sheet-missing : any (λ p. eqb (getD seen p 0) 0) places ≡ true → (15 ≡ judgeText text) × (lent ≡ sheetInto text lent)
+    unfolding sheetInto
+    sheet-missing t = (rw (judged, once, t), rw (judged, once, t))
+
+    pub sheet-is : any (λ p. eqb (getD seen p 0) 0) places ≡ false → (0 ≡ judgeText text) × (results ≡ sheetInto text lent)
+    unfolding sheetInto
+    sheet-is f = (
+      rw (judged, once, f),
+      rw (judged, once, f) (ext-getD 0 results (bytesGiven (rulesIn text)) (noted .results-long) (λ p l. at p (omega (arith, noted .results-long)))),
+    )
+      where
+        at : (p : ℕ) → p < 18 → getD results p 0 ≡ getD (bytesGiven (rulesIn text)) p 0
+        at p l = noted .results-each p l ∙ sym (map-within (resultGiven (rulesIn text)) places p l ∙ ap (resultGiven (rulesIn text)) (place-at p l))
