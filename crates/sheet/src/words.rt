@@ -67,7 +67,11 @@ fn origin_code(word: &[u8]) -> u8
     if check::same(word, b"kin) ") {
         return 4;
     }
-    if check::same(word, b"stranger) ") { 5 } else { 6 }
+    if check::same(word, b"stranger) ") {
+        5
+    } else {
+        6
+    }
 }
 
 // A word of a bracket.

@@ -1,11 +1,11 @@
 -- `sheet::read::add_rule` meets its contract. The invariant: up to p both lists have what the line leaves, and behind it what they had.
 -- Assumes nothing.
-use mathlib.Core.Path.{_≡_, sym, _∙_}
+use mathlib.Core.Path.{sym, _∙_}
 use mathlib.Core.Logic.{⊎-elim}
 use Prim.Native.Nat.{_-_, _≤_}
 use native.Mathlib.Omega.{arith}
 use borrow.Author.Needs.{needs}
-use Rattle.sheet.proofs.Laws.Reading.{Filled, filled-none, filled-set, filled-keep, seenAfter, resultAfter, given-first, given-never, given-before, adds-all}
+use Rattle.sheet.proofs.Laws.Adding.{Filled, filled-none, filled-set, filled-keep, seenAfter, resultAfter, given-first, given-never, given-before, adds-all}
 use Rattle.sheet.proofs.read.add_rule.Statement.{statement}
 use Rattle.sheet.proofs.read.add_rule.Tie as tie
 
@@ -19,23 +19,34 @@ loop-holds : tie.Need-loop-holds Inv-loop μ-loop
 loop-holds c = (omega arith, filled-none _ _ (c .pre .seen-long), filled-none _ _ (c .pre .results-long))
 
 add-up-to-2 : tie.Need-add-up-to-2 Inv-loop μ-loop
-add-up-to-2 c = omega (arith, c .before .before .before .before .loop .inv .1 .left (c .before .before .before .before .loop .p) (omega arith), c .before .before .before .before .before .pre .small (c .before .before .before .before .loop .p) (c .before .before .before .loop-test .taken), c .before .before .given-by .ensures)
+add-up-to-2 c =
+    let loop = c .before .before .before .before .loop in
+    omega (arith, loop .inv .1 .left (loop .p) (omega arith), c .before .before .before .before .before .pre .small (loop .p) (c .before .before .before .loop-test .taken), c .before .before .given-by .ensures)
 
 loop-less : tie.Need-loop-less Inv-loop μ-loop
 loop-less c = omega arith
 
 loop-again : tie.Need-loop-again Inv-loop μ-loop
 loop-again c =
-    (
-      omega (arith, c .before .before .before .before .loop-test .taken),
-      filled-set (seenAfter (c .before .before .before .before .before .before .args .rule) (c .before .before .before .before .before .before .args .seen .now)) (c .before .before .before .before .before .before .args .seen .now) (c .before .before .before .before .before .loop .seen) (c .before .before .before .before .before .loop .p) (c .before .before .before .before .loop-test .taken) (c .before .before .before .before .before .loop .inv .1) (c .up-to-2 .result) (c .up-to-2 .ensures ∙ rw ((c .before .before .before .before .before .loop .inv .1 .left (c .before .before .before .before .before .loop .p) (omega arith)), c .before .before .before .given-by .ensures)),
+    let args = c .before .before .before .before .before .before .args in
+    let loop = c .before .before .before .before .before .loop in
+    let loop-test = c .before .before .before .before .loop-test in
+    let given-by = c .before .before .before .given-by in
+    let results = args .results .now in
+    let seen = args .seen .now in
+    let rule = args .rule in
+    let p = loop .p in
+    let after = resultAfter rule seen results in
+    let left = loop .inv .1 .left p (omega arith) in (
+      omega (arith, loop-test .taken),
+      filled-set (seenAfter rule seen) seen (loop .seen) p (loop-test .taken) (loop .inv .1) (c .up-to-2 .result) (c .up-to-2 .ensures ∙ rw (left, given-by .ensures)),
       ⊎-elim
-        (λ w. rw (w .2) (filled-set (resultAfter (c .before .before .before .before .before .before .args .rule) (c .before .before .before .before .before .before .args .seen .now) (c .before .before .before .before .before .before .args .results .now)) (c .before .before .before .before .before .before .args .results .now) (c .before .before .before .before .before .loop .results) (c .before .before .before .before .before .loop .p) (c .before .before .before .before .loop-test .taken) (c .before .before .before .before .before .loop .inv .2) ((c .before .before .before .before .before .before .args .rule) .result) (given-first (c .before .before .before .before .before .before .args .rule) (c .before .before .before .before .before .before .args .seen .now) (c .before .before .before .before .before .before .args .results .now) (c .before .before .before .before .before .loop .p) (sym (c .before .before .before .before .before .loop .inv .1 .left (c .before .before .before .before .before .loop .p) (omega arith)) ∙ w .0 .taken) (λ e. w .1 .taken (c .before .before .before .given-by .ensures ∙ e)))))
-        (λ v. ⊎-elim
-          (λ w. rw (w .2) (filled-keep (resultAfter (c .before .before .before .before .before .before .args .rule) (c .before .before .before .before .before .before .args .seen .now) (c .before .before .before .before .before .before .args .results .now)) (c .before .before .before .before .before .before .args .results .now) (c .before .before .before .before .before .loop .results) (c .before .before .before .before .before .loop .p) (c .before .before .before .before .loop-test .taken) (c .before .before .before .before .before .loop .inv .2) (given-never (c .before .before .before .before .before .before .args .rule) (c .before .before .before .before .before .before .args .seen .now) (c .before .before .before .before .before .before .args .results .now) (c .before .before .before .before .before .loop .p) (sym (c .before .before .before .before .before .loop .inv .1 .left (c .before .before .before .before .before .loop .p) (omega arith)) ∙ w .0 .taken) (sym (c .before .before .before .given-by .ensures) ∙ w .1 .left))))
-          (λ w. rw (w .1) (filled-keep (resultAfter (c .before .before .before .before .before .before .args .rule) (c .before .before .before .before .before .before .args .seen .now) (c .before .before .before .before .before .before .args .results .now)) (c .before .before .before .before .before .before .args .results .now) (c .before .before .before .before .before .loop .results) (c .before .before .before .before .before .loop .p) (c .before .before .before .before .loop-test .taken) (c .before .before .before .before .before .loop .inv .2) (given-before (c .before .before .before .before .before .before .args .rule) (c .before .before .before .before .before .before .args .seen .now) (c .before .before .before .before .before .before .args .results .now) (c .before .before .before .before .before .loop .p) (λ e. w .0 .left ((c .before .before .before .before .before .loop .inv .1 .left (c .before .before .before .before .before .loop .p) (omega arith)) ∙ e)))))
+          (λ w. rw (w .2) (filled-set after results (loop .results) p (loop-test .taken) (loop .inv .2) (rule .result) (given-first rule seen results p (sym left ∙ w .0 .taken) (λ e. w .1 .taken (given-by .ensures ∙ e)))))
+          (λ v. ⊎-elim
+          (λ w. rw (w .2) (filled-keep after results (loop .results) p (loop-test .taken) (loop .inv .2) (given-never rule seen results p (sym left ∙ w .0 .taken) (sym (given-by .ensures) ∙ w .1 .left))))
+          (λ w. rw (w .1) (filled-keep after results (loop .results) p (loop-test .taken) (loop .inv .2) (given-before rule seen results p (λ e. w .0 .left (left ∙ e)))))
           v)
-        (c .before .if1 .came),
+          (c .before .if1 .came),
     )
 
 returns : tie.Need-returns Inv-loop μ-loop

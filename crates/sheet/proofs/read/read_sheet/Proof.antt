@@ -3,7 +3,7 @@
 use mathlib.Core.Path.{sym, _∙_}
 use borrow.Author.Needs.{needs}
 use borrow.Author.Tests.{not-true, not-false}
-use Rattle.sheet.proofs.Laws.Reading.{noted-none, sheet-misspelt, sheet-twice, sheet-missing, sheet-is}
+use Rattle.sheet.proofs.Laws.Adding.{noted-none, sheet-misspelt, sheet-twice, sheet-missing, sheet-is}
 use Rattle.sheet.proofs.read.read_sheet.Statement.{statement}
 use Rattle.sheet.proofs.read.read_sheet.Tie as tie
 
@@ -11,16 +11,31 @@ read-lines-requires : tie.Need-read-lines-requires
 read-lines-requires c κs = noted-none
 
 returns : tie.Need-returns
-returns c = sheet-misspelt (c .before .before .before .before .before .args .text .now) (c .before .before .before .before .before .args .sheet .now) (sym (not-true (c .before .read-lines .result) (c .if1 .taken)) ∙ c .before .read-lines .ensures .rules)
+returns c =
+    let args = c .before .before .before .before .before .args in
+    let read-lines = c .before .read-lines in
+    sheet-misspelt (args .text .now) (args .sheet .now) (sym (not-true (read-lines .result) (c .if1 .taken)) ∙ read-lines .ensures .rules)
 
 returns-2 : tie.Need-returns-2
-returns-2 c = sheet-twice (c .before .before .before .before .before .before .before .before .args .text .now) (c .before .before .before .before .before .before .before .before .args .sheet .now) _ _ (sym (not-false (c .before .before .before .before .read-lines .result) (c .before .before .before .if1 .left)) ∙ c .before .before .before .before .read-lines .ensures .rules) (c .before .before .before .before .read-lines .ensures .noted (not-false (c .before .before .before .before .read-lines .result) (c .before .before .before .if1 .left))) (sym (c .before .some-twice .ensures) ∙ c .if2 .taken)
+returns-2 c =
+    let args = c .before .before .before .before .before .before .before .before .args in
+    let read-lines = c .before .before .before .before .read-lines in
+    let if1 = c .before .before .before .if1 in
+    sheet-twice (args .text .now) (args .sheet .now) _ _ (sym (not-false (read-lines .result) (if1 .left)) ∙ read-lines .ensures .rules) (read-lines .ensures .noted (not-false (read-lines .result) (if1 .left))) (sym (c .before .some-twice .ensures) ∙ c .if2 .taken)
 
 returns-3 : tie.Need-returns-3
-returns-3 c = sheet-missing (c .before .before .before .before .before .before .before .before .before .before .before .args .text .now) (c .before .before .before .before .before .before .before .before .before .before .before .args .sheet .now) _ _ (sym (not-false (c .before .before .before .before .before .before .before .read-lines .result) (c .before .before .before .before .before .before .if1 .left)) ∙ c .before .before .before .before .before .before .before .read-lines .ensures .rules) (c .before .before .before .before .before .before .before .read-lines .ensures .noted (not-false (c .before .before .before .before .before .before .before .read-lines .result) (c .before .before .before .before .before .before .if1 .left))) (sym (c .before .before .before .before .some-twice .ensures) ∙ c .before .before .before .if2 .left) (sym (c .before .some-missing .ensures) ∙ c .if3 .taken)
+returns-3 c =
+    let args = c .before .before .before .before .before .before .before .before .before .before .before .args in
+    let read-lines = c .before .before .before .before .before .before .before .read-lines in
+    let if1 = c .before .before .before .before .before .before .if1 in
+    sheet-missing (args .text .now) (args .sheet .now) _ _ (sym (not-false (read-lines .result) (if1 .left)) ∙ read-lines .ensures .rules) (read-lines .ensures .noted (not-false (read-lines .result) (if1 .left))) (sym (c .before .before .before .before .some-twice .ensures) ∙ c .before .before .before .if2 .left) (sym (c .before .some-missing .ensures) ∙ c .if3 .taken)
 
 returns-4 : tie.Need-returns-4
-returns-4 c = sheet-is (c .before .before .before .before .before .before .before .before .before .before .before .args .text .now) (c .before .before .before .before .before .before .before .before .before .before .before .args .sheet .now) _ _ (sym (not-false (c .before .before .before .before .before .before .before .read-lines .result) (c .before .before .before .before .before .before .if1 .left)) ∙ c .before .before .before .before .before .before .before .read-lines .ensures .rules) (c .before .before .before .before .before .before .before .read-lines .ensures .noted (not-false (c .before .before .before .before .before .before .before .read-lines .result) (c .before .before .before .before .before .before .if1 .left))) (sym (c .before .before .before .before .some-twice .ensures) ∙ c .before .before .before .if2 .left) (sym (c .before .some-missing .ensures) ∙ c .if3 .left)
+returns-4 c =
+    let args = c .before .before .before .before .before .before .before .before .before .before .before .args in
+    let read-lines = c .before .before .before .before .before .before .before .read-lines in
+    let if1 = c .before .before .before .before .before .before .if1 in
+    sheet-is (args .text .now) (args .sheet .now) _ _ (sym (not-false (read-lines .result) (if1 .left)) ∙ read-lines .ensures .rules) (read-lines .ensures .noted (not-false (read-lines .result) (if1 .left))) (sym (c .before .before .before .before .some-twice .ensures) ∙ c .before .before .before .if2 .left) (sym (c .before .some-missing .ensures) ∙ c .if3 .left)
 
 pub read-sheet-spec : {M : Type 1} → statement M
 read-sheet-spec =

@@ -9,7 +9,7 @@ use borrow.Author.Needs.{needs}
 use borrow.Author.Tests.{eq-eqb, ne-eqb}
 use Rattle.model.specs.Lists.{any}
 use Rattle.sheet.specs.Rules.{places}
-use Rattle.sheet.proofs.Laws.Reading.{some-here, some-later, some-none}
+use Rattle.sheet.proofs.Laws.Adding.{some-here, some-later, some-none}
 use Rattle.sheet.proofs.read.some_missing.Statement.{statement}
 use Rattle.sheet.proofs.read.some_missing.Tie as tie
 
@@ -23,13 +23,18 @@ loop-holds : tie.Need-loop-holds Inv-loop μ-loop
 loop-holds c = (omega arith, refl)
 
 returns : tie.Need-returns Inv-loop μ-loop
-returns c = some-here (λ q. eqb (getD (c .before .before .before .before .args .seen .now) q 0) 0) (c .before .before .before .loop .p) (c .before .before .before .loop .inv .1) (c .before .before .loop-test .taken) (eq-eqb _ 0 (c .if1 .taken))
+returns c =
+    let loop = c .before .before .before .loop in
+    some-here (λ q. eqb (getD (c .before .before .before .before .args .seen .now) q 0) 0) (loop .p) (loop .inv .1) (c .before .before .loop-test .taken) (eq-eqb _ 0 (c .if1 .taken))
 
 loop-less : tie.Need-loop-less Inv-loop μ-loop
 loop-less c = omega arith
 
 loop-again : tie.Need-loop-again Inv-loop μ-loop
-loop-again c = (omega (arith, c .before .before .loop-test .taken), some-later (λ q. eqb (getD (c .before .before .before .before .args .seen .now) q 0) 0) (c .before .before .before .loop .p) (c .before .before .before .loop .inv .1) (c .before .before .loop-test .taken) (ne-eqb _ 0 (c .if1 .left)))
+loop-again c =
+    let loop = c .before .before .before .loop in
+    let loop-test = c .before .before .loop-test in
+    (omega (arith, loop-test .taken), some-later (λ q. eqb (getD (c .before .before .before .before .args .seen .now) q 0) 0) (loop .p) (loop .inv .1) (loop-test .taken) (ne-eqb _ 0 (c .if1 .left)))
 
 returns-2 : tie.Need-returns-2 Inv-loop μ-loop
 returns-2 c = some-none (λ q. eqb (getD (c .before .before .args .seen .now) q 0) 0) (c .before .loop .p) (c .before .loop .inv .1) (c .loop-test .left)

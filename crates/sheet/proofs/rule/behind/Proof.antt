@@ -8,13 +8,22 @@ use Rattle.sheet.proofs.rule.behind.Statement.{statement}
 use Rattle.sheet.proofs.rule.behind.Tie as tie
 
 add-result : tie.Need-add-result
-add-result c = omega (arith, part-inside space (c .before .before .before .before .before .before .args .line .now) (c .before .before .before .before .before .before .args .at) (c .before .before .before .before .before .before .pre) (c .before .before .next-word .result .now) (c .before .before .next-word .ensures))
+add-result c =
+    let args = c .before .before .before .before .before .before .args in
+    let next-word = c .before .before .next-word in
+    omega (arith, part-inside space (args .line .now) (args .at) (c .before .before .before .before .before .before .pre) (next-word .result .now) (next-word .ensures))
 
 returns : tie.Need-returns
-returns c = behind-fits (c .before .before .before .before .before .before .args .line .now) (c .before .before .before .before .before .before .args .at) (c .before .before .before .before .before .before .pre) (c .before .before .next-word .result .now) (c .before .before .next-word .ensures) (c .before .before .before .before .before .before .args .expected .now) (passed (c .before .same .ensures) (c .if1 .taken))
+returns c =
+    let args = c .before .before .before .before .before .before .args in
+    let next-word = c .before .before .next-word in
+    behind-fits (args .line .now) (args .at) (c .before .before .before .before .before .before .pre) (next-word .result .now) (next-word .ensures) (args .expected .now) (passed (c .before .same .ensures) (c .if1 .taken))
 
 returns-2 : tie.Need-returns-2
-returns-2 c = behind-other (c .before .before .before .before .before .before .args .line .now) (c .before .before .before .before .before .before .args .at) (c .before .before .before .before .before .before .pre) (c .before .before .next-word .result .now) (c .before .before .next-word .ensures) (c .before .before .before .before .before .before .args .expected .now) (failed (c .before .same .ensures) (c .if1 .left))
+returns-2 c =
+    let args = c .before .before .before .before .before .before .args in
+    let next-word = c .before .before .next-word in
+    behind-other (args .line .now) (args .at) (c .before .before .before .before .before .before .pre) (next-word .result .now) (next-word .ensures) (args .expected .now) (failed (c .before .same .ensures) (c .if1 .left))
 
 pub behind-spec : {M : Type 1} → statement M
 behind-spec =

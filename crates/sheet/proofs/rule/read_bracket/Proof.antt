@@ -7,7 +7,10 @@ use Rattle.sheet.proofs.rule.read_bracket.Statement.{statement}
 use Rattle.sheet.proofs.rule.read_bracket.Tie as tie
 
 returns : tie.Need-returns
-returns c = bracket-read (c .before .before .before .before .args .line .now) (c .before .before .before .before .args .start) (c .before .before .before .before .args .opening .now) (wordsFor (c .before .before .before .before .args .bracket)) (c .before .behind .result) (c .read-list .result) (c .before .behind .ensures) (c .read-list .ensures)
+returns c =
+    let args = c .before .before .before .before .args in
+    let behind = c .before .behind in
+    bracket-read (args .line .now) (args .start) (args .opening .now) (wordsFor (args .bracket)) (behind .result) (c .read-list .result) (behind .ensures) (c .read-list .ensures)
 
 pub read-bracket-spec : {M : Type 1} → statement M
 read-bracket-spec = tie.close (tie.spec (λ c κs. search needs) (λ c κs. search needs) returns)

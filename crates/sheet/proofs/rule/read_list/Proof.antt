@@ -1,6 +1,5 @@
 -- `sheet::rule::read_list` meets its contract. The invariant: what is counted, with what is listed from here on, is what the bracket lists.
 -- Assumes nothing.
-use mathlib.Core.Path.{_≡_}
 use Prim.Native.Nat.{_-_, _≤_}
 use native.Mathlib.Omega.{arith}
 use lib.ListN.{length}
@@ -22,28 +21,58 @@ loop-holds : tie.Need-loop-holds Inv-loop μ-loop
 loop-holds c = (c .before .pre, goes-start (listed (wordsFor (c .before .args .bracket)) (wordsFrom (c .before .args .line .now) (c .before .args .start))))
 
 returns : tie.Need-returns Inv-loop μ-loop
-returns c = list-other (c .before .before .before .before .before .before .before .args .line .now) (c .before .before .before .before .before .before .before .args .start) (wordsFor (c .before .before .before .before .before .before .before .args .bracket)) (c .before .before .before .before .before .loop .counts) (c .before .before .before .before .before .loop .at) (c .before .before .before .before .before .loop .inv .1) (c .before .before .before .before .loop-test .taken) (c .before .before .next-word .result .now) (c .before .before .next-word .ensures) (c .before .word-code .result) (c .before .word-code .ensures) (few (c .before .before .before .before .before .before .before .args .bracket)) (c .if1 .taken)
+returns c =
+    let args = c .before .before .before .before .before .before .before .args in
+    let loop = c .before .before .before .before .before .loop in
+    let next-word = c .before .before .next-word in
+    let word-code = c .before .word-code in
+    let bracket = args .bracket in
+    list-other (args .line .now) (args .start) (wordsFor bracket) (loop .counts) (loop .at) (loop .inv .1) (c .before .before .before .before .loop-test .taken) (next-word .result .now) (next-word .ensures) (word-code .result) (word-code .ensures) (few bracket) (c .if1 .taken)
 
 add-at : tie.Need-add-at Inv-loop μ-loop
-add-at c = omega (arith, part-inside space (c .before .before .before .before .before .before .before .args .line .now) (c .before .before .before .before .before .loop .at) (c .before .before .before .before .before .loop .inv .0) (c .before .before .next-word .result .now) (c .before .before .next-word .ensures), c .before .before .before .before .before .before .before .good)
+add-at c =
+    let loop = c .before .before .before .before .before .loop in
+    let next-word = c .before .before .next-word in
+    omega (arith, part-inside space (c .before .before .before .before .before .before .before .args .line .now) (loop .at) (loop .inv .0) (next-word .result .now) (next-word .ensures), c .before .before .before .before .before .before .before .good)
 
 count-one-requires : tie.Need-count-one-requires Inv-loop μ-loop
 count-one-requires c κs = (omega (arith, c .before .before .if1 .left), c .before .before .before .before .before .before .before .loop .inv .1 .long)
 
 returns-2 : tie.Need-returns-2 Inv-loop μ-loop
-returns-2 c = rw (c .count-one .ensures) (list-closes (c .before .before .before .before .before .before .before .before .before .before .args .line .now) (c .before .before .before .before .before .before .before .before .before .before .args .start) (wordsFor (c .before .before .before .before .before .before .before .before .before .before .args .bracket)) (c .before .before .before .before .before .before .before .before .loop .counts) (c .before .before .before .before .before .before .before .before .loop .at) (c .before .before .before .before .before .before .before .before .loop .inv .1) (c .before .before .before .before .before .before .before .loop-test .taken) (c .before .before .before .before .before .next-word .result .now) (c .before .before .before .before .before .next-word .ensures) (c .before .before .before .before .word-code .result) (c .before .before .before .before .word-code .ensures) (few (c .before .before .before .before .before .before .before .before .before .before .args .bracket)) (c .before .before .if2 .taken) (c .before .before .before .if1 .left))
+returns-2 c =
+    let args = c .before .before .before .before .before .before .before .before .before .before .args in
+    let loop = c .before .before .before .before .before .before .before .before .loop in
+    let next-word = c .before .before .before .before .before .next-word in
+    let word-code = c .before .before .before .before .word-code in
+    let bracket = args .bracket in
+    rw (c .count-one .ensures) (list-closes (args .line .now) (args .start) (wordsFor bracket) (loop .counts) (loop .at) (loop .inv .1) (c .before .before .before .before .before .before .before .loop-test .taken) (next-word .result .now) (next-word .ensures) (word-code .result) (word-code .ensures) (few bracket) (c .before .before .if2 .taken) (c .before .before .before .if1 .left))
 
 count-one-requires-2 : tie.Need-count-one-requires-2 Inv-loop μ-loop
 count-one-requires-2 c κs = (c .before .if2 .left, c .before .before .before .before .before .before .before .loop .inv .1 .long)
 
 loop-less : tie.Need-loop-less Inv-loop μ-loop
-loop-less c = omega (arith, part-inside space (c .before .before .before .before .before .before .before .before .before .before .args .line .now) (c .before .before .before .before .before .before .before .before .loop .at) (c .before .before .before .before .before .before .before .before .loop .inv .0) (c .before .before .before .before .before .next-word .result .now) (c .before .before .before .before .before .next-word .ensures), part-longer space (c .before .before .before .before .before .before .before .before .before .before .args .line .now) (c .before .before .before .before .before .before .before .before .loop .at) (c .before .before .before .before .before .before .before .before .loop .inv .0) (c .before .before .before .before .before .next-word .result .now) (c .before .before .before .before .before .next-word .ensures) (c .before .before .before .before .before .before .before .loop-test .taken))
+loop-less c =
+    let args = c .before .before .before .before .before .before .before .before .before .before .args in
+    let loop = c .before .before .before .before .before .before .before .before .loop in
+    let next-word = c .before .before .before .before .before .next-word in
+    let line = args .line .now in
+    omega (arith, part-inside space line (loop .at) (loop .inv .0) (next-word .result .now) (next-word .ensures), part-longer space line (loop .at) (loop .inv .0) (next-word .result .now) (next-word .ensures) (c .before .before .before .before .before .before .before .loop-test .taken))
 
 loop-again : tie.Need-loop-again Inv-loop μ-loop
-loop-again c = (part-inside space (c .before .before .before .before .before .before .before .before .before .before .args .line .now) (c .before .before .before .before .before .before .before .before .loop .at) (c .before .before .before .before .before .before .before .before .loop .inv .0) (c .before .before .before .before .before .next-word .result .now) (c .before .before .before .before .before .next-word .ensures), rw (c .count-one2 .ensures) (list-goes (c .before .before .before .before .before .before .before .before .before .before .args .line .now) (c .before .before .before .before .before .before .before .before .before .before .args .start) (wordsFor (c .before .before .before .before .before .before .before .before .before .before .args .bracket)) (c .before .before .before .before .before .before .before .before .loop .counts) (c .before .before .before .before .before .before .before .before .loop .at) (c .before .before .before .before .before .before .before .before .loop .inv .1) (c .before .before .before .before .before .before .before .loop-test .taken) (c .before .before .before .before .before .next-word .result .now) (c .before .before .before .before .before .next-word .ensures) (c .before .before .before .before .word-code .result) (c .before .before .before .before .word-code .ensures) (few (c .before .before .before .before .before .before .before .before .before .before .args .bracket)) (c .before .before .if2 .left)))
+loop-again c =
+    let args = c .before .before .before .before .before .before .before .before .before .before .args in
+    let loop = c .before .before .before .before .before .before .before .before .loop in
+    let next-word = c .before .before .before .before .before .next-word in
+    let word-code = c .before .before .before .before .word-code in
+    let line = args .line .now in
+    let bracket = args .bracket in
+    (part-inside space line (loop .at) (loop .inv .0) (next-word .result .now) (next-word .ensures), rw (c .count-one2 .ensures) (list-goes line (args .start) (wordsFor bracket) (loop .counts) (loop .at) (loop .inv .1) (c .before .before .before .before .before .before .before .loop-test .taken) (next-word .result .now) (next-word .ensures) (word-code .result) (word-code .ensures) (few bracket) (c .before .before .if2 .left)))
 
 returns-3 : tie.Need-returns-3 Inv-loop μ-loop
-returns-3 c = list-ends (c .before .before .before .args .line .now) (c .before .before .before .args .start) (wordsFor (c .before .before .before .args .bracket)) (c .before .loop .counts) (c .before .loop .at) (c .before .loop .inv .1) (c .before .loop .inv .0) (c .loop-test .left)
+returns-3 c =
+    let args = c .before .before .before .args in
+    let loop = c .before .loop in
+    list-ends (args .line .now) (args .start) (wordsFor (args .bracket)) (loop .counts) (loop .at) (loop .inv .1) (loop .inv .0) (c .loop-test .left)
 
 pub read-list-spec : {M : Type 1} → statement M
 read-list-spec =
