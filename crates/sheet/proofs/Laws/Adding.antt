@@ -14,13 +14,12 @@ use lib.Seq.{drop-cons, ext-getD, getD-set-same, getD-set-other}
 use borrow.Author.Tests.{ltb-true, ltb-false, lt-ltb, le-ltb, eq-eqb, ne-eqb, eqb-true, eqb-false}
 use Rattle.model.specs.Lists.{any, all, first}
 use Rattle.model.proofs.Offered.{test, clash, and-both}
+use Rattle.text.specs.Class.{newline}
 use Rattle.text.specs.Line.{nextPart}
-use Rattle.text.specs.Read.{same}
 use Rattle.sheet.specs.declared.rule.Counted.{Counted}
 use Rattle.sheet.specs.Rule.{Rule, isRule, readRule}
 use Rattle.sheet.specs.Rules.{places, holderAt, accessAt, originAt, times, givenBy, given, resultGiven, judgeRules, bytesGiven}
 use Rattle.sheet.specs.ReadSheet.{rulesIn, judgeText, sheetInto}
-use Rattle.text.specs.Class.{newline}
 use Rattle.sheet.specs.Reading.{Counting, countsAt, Ready, Adds, Noted, ReadsLines}
 use Rattle.sheet.proofs.Laws.Reading.{parts-end, part-then}
 
@@ -129,7 +128,7 @@ capped-three a b c = capped-second (min a 2 * min b 2) c ∙ sym (capped (min a 
 capped-again : (a : ℕ) → min (min a 2) 2 ≡ min a 2
 capped-again a = omega arith
 
-pub counts-given : (r : Rule) (k : Counted) → Counting r k → (p : ℕ) → p < 18 → countsAt k p ≡ min (givenBy r p) 2
+counts-given : (r : Rule) (k : Counted) → Counting r k → (p : ℕ) → p < 18 → countsAt k p ≡ min (givenBy r p) 2
 unfolding givenBy
 counts-given r k h p l =
     rw (
@@ -149,7 +148,7 @@ pub record Adding (whole left : List Rule) (seen results : List ℕ) : Type 0 wh
   pub seen-each : (p : ℕ) → p < 18 → min (given whole p) 2 ≡ min (getD seen p 0 + given left p) 2
   pub results-each : (p : ℕ) → p < 18 → resultGiven whole p ≡ cond (eqb (getD seen p 0) 0) (resultGiven left p) (getD results p 0)
 
-pub adding-start : (whole : List Rule) (seen results : List ℕ) → Noted [] seen results → Adding whole whole seen results
+adding-start : (whole : List Rule) (seen results : List ℕ) → Noted [] seen results → Adding whole whole seen results
 unfolding given resultGiven
 adding-start whole seen results h = record {
   ready = record { seen-long = h .seen-long; results-long = h .results-long; small = λ p l. omega (arith, h .seen-each p l) };
@@ -158,7 +157,7 @@ adding-start whole seen results h = record {
   results-each = λ p l. rw (h .seen-each p l);
 }
 
-pub adding-end : (whole : List Rule) (seen results : List ℕ) → Adding whole [] seen results → Noted whole seen results
+adding-end : (whole : List Rule) (seen results : List ℕ) → Adding whole [] seen results → Noted whole seen results
 unfolding given resultGiven
 adding-end whole seen results h = record {
   seen-long = h .ready .seen-long;
@@ -195,7 +194,7 @@ module _ (whole : List Rule) (r : Rule) (left : List Rule) (k : Counted) (counti
       let given-none : min (givenBy r p) 2 ≡ 0 = omega (arith, seen-now p l) in
       result-now p l ∙ (rw (eq-eqb (getD seen p 0) 0 seen-none, eq-eqb (min (givenBy r p) 2) 0 given-none) (h .none p l seen-none))
 
-  pub adding-more : Adding whole left seen′ results′
+  adding-more : Adding whole left seen′ results′
   unfolding given
   adding-more = record {
     ready = record { seen-long = adds .seen-long; results-long = adds .results-long; small = λ p l. omega (arith, seen-now p l) };
@@ -207,12 +206,12 @@ module _ (whole : List Rule) (r : Rule) (left : List Rule) (k : Counted) (counti
 -- the lines of a text, read up to a place
 module _ (text : List ℕ) (at : ℕ) where
   -- nothing is left
-  pub lines-end : length text ≤ at → rulesIn (drop at text) ≡ []
+  lines-end : length text ≤ at → rulesIn (drop at text) ≡ []
   lines-end e = rw (parts-end newline text at e)
 
   -- the next line is read
   module _ (more : at < length text) (line : List ℕ) (is : line ≡ nextPart newline (take (length text - at) (drop at text))) where
-    pub lines-next : rulesIn (drop at text) ≡ readRule line ∷ rulesIn (drop (at + length line) text)
+    lines-next : rulesIn (drop at text) ≡ readRule line ∷ rulesIn (drop (at + length line) text)
     lines-next = rw (part-then newline text at (omega arith) line is more)
 
 -- the lines up to a place are rules and added up

@@ -10,8 +10,8 @@ use lib.Dec.{eqb, ltb}
 use lib.ListN.{length, getD, set, take, drop, replicate, length-drop, length-set, getD-replicate, drop-of-length-le}
 use lib.Seq.{take-all, length-take-le, drop-drop, getD-set-same, getD-set-other}
 use borrow.Author.Tests.{ltb-true, ltb-false, eq-eqb, ne-eqb, eqb-true, eqb-false}
-use Rattle.model.specs.Lists.{first}
 use Rattle.model.proofs.Offered.{test, unless, clash}
+use Rattle.text.specs.Class.{classOf, space}
 use Rattle.text.specs.Event.{bytes}
 use Rattle.text.specs.Line.{through, nextPart, push, partsOf}
 use Rattle.text.specs.Read.{same}
@@ -22,7 +22,6 @@ use Rattle.sheet.specs.declared.rule.Found.{Found}
 use Rattle.sheet.specs.Words.{holderWords, accessWords, originWords, resultWords, inside, closing, ending, numberAmong}
 use Rattle.sheet.specs.Rule.{Listed, listedOf, listed, behind, readRule}
 use Rattle.sheet.specs.Rules.{times}
-use Rattle.text.specs.Class.{classOf, space}
 use Rattle.sheet.specs.Reading.{wordsFor, wordCode, wordsFrom, Behind, Counts, Lists, Brackets, Counting}
 
 -- ---- tests of bytes
@@ -99,7 +98,7 @@ module _ (own : List (List ℕ)) (short : length own ≤ 3) (w : List ℕ) (word
   abbrev closes : Bool
   closes = ltb (numberAmong (closing own) w) (length own)
 
-  pub word-goes : wordCode own w < 3 → listed own (w ∷ words) ≡ listedOf (wordCode own w ∷ listed own words .numbers) (listed own words .rest)
+  word-goes : wordCode own w < 3 → listed own (w ∷ words) ≡ listedOf (wordCode own w ∷ listed own words .numbers) (listed own words .rest)
   unfolding wordCode listed
   word-goes h = go (test goes) (test closes) h
     where
@@ -108,7 +107,7 @@ module _ (own : List (List ℕ)) (short : length own ≤ 3) (w : List ℕ) (word
       go (inr f) (inl t) h = absurd (omega (arith, rw (f, t) at h))
       go (inr f) (inr g) h = absurd (omega (arith, rw (f, g) at h))
 
-  pub word-closes : 3 ≤ wordCode own w → wordCode own w < 6 → listed own (w ∷ words) ≡ listedOf ((wordCode own w - 3) ∷ []) words
+  word-closes : 3 ≤ wordCode own w → wordCode own w < 6 → listed own (w ∷ words) ≡ listedOf ((wordCode own w - 3) ∷ []) words
   unfolding wordCode listed
   word-closes h l = go (test goes) (test closes) h l
     where
@@ -117,7 +116,7 @@ module _ (own : List (List ℕ)) (short : length own ≤ 3) (w : List ℕ) (word
       go (inr f) (inl t) h l = rw (f, t) (ap (λ (k : ℕ). listedOf (k ∷ []) words) (omega arith))
       go (inr f) (inr g) h l = absurd (omega (arith, rw (f, g) at l))
 
-  pub word-other : 6 ≤ wordCode own w → listed own (w ∷ words) ≡ listedOf [] []
+  word-other : 6 ≤ wordCode own w → listed own (w ∷ words) ≡ listedOf [] []
   unfolding wordCode listed
   word-other h = go (test goes) (test closes) h
     where
@@ -152,7 +151,7 @@ goes-start whole = record {
 }
 
 module _ (whole : Listed) (counts : List ℕ) where
-  pub goes-one : (numbers : List ℕ) (rest : List (List ℕ)) (k : ℕ) → k < 3 → Goes whole counts (listedOf (k ∷ numbers) rest) → Goes whole (set counts k (min (getD counts k 0 + 1) 2)) (listedOf numbers rest)
+  goes-one : (numbers : List ℕ) (rest : List (List ℕ)) (k : ℕ) → k < 3 → Goes whole counts (listedOf (k ∷ numbers) rest) → Goes whole (set counts k (min (getD counts k 0 + 1) 2)) (listedOf numbers rest)
   goes-one numbers rest k low g = record {
     long = length-set counts k more ∙ g .long;
     small = λ n l. small-at n l (test (eqb n k));
@@ -174,7 +173,7 @@ module _ (whole : Listed) (counts : List ℕ) where
       each-at n l (inl t) = rw (eqb-true n k t, there) (omega (arith, g .each k low, times-same k numbers))
       each-at n l (inr f) = rw (getD-set-other counts k n more 0 (eqb-false n k f)) (omega (arith, g .each n l, times-other n k numbers (eqb-false n k f)))
 
-  pub goes-end : (rest : List (List ℕ)) → Goes whole counts (listedOf [] rest) → Counts (whole .numbers) counts
+  goes-end : (rest : List (List ℕ)) → Goes whole counts (listedOf [] rest) → Counts (whole .numbers) counts
   unfolding times
   goes-end rest g = record { long = g .long; each = λ n l. omega (arith, g .each n l, g .small n l) }
 
