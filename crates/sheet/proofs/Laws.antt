@@ -1,1 +1,4 @@
 pub mod Writing
+pub mod Vocabulary
+pub mod OneSpelling
+pub mod ReadsBack
