@@ -7,9 +7,9 @@ use Prim.Native.Nat.{ℕ, zero, suc, _<_, _≤_, min, _/_, _%_}
 use native.Mathlib.Omega.{arith}
 use lib.Dec.{ltb, eqb}
 use lib.ListN.{length, getD}
-use borrow.Author.Tests.{lt-ltb}
-use Rattle.model.specs.Lists.{any}
-use Rattle.model.proofs.Offered.{All}
+use borrow.Author.Tests.{lt-ltb, ltb-true}
+use Rattle.model.specs.Lists.{any, all}
+use Rattle.model.proofs.Offered.{All, and-both}
 use Rattle.table.specs.Sheets.{effectIn, sheetIn}
 use Rattle.text.specs.Line.{linesOf, partsOf}
 use Rattle.sheet.specs.Rule.{Rule, isRule, readRule, spellRule, Spelled}
@@ -35,6 +35,16 @@ with-spelled p b h =
       some-origin = refl;
     }
 
+below-all : (k : ℕ) (ps : List ℕ) → all (λ p. ltb p k) ps ≡ true → All (λ p. p < k) ps
+below-all k [] h = tt
+below-all k (p ∷ ps) h = let b = and-both (ltb p k) (all (λ p. ltb p k) ps) h in (ltb-true p k (b .0), below-all k ps (b .1))
+
+-- a byte above 1 is the same as 2
+effect-most : (b : ℕ) → effectIn (min b 2) ≡ effectIn b
+effect-most zero = refl
+effect-most (suc zero) = refl
+effect-most (suc (suc b)) = let e : min (suc (suc b)) 2 ≡ 2 = omega arith in rw e
+
 module _ (sheet : List ℕ) where
   abbrev rule : ℕ → Rule
   rule p = ruleWith p (getD sheet p 0)
@@ -48,7 +58,7 @@ module _ (sheet : List ℕ) where
 
   pub sheet-rules : rulesIn (sheetText sheet) ≡ map rule places
   unfolding sheetText
-  sheet-rules = rules-back places ?
+  sheet-rules = rules-back places (below-all 18 places refl)
 
   -- ---- and they are a sheet
 
@@ -59,3 +69,17 @@ module _ (sheet : List ℕ) where
   judged : judgeRules (map rule places) ≡ 0
   unfolding judgeRules given givenBy times
   judged = rw (all-rules places)
+
+  pub sheet-bytes : bytesGiven (map rule places) ≡ map (λ p. min (getD sheet p 0) 2) places
+  unfolding resultGiven givenBy times
+  sheet-bytes = refl
+
+  sheet-same : sheetIn (map (λ p. min (getD sheet p 0) 2) places) ≡ sheetIn sheet
+  unfolding sheetIn
+  sheet-same =
+      rw (effect-most (getD sheet 0 0), effect-most (getD sheet 1 0), effect-most (getD sheet 2 0), effect-most (getD sheet 3 0), effect-most (getD sheet 4 0), effect-most (getD sheet 5 0),
+      effect-most (getD sheet 6 0), effect-most (getD sheet 7 0), effect-most (getD sheet 8 0), effect-most (getD sheet 9 0), effect-most (getD sheet 10 0), effect-most (getD sheet 11 0),
+      effect-most (getD sheet 12 0), effect-most (getD sheet 13 0), effect-most (getD sheet 14 0), effect-most (getD sheet 15 0), effect-most (getD sheet 16 0), effect-most (getD sheet 17 0))
+
+  pub sheet-reads-back : (judgeText (sheetText sheet) ≡ 0) × (sheetIn (bytesGiven (rulesIn (sheetText sheet))) ≡ sheetIn sheet)
+  sheet-reads-back = (ap judgeRules sheet-rules ∙ judged, ap (λ (rules : List Rule). sheetIn (bytesGiven rules)) sheet-rules ∙ ap sheetIn sheet-bytes ∙ sheet-same)
