@@ -2,3 +2,4 @@ pub mod Writing
 pub mod Vocabulary
 pub mod OneSpelling
 pub mod ReadsBack
+pub mod Examples

@@ -3,14 +3,13 @@
 use Prim.Native.Nat.{ℕ, _+_, _*_, _≤_, _<_, min}
 use mathlib.Core.Path.{_≡_}
 use mathlib.Core.Bool.{Bool, true, cond}
-use mathlib.Core.List.{List, _++_}
+use mathlib.Core.List.{List}
 use lib.Dec.{ltb, eqb}
 use lib.ListN.{length, getD, drop}
-use Rattle.text.specs.Event.{bytes}
 use Rattle.text.specs.Line.{wordsOf}
 use Rattle.sheet.specs.Words.{holderWords, accessWords, originWords, inside, closing, numberAmong}
 use Rattle.model.specs.Lists.{all}
-use Rattle.sheet.specs.Rule.{Rule, behind, listed, isRule, wordAt}
+use Rattle.sheet.specs.Rule.{Rule, behind, listed, isRule}
 use Rattle.sheet.specs.Rules.{holderAt, accessAt, originAt, times, given, resultGiven}
 use Rattle.sheet.specs.ReadSheet.{rulesIn}
 use Rattle.sheet.specs.declared.words.Bracket.{Bracket}
@@ -86,9 +85,3 @@ pub record Adds (r : Counted) (seen results seen′ results′ : List ℕ) : Typ
 pub record ReadsLines (text : List ℕ) (r : Bool) (seen results : List ℕ) : Type 0 where
   pub rules : r ≡ all isRule (rulesIn text)
   pub noted : r ≡ true → Noted (rulesIn text) seen results
-
--- ---- lines written
-
--- a line's first two brackets but for their end
-unfoldable pub frontAt : ℕ → List ℕ
-frontAt p = bytes "(rule (holder " ++ (wordAt holderWords (holderAt p) ++ (bytes ") (access " ++ wordAt accessWords (accessAt p)))

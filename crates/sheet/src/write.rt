@@ -11,7 +11,7 @@ ghost use Rattle.text.specs.Write.{outcome};
 ghost use Rattle.sheet.specs.Words.{holderWords, accessWords, originWords, resultWords};
 ghost use Rattle.sheet.specs.Rule.{wordAt, spellRule};
 ghost use Rattle.sheet.specs.WriteSheet.{ruleWith, sheetText, writeSheet};
-ghost use Rattle.sheet.specs.Reading.{frontAt};
+ghost use Rattle.sheet.specs.Writing.{frontAt};
 
 // A line has at most 63 bytes.
 const MOST: usize = 1134;

@@ -3,23 +3,21 @@
 -- Assumes nothing.
 use mathlib.Core.Path.{_≡_, refl, sym, ap, _∙_}
 use mathlib.Core.Bool.{Bool, true, false, cond}
-use mathlib.Core.Logic.{_⊎_, inl, inr}
 use mathlib.Core.List.{List, [], _∷_, _++_, append-assoc, append-nil, flatMap}
-use Prim.Native.Nat.{ℕ, zero, suc, _<_}
-use Prim.Native.String.{String}
+use Prim.Native.Nat.{ℕ, suc, _<_}
 use native.Mathlib.Omega.{arith}
 use lib.Dec.{ltb, eqb}
 use lib.ListN.{length}
 use borrow.Author.Tests.{ltb-true, lt-ltb, le-ltb}
-use Rattle.model.proofs.Offered.{clash, test}
+use Rattle.model.proofs.Offered.{clash}
 use Rattle.text.specs.Class.{classOf, space}
 use Rattle.text.specs.Event.{bytes}
 use Rattle.text.specs.Line.{push, partsOf, wordsOf, linesOf}
 use Rattle.text.specs.Read.{same}
 use Rattle.text.proofs.Offered.{same-true, same-refl}
 use Rattle.sheet.specs.Words.{holderWords, accessWords, originWords, resultWords, inside, closing, ending, numberAmong}
-use Rattle.sheet.specs.Rule.{Rule, Listed, behind, listed, listedOf, resultOf, ruleOf, readRule, isRule, wordAt, spellWords, bracket, spellRule, Below, Spelled}
-use Rattle.sheet.proofs.Laws.Vocabulary.{ended-is, Known, Vocabulary, holders-known, accesses-known, origins-known, result-back, Ends, Plain, holder-plain, access-plain, origin-plain, result-plain}
+use Rattle.sheet.specs.Rule.{Rule, Listed, behind, listed, listedOf, resultOf, ruleOf, readRule, isRule, wordAt, spellWords, spellRule, Below, Spelled}
+use Rattle.sheet.proofs.Laws.Vocabulary.{ended-is, Vocabulary, holders-known, accesses-known, origins-known, result-back, Ends, Plain, holder-plain, access-plain, origin-plain, result-plain}
 
 -- ---- the line of a rule, its pieces one behind the other
 
@@ -151,7 +149,7 @@ module _ (own : List (List ℕ)) (w : List ℕ) (words : List (List ℕ)) where
       let rest = bytes ") " ++ flat (l .rest) in
       record {
         text = ap (λ (x : List ℕ). bytes " " ++ (x ++ flat words)) (ended-is own (bytes " ") w (ltb-true n (length own) e))
-          ∙ ap (λ (x : List ℕ). bytes " " ++ x) (append-assoc v (bytes " ") (flat words) ∙ ap (λ (x : List ℕ). v ++ x) (b .text) ∙ sym (append-assoc v (spellWords own (l .numbers)) rest));
+            ∙ ap (λ (x : List ℕ). bytes " " ++ x) (append-assoc v (bytes " ") (flat words) ∙ ap (λ (x : List ℕ). v ++ x) (b .text) ∙ sym (append-assoc v (spellWords own (l .numbers)) rest));
         below = (e, b .below);
         some = lt-ltb 0 (length (n ∷ l .numbers)) (omega arith);
         began = omega arith;
@@ -163,7 +161,7 @@ module _ (own : List (List ℕ)) (w : List ℕ) (words : List (List ℕ)) where
       let v = wordAt own m in
       record {
         text = ap (λ (x : List ℕ). bytes " " ++ (x ++ flat words)) (ended-is own (bytes ") ") w (ltb-true m (length own) e))
-          ∙ ap (λ (x : List ℕ). bytes " " ++ x) (append-assoc v (bytes ") ") (flat words) ∙ ap (λ (x : List ℕ). x ++ (bytes ") " ++ flat words)) (sym (append-nil v)));
+            ∙ ap (λ (x : List ℕ). bytes " " ++ x) (append-assoc v (bytes ") ") (flat words) ∙ ap (λ (x : List ℕ). x ++ (bytes ") " ++ flat words)) (sym (append-nil v)));
         below = (e, tt);
         some = lt-ltb 0 1 (omega arith);
         began = omega arith;
@@ -238,21 +236,32 @@ module _ (line : List ℕ) where
       let last = ended-is resultWords (bytes ")\n") (flat (originsIn .rest)) (ltb-true (resultOf (originsIn .rest)) 3 h) in
       let ss = spellWords holderWords (holdersIn .numbers) in
       let xs = spellWords accessWords (accessesIn .numbers) in
-      let os = spellWords originWords (originsIn .numbers) in
-      (sym (flat-words line) ∙ first .0 ∙ ap (λ (x : List ℕ). bytes "(rule " ++ x) (hs .text)
-      ∙ ap (λ (x : List ℕ). bytes "(rule (holder" ++ (ss ++ (bytes ") " ++ x))) (a .text)
-      ∙ ap (λ (x : List ℕ). bytes "(rule (holder" ++ (ss ++ (bytes ") (access" ++ (xs ++ (bytes ") " ++ x))))) (o .text)
-      ∙ ap (λ (x : List ℕ). bytes "(rule (holder" ++ (ss ++ (bytes ") (access" ++ (xs ++ (bytes ") (from" ++ (os ++ (bytes ") " ++ x))))))) last
-      ∙ sym (spell-is (ruleOf (wordsOf line))),
-      record {
-        holders = hs .below;
-        accesses = a .below;
-        origins = o .below;
-        result = h;
-        some-holder = hs .some;
-        some-access = a .some;
-        some-origin = o .some;
-      })
+      let os = spellWords originWords (originsIn .numbers) in (
+        sym (flat-words line) ∙ first .0 ∙ ap (λ (x : List ℕ). bytes "(rule " ++ x) (hs .text)
+            ∙ ap (λ (x : List ℕ). bytes "(rule (holder" ++ (ss ++ (bytes ") " ++ x))) (a .text)
+            ∙ ap (λ (x : List ℕ). bytes "(rule (holder" ++ (ss ++ (bytes ") (access" ++ (xs ++ (bytes ") " ++ x))))) (o .text)
+            ∙ ap (λ (x : List ℕ). bytes "(rule (holder" ++ (ss ++ (bytes ") (access" ++ (xs ++ (bytes ") (from" ++ (os ++ (bytes ") " ++ x))))))) last
+            ∙ sym (spell-is (ruleOf (wordsOf line))),
+        record {
+          holders = hs .below;
+          accesses = a .below;
+          origins = o .below;
+          result = h;
+          some-holder = hs .some;
+          some-access = a .some;
+          some-origin = o .some;
+        },
+      )
+
+-- ---- so it has one meaning
+
+-- two rules with one spelling are equal
+pub one-spelling : (r q : Rule) → Spelled r → Spelled q → spellRule r ≡ spellRule q → r ≡ q
+one-spelling r q s t e = sym (rule-reads-back r s) ∙ ap readRule e ∙ rule-reads-back q t
+
+-- a line that is no rule is the spelling of none
+pub misspelt-is-none : (line : List ℕ) → isRule (readRule line) ≡ false → (r : Rule) → Spelled r → line ≡ spellRule r → ⊥
+misspelt-is-none line h r s e = clash (s .result) (ap isRule (sym (ap readRule e ∙ rule-reads-back r s)) ∙ h)
 
 -- ---- the spelling is one line
 

@@ -1,21 +1,23 @@
 -- What is written is read back: a sheet's text is a sheet, and the same one.
 -- Assumes nothing.
 use mathlib.Core.Path.{_≡_, refl, sym, ap, ap₂, _∙_}
-use mathlib.Core.Bool.{Bool, true, false, not}
-use mathlib.Core.List.{List, [], _∷_, _++_, map, flatMap}
-use Prim.Native.Nat.{ℕ, zero, suc, _<_, _≤_, min, _/_, _%_}
+use mathlib.Core.Bool.{true, false, not}
+use mathlib.Core.List.{List, [], _∷_, map, flatMap}
+use Prim.Native.Nat.{ℕ, zero, suc, _<_, min}
 use native.Mathlib.Omega.{arith}
-use lib.Dec.{ltb, eqb}
-use lib.ListN.{length, getD}
+use lib.Dec.{ltb}
+use lib.ListN.{getD, take}
 use borrow.Author.Tests.{lt-ltb, ltb-true}
 use Rattle.model.specs.Lists.{any, all}
 use Rattle.model.proofs.Offered.{All, and-both}
 use Rattle.table.specs.Sheets.{effectIn, sheetIn}
-use Rattle.text.specs.Line.{linesOf, partsOf}
-use Rattle.sheet.specs.Rule.{Rule, isRule, readRule, spellRule, Spelled}
+use Rattle.text.specs.Line.{partsOf}
+use Rattle.text.specs.Result.{value}
+use Rattle.text.proofs.Offered.{wrote}
+use Rattle.sheet.specs.Rule.{Rule, isRule, spellRule, Spelled}
 use Rattle.sheet.specs.Rules.{places, holderAt, accessAt, originAt, times, givenBy, given, judgeRules, resultGiven, bytesGiven}
 use Rattle.sheet.specs.ReadSheet.{rulesIn, judgeText}
-use Rattle.sheet.specs.WriteSheet.{ruleWith, sheetText}
+use Rattle.sheet.specs.WriteSheet.{ruleWith, sheetText, writeSheet}
 use Rattle.sheet.proofs.Laws.OneSpelling.{rule-reads-back, line-is-one}
 
 -- ---- each line is read as its rule
@@ -77,9 +79,34 @@ module _ (sheet : List ℕ) where
   sheet-same : sheetIn (map (λ p. min (getD sheet p 0) 2) places) ≡ sheetIn sheet
   unfolding sheetIn
   sheet-same =
-      rw (effect-most (getD sheet 0 0), effect-most (getD sheet 1 0), effect-most (getD sheet 2 0), effect-most (getD sheet 3 0), effect-most (getD sheet 4 0), effect-most (getD sheet 5 0),
-      effect-most (getD sheet 6 0), effect-most (getD sheet 7 0), effect-most (getD sheet 8 0), effect-most (getD sheet 9 0), effect-most (getD sheet 10 0), effect-most (getD sheet 11 0),
-      effect-most (getD sheet 12 0), effect-most (getD sheet 13 0), effect-most (getD sheet 14 0), effect-most (getD sheet 15 0), effect-most (getD sheet 16 0), effect-most (getD sheet 17 0))
+      rw (
+        effect-most (getD sheet 0 0),
+        effect-most (getD sheet 1 0),
+        effect-most (getD sheet 2 0),
+        effect-most (getD sheet 3 0),
+        effect-most (getD sheet 4 0),
+        effect-most (getD sheet 5 0),
+        effect-most (getD sheet 6 0),
+        effect-most (getD sheet 7 0),
+        effect-most (getD sheet 8 0),
+        effect-most (getD sheet 9 0),
+        effect-most (getD sheet 10 0),
+        effect-most (getD sheet 11 0),
+        effect-most (getD sheet 12 0),
+        effect-most (getD sheet 13 0),
+        effect-most (getD sheet 14 0),
+        effect-most (getD sheet 15 0),
+        effect-most (getD sheet 16 0),
+        effect-most (getD sheet 17 0),
+      )
 
   pub sheet-reads-back : (judgeText (sheetText sheet) ≡ 0) × (sheetIn (bytesGiven (rulesIn (sheetText sheet))) ≡ sheetIn sheet)
   sheet-reads-back = (ap judgeRules sheet-rules ∙ judged, ap (λ (rules : List Rule). sheetIn (bytesGiven rules)) sheet-rules ∙ ap sheetIn sheet-bytes ∙ sheet-same)
+
+  -- and so is what stands in the buffer
+  pub written-reads-back : (out : List ℕ) (n : ℕ) → writeSheet sheet out .answer ≡ value n
+      → (judgeText (take n (writeSheet sheet out .buffer)) ≡ 0) × (sheetIn (bytesGiven (rulesIn (take n (writeSheet sheet out .buffer)))) ≡ sheetIn sheet)
+  unfolding writeSheet
+  written-reads-back out n h =
+      let front = wrote n (record { answer = sym h; buffer = refl }) refl .front in
+      (ap judgeText front ∙ sheet-reads-back .0, ap (λ (s : List ℕ). sheetIn (bytesGiven (rulesIn s))) front ∙ sheet-reads-back .1)

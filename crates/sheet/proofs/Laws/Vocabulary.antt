@@ -1,14 +1,11 @@
 -- The words of a sheet's lines are found again: each is one word of a text, and has its own number.
 -- Assumes nothing.
-use mathlib.Core.Path.{_≡_, refl, sym, ap, _∙_}
+use mathlib.Core.Path.{_≡_, refl, ap, _∙_}
 use mathlib.Core.Bool.{Bool, true, false, cond}
 use mathlib.Core.List.{List, [], _∷_, _++_, map}
 use Prim.Native.Nat.{ℕ, zero, suc, _<_}
 use native.Mathlib.Omega.{arith}
-use lib.Dec.{ltb, eqb}
 use lib.ListN.{length}
-use borrow.Author.Tests.{ltb-true, lt-ltb}
-use Rattle.model.proofs.Offered.{clash, test}
 use Rattle.text.specs.Class.{classOf}
 use Rattle.text.specs.Event.{bytes}
 use Rattle.text.specs.Line.{push, partsOf, wordsOf, linesOf}

@@ -15,7 +15,7 @@ use Rattle.text.proofs.Offered.{put-next, writes-put, wrote}
 use Rattle.sheet.specs.Words.{holderWords, accessWords, originWords, resultWords}
 use Rattle.sheet.specs.Rule.{wordAt, spellWords, spellRule}
 use Rattle.sheet.specs.Rules.{holderAt, accessAt, originAt}
-use Rattle.sheet.specs.Reading.{frontAt}
+use Rattle.sheet.specs.Writing.{frontAt}
 use Rattle.sheet.specs.WriteSheet.{ruleWith, sheetText, writeSheet}
 
 -- two pieces, one behind the other
