@@ -1,2 +1,7 @@
 pub mod Reading
 pub mod Adding
+pub mod Writing
+pub mod Vocabulary
+pub mod OneSpelling
+pub mod ReadsBack
+pub mod Examples

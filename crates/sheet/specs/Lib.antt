@@ -4,3 +4,4 @@ pub mod Rules
 pub mod ReadSheet
 pub mod WriteSheet
 pub mod Reading
+pub mod Writing

@@ -11,6 +11,7 @@ ghost use Rattle.text.specs.Write.{outcome};
 ghost use Rattle.sheet.specs.Words.{holderWords, accessWords, originWords, resultWords};
 ghost use Rattle.sheet.specs.Rule.{wordAt, spellRule};
 ghost use Rattle.sheet.specs.WriteSheet.{ruleWith, sheetText, writeSheet};
+ghost use Rattle.sheet.specs.Writing.{frontAt};
 
 // A line has at most 63 bytes.
 const MOST: usize = 1134;
@@ -72,15 +73,23 @@ fn put_result(out: &mut [u8], at: usize, result: u8) -> usize
     }
 }
 
+// Writes a line's first two brackets but for their end, of the combination at a place.
+fn put_front(out: &mut [u8], at: usize, place: usize) -> usize
+    requires { ⌜ (place < 18) × Room (now out) at (frontAt place) ⌝ }
+    ensures { λ r. ⌜ Put (now (out .entry)) at (frontAt place) (now (out .exit)) r ⌝ }
+{
+    let past_opening = pieces::put_bytes(out, at, b"(rule (holder ");
+    let past_holder = put_holder(out, past_opening, place / 6);
+    let past_second = pieces::put_bytes(out, past_holder, b") (access ");
+    put_access(out, past_second, place / 3 % 2)
+}
+
 // Writes the line of the combination at a place.
 fn put_rule(out: &mut [u8], at: usize, place: usize, result: u8) -> usize
     requires { ⌜ (place < 18) × Room (now out) at (spellRule (ruleWith place result)) ⌝ }
     ensures { λ r. ⌜ Put (now (out .entry)) at (spellRule (ruleWith place result)) (now (out .exit)) r ⌝ }
 {
-    let past_opening = pieces::put_bytes(out, at, b"(rule (holder ");
-    let past_holder = put_holder(out, past_opening, place / 6);
-    let past_second = pieces::put_bytes(out, past_holder, b") (access ");
-    let past_access = put_access(out, past_second, place / 3 % 2);
+    let past_access = put_front(out, at, place);
     let past_third = pieces::put_bytes(out, past_access, b") (from ");
     let past_origin = put_origin(out, past_third, place % 3);
     let past_fourth = pieces::put_bytes(out, past_origin, b") ");
