@@ -2,11 +2,14 @@
 use kelzoud_events::answers::pack;
 use kelzoud_events::answers::pack_refusal;
 use listing::reading::ListingRead;
+use sheet::read::SheetRead;
 use text::write::Written;
 use trace::run::RunAnswer;
 ghost use mathlib.Core.Path.{_≡_};
 ghost use Rattle.kelzoud.specs.Interface.{packedResult, packedRead, packedRun};
+ghost use Rattle.kelzoud_events.specs.Interface.{packed};
 ghost use Rattle.listing.specs.ReadInto.{listingAnswer};
+ghost use Rattle.sheet.specs.ReadSheet.{sheetAnswer};
 ghost use Rattle.text.specs.Write.{writtenAnswer};
 
 pub fn packed_written(answer: Written) -> u64
@@ -33,5 +36,14 @@ pub fn packed_run(answer: RunAnswer) -> u64
     match answer {
         RunAnswer::Allowed(lines) => pack(0, lines as u64),
         RunAnswer::Refused(refusal, line) => pack_refusal(refusal, line as u64),
+    }
+}
+
+pub fn packed_sheet(answer: SheetRead) -> u64
+    ensures { λ r. ⌜ r ≡ packed (sheetAnswer answer) 0 ⌝ }
+{
+    match answer {
+        SheetRead::Sheet => pack(0, 0),
+        SheetRead::Refused(refusal) => pack_refusal(refusal, 0),
     }
 }

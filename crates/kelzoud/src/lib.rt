@@ -2,6 +2,7 @@
 // `kelzoud_events`.
 use crate::answers::packed_listing;
 use crate::answers::packed_run;
+use crate::answers::packed_sheet;
 use crate::answers::packed_written;
 use crate::requests::read_request;
 use crate::requests::spelling_in;
@@ -11,16 +12,23 @@ use kelzoud_events::events::asked_in;
 use kelzoud_events::events::names_in;
 use listing::reading::read_listing;
 use listing::writing::write_listing;
+use sheet::read::read_sheet;
+use sheet::write::write_sheet;
 use table::Row;
+use table::SheetBytes;
+use table::sheets::sheet_lent;
 use trace::check;
 use trace::run::run;
 ghost use mathlib.Core.Path.{_≡_};
 ghost use mathlib.Core.Bool.{true};
-ghost use Rattle.kelzoud_events.specs.Interface.{requestIn};
+ghost use Rattle.kelzoud_events.specs.Interface.{packed, requestIn};
 ghost use Rattle.kelzoud.specs.Interface.{packedResult, packedRead, packedRan, spellingIn, eventAfter, groupAfter};
 ghost use Rattle.listing.specs.ReadInto.{answerInto, stateInto};
 ghost use Rattle.listing.specs.WriteListing.{listingWritten, listingStored};
+ghost use Rattle.sheet.specs.ReadSheet.{judgeText, sheetInto};
+ghost use Rattle.sheet.specs.WriteSheet.{writeSheet};
 ghost use Rattle.table.specs.Words.{rowsIn};
+ghost use Rattle.table.specs.Sheets.{bytesOf, sheetLent};
 ghost use Rattle.table.specs.Lent.{tallyIn, lent};
 ghost use Rattle.text.specs.Request.{readRequest, writeRequest};
 ghost use Rattle.text.specs.Write.{written, stored};
@@ -30,14 +38,20 @@ ghost use Rattle.trace.specs.Run;
 mod answers;
 mod requests;
 
-// A run of a text on the table and the tally that are lent.
+// A run of a text on the table and the tally that are lent, by the sheet that is lent, card 6's where no byte of one is.
 #[no_mangle]
-pub extern "C" fn kz_abi_run(table: &mut [Row], tally: &mut [u32; 7], text: &[u8]) -> u64
-    ensures { λ r. ⌜ (rowsIn (now (table .exit)) ≡ Run.run (lent (now (table .entry)) (now (tally .entry))) (now (text .entry)) .state .table)
-        × (tallyIn (now (tally .exit)) ≡ Run.run (lent (now (table .entry)) (now (tally .entry))) (now (text .entry)) .state .tally)
-        × (r ≡ packedRan (Run.run (lent (now (table .entry)) (now (tally .entry))) (now (text .entry)))) ⌝ }
+pub extern "C" fn kz_abi_run(
+    table: &mut [Row],
+    tally: &mut [u32; 7],
+    sheet: &[u8],
+    text: &[u8],
+) -> u64
+    ensures { λ r. ⌜ (rowsIn (now (table .exit)) ≡ Run.run (sheetLent (now (sheet .entry))) (lent (now (table .entry)) (now (tally .entry))) (now (text .entry)) .state .table)
+        × (tallyIn (now (tally .exit)) ≡ Run.run (sheetLent (now (sheet .entry))) (lent (now (table .entry)) (now (tally .entry))) (now (text .entry)) .state .tally)
+        × (r ≡ packedRan (Run.run (sheetLent (now (sheet .entry))) (lent (now (table .entry)) (now (tally .entry))) (now (text .entry)))) ⌝ }
 {
-    let answer = run(table, tally, text);
+    let bytes = sheet_lent(sheet);
+    let answer = run(table, tally, &bytes, text);
     packed_run(answer)
 }
 
@@ -89,6 +103,27 @@ pub extern "C" fn kz_abi_read_listing(table: &mut [Row], tally: &mut [u32; 7], t
 {
     let answer = read_listing(text, table, tally);
     packed_listing(answer)
+}
+
+// Reads a sheet's text into the sheet that is lent.
+#[no_mangle]
+pub extern "C" fn kz_abi_read_sheet(text: &[u8], sheet: &mut SheetBytes) -> u64
+    ensures { λ r. ⌜ (r ≡ packed (judgeText (now (text .entry))) 0)
+        × (now (sheet .exit) ≡ sheetInto (now (text .entry)) (now (sheet .entry))) ⌝ }
+{
+    let answer = read_sheet(text, sheet);
+    packed_sheet(answer)
+}
+
+// Writes the one text of the sheet that is lent, card 6's where no byte of one is.
+#[no_mangle]
+pub extern "C" fn kz_abi_write_sheet(sheet: &[u8], out: &mut [u8]) -> u64
+    ensures { λ r. ⌜ (r ≡ packedResult (writeSheet (bytesOf (sheetLent (now (sheet .entry)))) (now (out .entry)) .answer))
+        × (now (out .exit) ≡ writeSheet (bytesOf (sheetLent (now (sheet .entry)))) (now (out .entry)) .buffer) ⌝ }
+{
+    let bytes = sheet_lent(sheet);
+    let answer = write_sheet(&bytes, out);
+    packed_written(answer)
 }
 
 // Writes what `capcheck` prints of an input.

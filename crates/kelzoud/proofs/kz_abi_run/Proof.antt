@@ -7,7 +7,10 @@ use Rattle.kelzoud.proofs.kz_abi_run.Statement.{statement}
 use Rattle.kelzoud.proofs.kz_abi_run.Tie as tie
 
 returns : tie.Need-returns
-returns c = let p = ran-parts (c .before .before .run .result) _ _ (c .before .before .run .ensures) in (p .0, p .1, c .packed-run .ensures ∙ p .2)
+returns c =
+    let e = rw (c .before .before .before .before .before .before .sheet-lent .ensures .same) at (c .before .before .run .ensures) in
+    let p = ran-parts (c .before .before .run .result) _ _ e in
+    (p .0, p .1, c .packed-run .ensures ∙ p .2)
 
 pub kz-abi-run-spec : {M : Type 1} → statement M
-kz-abi-run-spec = tie.close (tie.spec (λ c κs. search needs) (λ c κs. search needs) (λ c. search needs) returns)
+kz-abi-run-spec = tie.close (tie.spec (λ c κs. search needs) (λ c κs. search needs) (λ c κs. search needs) (λ c. search needs) returns)

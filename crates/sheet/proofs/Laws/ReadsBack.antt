@@ -10,7 +10,7 @@ use lib.ListN.{getD, take}
 use borrow.Author.Tests.{lt-ltb, ltb-true}
 use Rattle.model.specs.Lists.{any, all}
 use Rattle.model.proofs.Offered.{All, and-both}
-use Rattle.table.specs.Sheets.{effectIn, sheetIn}
+use Rattle.table.specs.Sheets.{effectIn, sheetIn, weight, bytesOf}
 use Rattle.text.specs.Line.{partsOf}
 use Rattle.text.specs.Result.{value}
 use Rattle.text.proofs.Offered.{wrote}
@@ -110,3 +110,59 @@ module _ (sheet : List ℕ) where
   written-reads-back out n h =
       let front = wrote n (record { answer = sym h; buffer = refl }) refl .front in
       (ap judgeText front ∙ sheet-reads-back .0, ap (λ (s : List ℕ). sheetIn (bytesGiven (rulesIn s))) front ∙ sheet-reads-back .1)
+
+-- ---- a sheet has one text, whichever bytes it has
+
+same-text : (xs ys : List ℕ) → ((p : ℕ) → p < 18 → min (getD xs p 0) 2 ≡ min (getD ys p 0) 2) → sheetText xs ≡ sheetText ys
+unfolding sheetText flatMap
+same-text xs ys h =
+    rw (
+      h 0 (omega arith),
+      h 1 (omega arith),
+      h 2 (omega arith),
+      h 3 (omega arith),
+      h 4 (omega arith),
+      h 5 (omega arith),
+      h 6 (omega arith),
+      h 7 (omega arith),
+      h 8 (omega arith),
+      h 9 (omega arith),
+      h 10 (omega arith),
+      h 11 (omega arith),
+      h 12 (omega arith),
+      h 13 (omega arith),
+      h 14 (omega arith),
+      h 15 (omega arith),
+      h 16 (omega arith),
+      h 17 (omega arith),
+    )
+
+weight-most : (b : ℕ) → min b 2 ≡ min (weight (effectIn b)) 2
+weight-most zero = refl
+weight-most (suc zero) = refl
+weight-most (suc (suc b)) = omega arith
+
+weights : (bytes : List ℕ) (p : ℕ) → p < 18 → min (getD bytes p 0) 2 ≡ min (getD (bytesOf (sheetIn bytes)) p 0) 2
+unfolding bytesOf sheetIn
+weights bytes zero l = weight-most (getD bytes 0 0)
+weights bytes (suc zero) l = weight-most (getD bytes 1 0)
+weights bytes (suc (suc zero)) l = weight-most (getD bytes 2 0)
+weights bytes (suc (suc (suc zero))) l = weight-most (getD bytes 3 0)
+weights bytes (suc (suc (suc (suc zero)))) l = weight-most (getD bytes 4 0)
+weights bytes (suc (suc (suc (suc (suc zero))))) l = weight-most (getD bytes 5 0)
+weights bytes (suc (suc (suc (suc (suc (suc zero)))))) l = weight-most (getD bytes 6 0)
+weights bytes (suc (suc (suc (suc (suc (suc (suc zero))))))) l = weight-most (getD bytes 7 0)
+weights bytes (suc (suc (suc (suc (suc (suc (suc (suc zero)))))))) l = weight-most (getD bytes 8 0)
+weights bytes (suc (suc (suc (suc (suc (suc (suc (suc (suc zero))))))))) l = weight-most (getD bytes 9 0)
+weights bytes (suc (suc (suc (suc (suc (suc (suc (suc (suc (suc zero)))))))))) l = weight-most (getD bytes 10 0)
+weights bytes (suc (suc (suc (suc (suc (suc (suc (suc (suc (suc (suc zero))))))))))) l = weight-most (getD bytes 11 0)
+weights bytes (suc (suc (suc (suc (suc (suc (suc (suc (suc (suc (suc (suc zero)))))))))))) l = weight-most (getD bytes 12 0)
+weights bytes (suc (suc (suc (suc (suc (suc (suc (suc (suc (suc (suc (suc (suc zero))))))))))))) l = weight-most (getD bytes 13 0)
+weights bytes (suc (suc (suc (suc (suc (suc (suc (suc (suc (suc (suc (suc (suc (suc zero)))))))))))))) l = weight-most (getD bytes 14 0)
+weights bytes (suc (suc (suc (suc (suc (suc (suc (suc (suc (suc (suc (suc (suc (suc (suc zero))))))))))))))) l = weight-most (getD bytes 15 0)
+weights bytes (suc (suc (suc (suc (suc (suc (suc (suc (suc (suc (suc (suc (suc (suc (suc (suc zero)))))))))))))))) l = weight-most (getD bytes 16 0)
+weights bytes (suc (suc (suc (suc (suc (suc (suc (suc (suc (suc (suc (suc (suc (suc (suc (suc (suc zero))))))))))))))))) l = weight-most (getD bytes 17 0)
+weights bytes (suc (suc (suc (suc (suc (suc (suc (suc (suc (suc (suc (suc (suc (suc (suc (suc (suc (suc p)))))))))))))))))) l = absurd (omega arith)
+
+pub text-of-sheet : (bytes : List ℕ) → sheetText bytes ≡ sheetText (bytesOf (sheetIn bytes))
+text-of-sheet bytes = same-text bytes (bytesOf (sheetIn bytes)) (weights bytes)
