@@ -1,17 +1,19 @@
 /*
  * Kelzoud: a capability table that revokes on use.
  *
- * The caller lends all memory: a table of capabilities, a tally of events, texts and output buffers.
+ * The caller lends all memory: a table of capabilities, a tally of events, a conflict sheet where the
+ * default one does not serve, texts and output buffers.
  * The library keeps nothing between calls, allocates nothing and has no global state, so calls with
  * different memory may run at the same time on different threads.
  *
  * What a caller owes:
  *   - A pointer is followed by a length or a count, and points to as many elements as that says. A
  *     pointer whose length is 0 is not followed and may be NULL. `answers` of kz_apply_all has as
- *     many elements as there are events. All other pointers without a length are never NULL, the
- *     tally of a kz_lent among them.
+ *     many elements as there are events. A kz_sheet that is only read may be NULL, and is then the
+ *     default one. All other pointers without a length are never NULL, the tally of a kz_lent among
+ *     them.
  *   - Whatever a call may write overlaps nothing else that the call is given.
- * Nothing else is asked. Every event, table, tally, line, text and listing gets an answer.
+ * Nothing else is asked. Every event, table, tally, sheet, line, text and listing gets an answer.
  *
  * A call answers with a kz_answer: a refusal, which is 0 when the call was allowed, and a value, as
  * each call says. A call that is refused changes nothing that was lent, except as kz_apply,
@@ -41,6 +43,7 @@ enum {
     KZ_MAX_LINE = 50,       /* bytes of an event line, its newline included */
     KZ_MAX_NAMED_LINE = 61, /* the same where new names are written out */
     KZ_MAX_DROP_LINE = 711, /* the same of a line of KZ_MAX_GROUP names */
+    KZ_MAX_SHEET = 1005,    /* bytes of the text that kz_write_sheet writes */
     KZ_MAX_LISTING = 39949, /* bytes of a listing */
     KZ_MAX_CHECK = 39968    /* bytes that kz_check writes */
 };
@@ -54,7 +57,7 @@ enum {
     KZ_RW = 2  /* read-write */
 };
 
-/* Kinds of capabilities: what kz_event says of reads and writes goes by them. */
+/* Kinds of capabilities: what a read or write does to one goes by its kind, as a kz_sheet says. */
 enum {
     KZ_REFERENCE = 0, /* as of &T and &mut T */
     KZ_RAW = 1,       /* as of *const T and *mut T */
@@ -76,6 +79,8 @@ enum kz_refusal {
     KZ_DISORDERED = 1,       /* the table is not in order, as kz_cap says, or has too many rows */
     KZ_MISGROUPED = 13,      /* lent names: none, more than KZ_MAX_GROUP, or not strictly rising */
     KZ_MISSPELT = 2,         /* not in the one spelling; an unknown kind, right or cap_kind */
+    KZ_GIVEN_TWICE = 14,     /* a sheet's text gives a combination twice */
+    KZ_NOT_GIVEN = 15,       /* a sheet's text leaves a combination out */
     KZ_ILLEGAL_SPAN = 3,     /* an end above 4,294,967,296 */
     KZ_UNISSUED = 4,         /* name 0, or a name above the issued number */
     KZ_ENDED = 5,            /* a name that was issued, and whose capability has ended */
@@ -119,14 +124,47 @@ typedef struct kz_tally {
     uint32_t refused;
 } kz_tally;
 
-/* What a caller lends for events: a table of `rows` rows, 0 to KZ_MAX_ROWS of them, and its tally. */
+/* What a read or write does to a capability that it strikes, and to its subtree. */
+enum {
+    KZ_KEEP = 0,  /* nothing */
+    KZ_LOWER = 1, /* it becomes read-only */
+    KZ_END = 2    /* it ends; so does any other number in a sheet */
+};
+
+/* Where a read or write comes from, for the capability that it strikes: the first that fits. */
+enum {
+    KZ_FROM_CELL = 0,    /* from a cell, or from below one, that the struck one is not under */
+    KZ_FROM_KIN = 1,     /* from its parent, or from below its parent */
+    KZ_FROM_STRANGER = 2 /* from anywhere else; a create's write is always a stranger's */
+};
+
+/*
+ * A conflict sheet: what a read or write does to what it strikes, for each kind of the struck
+ * capability, each access, and where the access comes from. These are 18 combinations, each with a
+ * place, kz_sheet_place: the kind times 6, plus 3 for a write, plus where it comes from. Every array of
+ * 18 bytes is a sheet. Reading and writing its text is for kz_read_sheet and kz_write_sheet;
+ * docs/SHEETS.md tells how to make one for another language.
+ *
+ * The default sheet is that of kz_event. One table is used with one sheet throughout.
+ */
+enum { KZ_SHEET_PLACES = 18 };
+
+typedef struct kz_sheet {
+    uint8_t results[KZ_SHEET_PLACES];
+} kz_sheet;
+
+/*
+ * What a caller lends for events: a table of `rows` rows, 0 to KZ_MAX_ROWS of them, its tally, and the
+ * conflict sheet by which events are carried out, NULL for the default one.
+ */
 typedef struct kz_lent {
     kz_cap *table;
     size_t rows;
     kz_tally *tally;
+    const kz_sheet *sheet;
 } kz_lent;
 
-/* All memory for a table of KZ_MAX_ROWS rows, all zeros at first: see kz_lend. */
+/* All memory for a table of KZ_MAX_ROWS rows but for a sheet, all zeros at first: see kz_lend. */
 typedef struct kz_part {
     kz_cap table[KZ_MAX_ROWS];
     kz_tally tally;
@@ -135,8 +173,9 @@ typedef struct kz_part {
 /*
  * One event. What a kind lacks is 0 where an event is read, and not looked at where one is given:
  *
- *   KZ_CREATE    start length right        a new root, freshly allocated: ends every capability that
- *                                          is touched, of whatever kind, and its subtree
+ *   KZ_CREATE    start length right        a new root, freshly allocated, as a write through it would
+ *                                          be: ends every capability that is touched, of whatever kind,
+ *                                          and its subtree
  *   KZ_BORROW    name start length right   a new capability of kind `cap_kind` under a live one; takes
  *                cap_kind                  nothing away
  *   KZ_READ      name start length         lowers to read-only every capability that it strikes, and
@@ -146,7 +185,10 @@ typedef struct kz_part {
  *   KZ_DROP_ALL  start length              ends several, which stand in a list of names beside the
  *                                          event: `length` names, from the place `start` on
  *
- * A read or write strikes what is touched and is neither its user nor an ancestor of its user, except:
+ * A read or write strikes what is touched and is neither its user nor an ancestor of its user. What it
+ * then does is said here by the default sheet. Another says for each combination whether what is struck
+ * stays, is lowered or ends, and a create is a stranger's write. By the default sheet there are two
+ * exceptions:
  *
  *   - No read strikes a raw capability, and no write does whose user is the raw one's parent or below
  *     that parent. So a raw one, its parent, and others borrowed from that parent are used in turn.
@@ -183,8 +225,14 @@ typedef struct kz_answer {
     uint32_t value;   /* as each call says */
 } kz_answer;
 
-/* The whole of a part, lent. */
+/* The whole of a part, lent with the default sheet. Set `sheet` of what is returned to use another. */
 static inline kz_lent kz_lend(kz_part *part);
+
+/*
+ * The place of a combination in a sheet: a kind of capability, KZ_READ or KZ_WRITE, and KZ_FROM_CELL to
+ * KZ_FROM_STRANGER. A number above these counts as the last of its list, so the place is always inside.
+ */
+static inline size_t kz_sheet_place(uint32_t kind, uint32_t access, uint32_t from);
 
 /*
  * One event. The names of a KZ_DROP_ALL cannot be given here: it is refused KZ_MISGROUPED, and
@@ -309,9 +357,36 @@ static inline kz_answer kz_write_listing(const kz_lent *lent, uint8_t *out, size
 static inline kz_answer kz_read_listing(const kz_lent *lent, const uint8_t *text, size_t text_len);
 
 /*
+ * Reads the text of a conflict sheet: lines such as
+ *
+ *   (rule (holder raw cell) (access write) (from kin) keep)
+ *
+ * each ended by a newline, with one space between words. Holders are `reference`, `raw` and `cell`;
+ * accesses `read` and `write`; from `cell`, `kin` and `stranger`; results `keep`, `lower` and `end`.
+ * The brackets stand in this order, and each lists one word or more, in any order. A rule gives its
+ * result to every combination of its words, and every combination must be given exactly once in the
+ * whole text.
+ *
+ * Allowed: the value is 0, and `sheet` gets the sheet.
+ * Refused, over the whole text: KZ_MISSPELT where a line is not of this form, as an empty line or a
+ * last one without its newline; else KZ_GIVEN_TWICE, as by a word that is repeated in a bracket; else
+ * KZ_NOT_GIVEN, as by an empty text. `sheet` is untouched.
+ */
+static inline kz_answer kz_read_sheet(const uint8_t *text, size_t text_len, kz_sheet *sheet);
+
+/*
+ * Writes one text of a sheet, NULL for the default one, to the start of `out`; the bytes after it stay.
+ * It has a line for each combination, by rising place, and reads back to the sheet.
+ *
+ * Allowed: the value is the length written, at most KZ_MAX_SHEET.
+ * Refused: KZ_BUFFER_TOO_SHORT. `out` is untouched.
+ */
+static inline kz_answer kz_write_sheet(const kz_sheet *sheet, uint8_t *out, size_t out_len);
+
+/*
  * Writes what the program capcheck prints for an input to the start of `out`; the bytes after it
- * stay. That is `(allowed LINES)` or `(refused NUMBER LINE)` for a run on KZ_MAX_ROWS empty rows, and
- * the listing after it, or `(long)` alone for an input above KZ_MAX_INPUT bytes.
+ * stay. That is `(allowed LINES)` or `(refused NUMBER LINE)` for a run on KZ_MAX_ROWS empty rows by the
+ * default sheet, and the listing after it, or `(long)` alone for an input above KZ_MAX_INPUT bytes.
  *
  * Allowed: the value is the length written, whatever the run's own verdict.
  * Refused: KZ_BUFFER_TOO_SHORT. `out` is untouched.
@@ -322,28 +397,32 @@ static inline kz_answer kz_check(const uint8_t *input, size_t input_len, uint8_t
 /*
  * The functions that the archives export. The calls above are made of these, which have the parts of
  * a kz_lent one by one. A language that cannot include this header declares them itself: each of their
- * structs is a run of 32-bit words without gaps, and each length is a size_t. An answer is one number,
- * the refusal times 2^32 plus the value; only kz_abi_apply_all writes kz_answer structs.
+ * structs is a run of 32-bit words without gaps, and each length is a size_t. A sheet is its bytes and
+ * how many they are: none is the default one, and of fewer than KZ_SHEET_PLACES the missing ones count
+ * as KZ_END. An answer is one number, the refusal times 2^32 plus the value; only kz_abi_apply_all
+ * writes kz_answer structs.
  */
 
 /* Both archives. */
 
 /* kz_apply; for a KZ_DROP_ALL `names` is the list in which its names stand. */
-uint64_t kz_abi_apply(kz_cap *table, size_t rows, kz_tally *tally, const kz_event *event,
-                      const uint32_t *names, size_t names_len);
+uint64_t kz_abi_apply(kz_cap *table, size_t rows, kz_tally *tally, const uint8_t *sheet,
+                      size_t sheet_len, const kz_event *event, const uint32_t *names,
+                      size_t names_len);
 
 /*
  * kz_apply_all of as many events as there are answers for, or of all where there are more answers;
  * those behind stay. It returns how many events it took.
  */
-size_t kz_abi_apply_all(kz_cap *table, size_t rows, kz_tally *tally, const kz_event *events,
-                        size_t count, const uint32_t *names, size_t names_len, kz_answer *answers,
+size_t kz_abi_apply_all(kz_cap *table, size_t rows, kz_tally *tally, const uint8_t *sheet,
+                        size_t sheet_len, const kz_event *events, size_t count,
+                        const uint32_t *names, size_t names_len, kz_answer *answers,
                         size_t answers_len);
 
 /* libkelzoud.a alone. */
 
-uint64_t kz_abi_run(kz_cap *table, size_t rows, kz_tally *tally, const uint8_t *text,
-                    size_t text_len);
+uint64_t kz_abi_run(kz_cap *table, size_t rows, kz_tally *tally, const uint8_t *sheet,
+                    size_t sheet_len, const uint8_t *text, size_t text_len);
 
 uint64_t kz_abi_write_event(const kz_event *event, const uint32_t *names, size_t names_len,
                             uint8_t *out, size_t out_len);
@@ -358,6 +437,10 @@ uint64_t kz_abi_write_listing(const kz_cap *table, size_t rows, uint32_t issued,
 uint64_t kz_abi_read_listing(kz_cap *table, size_t rows, kz_tally *tally, const uint8_t *text,
                              size_t text_len);
 
+uint64_t kz_abi_read_sheet(const uint8_t *text, size_t text_len, uint8_t sheet[18]);
+
+uint64_t kz_abi_write_sheet(const uint8_t *sheet, size_t sheet_len, uint8_t *out, size_t out_len);
+
 uint64_t kz_abi_check(const uint8_t *input, size_t input_len, uint8_t *out, size_t out_len);
 
 /* The bodies of the calls. */
@@ -368,18 +451,34 @@ static inline kz_answer kz_abi_answer(uint64_t answer) {
 }
 
 static inline kz_lent kz_lend(kz_part *part) {
-    const kz_lent lent = {part->table, KZ_MAX_ROWS, &part->tally};
+    const kz_lent lent = {part->table, KZ_MAX_ROWS, &part->tally, NULL};
     return lent;
 }
 
+static inline size_t kz_sheet_place(uint32_t kind, uint32_t access, uint32_t from) {
+    return (kind < 2 ? kind : 2) * (size_t)6 + (access == KZ_READ ? 0 : 3) + (from < 2 ? from : 2);
+}
+
+/* The bytes of a sheet, and how many they are. */
+static inline const uint8_t *kz_abi_results(const kz_sheet *sheet) {
+    return sheet == NULL ? NULL : sheet->results;
+}
+
+static inline size_t kz_abi_places(const kz_sheet *sheet) {
+    return sheet == NULL ? 0 : KZ_SHEET_PLACES;
+}
+
 static inline kz_answer kz_apply(const kz_lent *lent, const kz_event *event) {
-    return kz_abi_answer(kz_abi_apply(lent->table, lent->rows, lent->tally, event, NULL, 0));
+    return kz_abi_answer(kz_abi_apply(lent->table, lent->rows, lent->tally,
+                                      kz_abi_results(lent->sheet), kz_abi_places(lent->sheet),
+                                      event, NULL, 0));
 }
 
 static inline size_t kz_apply_all(const kz_lent *lent, const kz_event *events, size_t count,
                                   const uint32_t *names, size_t names_len, kz_answer *answers) {
-    return kz_abi_apply_all(lent->table, lent->rows, lent->tally, events, count, names, names_len,
-                            answers, count);
+    return kz_abi_apply_all(lent->table, lent->rows, lent->tally, kz_abi_results(lent->sheet),
+                            kz_abi_places(lent->sheet), events, count, names, names_len, answers,
+                            count);
 }
 
 static inline kz_answer kz_create(const kz_lent *lent, uint32_t start, uint32_t length,
@@ -421,12 +520,15 @@ static inline kz_answer kz_drop_all(const kz_lent *lent, const uint32_t *names, 
        can say, one name more than that is enough to be refused. */
     const size_t length = count <= KZ_MAX_GROUP ? count : KZ_MAX_GROUP + 1;
     const kz_event event = {KZ_DROP_ALL, 0, 0, (uint32_t)length, 0, 0, 0, 0};
-    return kz_abi_answer(
-        kz_abi_apply(lent->table, lent->rows, lent->tally, &event, names, length));
+    return kz_abi_answer(kz_abi_apply(lent->table, lent->rows, lent->tally,
+                                      kz_abi_results(lent->sheet), kz_abi_places(lent->sheet),
+                                      &event, names, length));
 }
 
 static inline kz_answer kz_run(const kz_lent *lent, const uint8_t *text, size_t text_len) {
-    return kz_abi_answer(kz_abi_run(lent->table, lent->rows, lent->tally, text, text_len));
+    return kz_abi_answer(kz_abi_run(lent->table, lent->rows, lent->tally,
+                                    kz_abi_results(lent->sheet), kz_abi_places(lent->sheet), text,
+                                    text_len));
 }
 
 static inline kz_answer kz_write_event(const kz_event *event, const uint32_t *names,
@@ -447,6 +549,15 @@ static inline kz_answer kz_write_listing(const kz_lent *lent, uint8_t *out, size
 static inline kz_answer kz_read_listing(const kz_lent *lent, const uint8_t *text, size_t text_len) {
     return kz_abi_answer(
         kz_abi_read_listing(lent->table, lent->rows, lent->tally, text, text_len));
+}
+
+static inline kz_answer kz_read_sheet(const uint8_t *text, size_t text_len, kz_sheet *sheet) {
+    return kz_abi_answer(kz_abi_read_sheet(text, text_len, sheet->results));
+}
+
+static inline kz_answer kz_write_sheet(const kz_sheet *sheet, uint8_t *out, size_t out_len) {
+    return kz_abi_answer(
+        kz_abi_write_sheet(kz_abi_results(sheet), kz_abi_places(sheet), out, out_len));
 }
 
 static inline kz_answer kz_check(const uint8_t *input, size_t input_len, uint8_t *out,

@@ -1,10 +1,13 @@
-// Document 01's traces and examples of refusals, and card 1's, run and printed. The file `stdout` beside src/ has what the papers say
+// Document 01's traces and examples of refusals, and those of cards 1 and 7, run and printed. The file `stdout` beside src/ has what the papers say
 // of them.
 use libc::STDOUT_FILENO;
 use listing::reading;
 use model::Tally;
+use sheet::read::SheetRead;
+use sheet::read::read_sheet;
 use table::Row;
 use table::WIDTH;
+use table::sheets::card6;
 use trace::run;
 use trace::run::RunAnswer;
 
@@ -41,7 +44,8 @@ fn print_answer(answer: RunAnswer) {
 
 // Runs a trace on a table, and prints the refusal, 0 where every line is allowed, and the number of lines or the line.
 fn run_on(table: &mut [Row], issued: u32, input: &[u8]) {
-    let ran = run::run_lent(table, issued_so_far(issued), input);
+    let sheet = card6();
+    let ran = run::run_lent(table, issued_so_far(issued), &sheet, input);
     let answer = ran.answer;
     print_answer(answer);
 }
@@ -74,12 +78,45 @@ fn last_name() {
     let mut table = [[0u32; WIDTH]; 1024];
     let mut tally = [0u32; 7];
     reading::read_listing(b"(issued 999999)\n", &mut table, &mut tally);
+    let sheet = card6();
     let answer = run::run(
         &mut table,
         &mut tally,
+        &sheet,
         b"(create 0 8 rw)\n(create 0 8 rw)\n",
     );
     print_answer(answer);
+}
+
+// Reads a sheet over card 6's, and prints the refusal, 0 where it is one, and then the answer to a trace by the sheet that is left.
+fn run_by(text: &[u8], input: &[u8]) {
+    let mut sheet = card6();
+    let read = read_sheet(text, &mut sheet);
+    match read {
+        SheetRead::Sheet => print_numbers(0, 0),
+        SheetRead::Refused(refusal) => print_numbers(trace::number_of(refusal), 0),
+    }
+    let mut table = [[0u32; WIDTH]; 1024];
+    let ran = run::run_lent(&mut table, issued_so_far(0), &sheet, input);
+    let answer = ran.answer;
+    print_answer(answer);
+}
+
+// Card 7: a sheet by which only strangers' writes end anything, and texts that are refused 2, 14 and 15.
+fn sheets() {
+    run_by(
+        b"(rule (holder reference raw cell) (access read write) (from cell kin) keep)\n(rule (holder cell raw reference) (access read) (from stranger) keep)\n(rule (holder raw reference cell) (access write) (from stranger) end)\n",
+        b"(create 0 64 rw)\n(borrow 1 0 8 rw)\n(write 1 0 8)\n(write 2 0 8)\n(create 0 64 rw)\n(read 2 0 8)\n",
+    );
+    run_by(
+        b"(rule (holder raw raw) (access write) (from kin) keep)\n(rule (holder) (access write) (from kin) keep)\n",
+        b"(create 0 64 rw)\n(borrow 1 0 8 rw)\n(write 1 0 8)\n(write 2 0 8)\n",
+    );
+    run_by(
+        b"(rule (holder raw raw) (access write) (from kin) keep)\n",
+        b"",
+    );
+    run_by(b"(rule (holder raw) (access write) (from kin) keep)\n", b"");
 }
 
 fn traces() {
@@ -159,4 +196,5 @@ fn main() {
     few_rows();
     refusals();
     last_name();
+    sheets();
 }
