@@ -21,6 +21,5 @@ pub use Rattle.model.proofs.Order.{Ordered, Rises, access-inOrder, acce
 pub use Rattle.model.proofs.Origins.{later-off, nearest-cell, nearest-on, on-line}
 pub use Rattle.model.proofs.Precedence.{first-holds, first-lowest, given-first, given-holds, risesFrom}
 pub use Rattle.model.proofs.Rows.{emptyRow-empty, lent-live, lent-new, lookup-each, no-ancestry, struck-step}
-pub use Rattle.model.proofs.Sheet6.{cells-spare-all, kin-spare-raw, reads-end-none, reads-spare-raw, strangers-end}
 pub use Rattle.model.proofs.Strikes.{root-has-no-kin}
 pub use Rattle.model.proofs.Together.{group-none, misgrouped-next, name-passed, name-refused}

@@ -80,39 +80,6 @@ words-access a u s rows = λ k.
     revoke (λ x. onAncestry (λ holder. isEnd (words a s (ancestry (derivations rows) u) holder k)) (ancestry (derivations rows) x))
     (λ x. onAncestry (λ holder. isLower (words a s (ancestry (derivations rows) u) holder k)) (ancestry (derivations rows) x)) rows
 
--- ---- one result at a time, for the proofs of the code
-
-pub reads-spare-raw : (kind : ℕ) (o : Origin) → resultOf sheet6 kind Reading o ≡ cond (eqb kind 1) Keep Lower
-reads-spare-raw zero o = alike Lower o
-reads-spare-raw (suc zero) o = alike Keep o
-reads-spare-raw (suc (suc k)) o = rw (alike Lower o, above-one k)
-
-pub cells-spare-all : (kind : ℕ) → resultOf sheet6 kind Writing Cell ≡ Keep
-cells-spare-all zero = refl
-cells-spare-all (suc zero) = refl
-cells-spare-all (suc (suc k)) = refl
-
-pub kin-spare-raw : (kind : ℕ) → resultOf sheet6 kind Writing Kin ≡ cond (eqb kind 1) Keep End
-kin-spare-raw zero = refl
-kin-spare-raw (suc zero) = refl
-kin-spare-raw (suc (suc k)) = rw (above-one k)
-
-pub strangers-end : (kind : ℕ) → resultOf sheet6 kind Writing Stranger ≡ End
-strangers-end zero = refl
-strangers-end (suc zero) = refl
-strangers-end (suc (suc k)) = refl
-
--- No read ends anything.
-pub reads-end-none : (s : Span) (user x : List Derivation) → isEnd (strike sheet6 Reading s user x) ≡ false
-unfolding strike
-reads-end-none s user [] = refl
-reads-end-none s user (d ∷ above) = go (touches s (d .span) && not (inSubtree (d .name) user)) (eqb (d .kind) 1) (reads-spare-raw (d .kind) (origin user d above))
-  where
-    go : (strikes raw : Bool) → {e : Effect} → e ≡ cond raw Keep Lower → isEnd (cond strikes e Keep) ≡ false
-    go true true h = rw h
-    go true false h = rw h
-    go false raw h = refl
-
 -- ---- references alone
 
 abbrev References : List Derivation → Type 0
