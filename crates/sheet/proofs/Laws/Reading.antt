@@ -4,12 +4,13 @@ use mathlib.Core.Path.{_≡_, refl, sym, ap, _∙_}
 use mathlib.Core.Logic.{_⊎_, inl, inr}
 use mathlib.Core.Bool.{Bool, true, false, cond}
 use mathlib.Core.List.{List, [], _∷_, flatMap}
-use Prim.Native.Nat.{ℕ, suc, _+_, _-_, _≤_, _<_, min}
+use Prim.Native.Nat.{ℕ, _+_, _-_, _≤_, _<_, min}
 use native.Mathlib.Omega.{arith}
 use lib.Dec.{eqb, ltb}
 use lib.ListN.{length, getD, set, take, drop, replicate, length-drop, length-set, getD-replicate, drop-of-length-le}
 use lib.Seq.{take-all, length-take-le, drop-drop, getD-set-same, getD-set-other}
-use borrow.Author.Tests.{ltb-true, ltb-false, eq-eqb, ne-eqb, eqb-true, eqb-false}
+use borrow.Author.Tests.{ltb-true, ltb-false, eq-eqb, eqb-true, eqb-false}
+use Rattle.model.specs.Lists.{filter, consIf}
 use Rattle.model.proofs.Offered.{test, unless, clash}
 use Rattle.text.specs.Class.{classOf, space}
 use Rattle.text.specs.Event.{bytes}
@@ -127,13 +128,13 @@ module _ (own : List (List ℕ)) (short : length own ≤ 3) (w : List ℕ) (word
 
 -- ---- a bracket, word by word
 
-times-same : (n : ℕ) (l : List ℕ) → times n (n ∷ l) ≡ suc (times n l)
+pub times-first : (n x : ℕ) (l : List ℕ) → times n (x ∷ l) ≡ cond (eqb n x) 1 0 + times n l
 unfolding times
-times-same n l = rw (eq-eqb n n refl)
-
-times-other : (n k : ℕ) (l : List ℕ) → (n ≡ k → ⊥) → times n (k ∷ l) ≡ times n l
-unfolding times
-times-other n k l h = rw (ne-eqb n k h)
+times-first n x l = go (eqb n x)
+  where
+    go : (b : Bool) → length (consIf b x (filter (eqb n) l)) ≡ cond b 1 0 + length (filter (eqb n) l)
+    go true = omega arith
+    go false = omega arith
 
 -- what is counted, with what is listed from here on, is what a bracket lists
 pub record Goes (whole : Listed) (counts : List ℕ) (left : Listed) : Type 0 where
@@ -170,8 +171,8 @@ module _ (whole : Listed) (counts : List ℕ) where
       small-at n l (inr f) = rw (getD-set-other counts k n more 0 (eqb-false n k f)) (g .small n l)
 
       each-at : (n : ℕ) → n < 3 → (eqb n k ≡ true) ⊎ (eqb n k ≡ false) → min (times n (whole .numbers)) 2 ≡ min (getD (set counts k more) n 0 + times n numbers) 2
-      each-at n l (inl t) = rw (eqb-true n k t, there) (omega (arith, g .each k low, times-same k numbers))
-      each-at n l (inr f) = rw (getD-set-other counts k n more 0 (eqb-false n k f)) (omega (arith, g .each n l, times-other n k numbers (eqb-false n k f)))
+      each-at n l (inl t) = rw (eqb-true n k t, there) (omega (arith, g .each k low, rw (eq-eqb k k refl) at (times-first k k numbers)))
+      each-at n l (inr f) = rw (getD-set-other counts k n more 0 (eqb-false n k f)) (omega (arith, g .each n l, rw f at (times-first n k numbers)))
 
   goes-end : (rest : List (List ℕ)) → Goes whole counts (listedOf [] rest) → Counts (whole .numbers) counts
   unfolding times
