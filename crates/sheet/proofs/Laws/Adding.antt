@@ -16,12 +16,12 @@ use Rattle.model.specs.Lists.{any, all, first}
 use Rattle.model.proofs.Offered.{test, clash, and-both}
 use Rattle.text.specs.Class.{newline}
 use Rattle.text.specs.Line.{nextPart}
+use Rattle.text.proofs.Offered.{parts-end, part-then}
 use Rattle.sheet.specs.declared.rule.Counted.{Counted}
 use Rattle.sheet.specs.Rule.{Rule, isRule, readRule}
 use Rattle.sheet.specs.Rules.{places, holderAt, accessAt, originAt, times, givenBy, given, resultGiven, judgeRules, bytesGiven}
 use Rattle.sheet.specs.ReadSheet.{rulesIn, judgeText, sheetInto}
 use Rattle.sheet.specs.Reading.{Counting, countsAt, Ready, Adds, Noted, ReadsLines}
-use Rattle.sheet.proofs.Laws.Reading.{parts-end, part-then}
 
 -- ---- the 18 places
 
