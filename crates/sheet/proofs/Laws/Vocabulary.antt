@@ -85,7 +85,7 @@ result-back (suc (suc (suc n))) h = absurd (omega arith)
 
 -- ---- no newline in a word
 
--- a text that is a line by itself is one with this in front of it
+-- a text that is a line by itself, whatever follows, is so with this in front of it too
 abbrev pub Plain : List ℕ → Type 0
 Plain w = (e : List ℕ) → Ends e → Ends (w ++ e)
 
