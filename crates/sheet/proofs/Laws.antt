@@ -1,5 +1,6 @@
 pub mod Reading
 pub mod Adding
+pub mod Rules
 pub mod Writing
 pub mod Vocabulary
 pub mod OneSpelling

@@ -2,7 +2,7 @@
 -- Assumes nothing.
 use Prim.Native.Nat.{ℕ, _+_, _*_, _/_, _%_}
 use mathlib.Core.Bool.{Bool, not, cond}
-use mathlib.Core.List.{List, [], _∷_, map}
+use mathlib.Core.List.{List, [], _∷_, map, flatMap}
 use lib.Dec.{eqb, ltb}
 use lib.ListN.{length}
 use Rattle.model.specs.Lists.{filter, any, first}
@@ -46,3 +46,9 @@ resultGiven (r ∷ rules) place = cond (eqb (givenBy r place) 0) (resultGiven ru
 -- the sheet as 18 bytes
 abbrev pub bytesGiven : List Rule → List ℕ
 bytesGiven rules = map (resultGiven rules) places
+
+-- ---- the same worded again, with no product: the places of all combinations that a rule gives, one for each holder, each access and each
+-- origin that it lists. A combination is given as often as its place is among those of all rules (proofs/Laws/Rules).
+
+unfoldable pub combinations : Rule → List ℕ
+combinations r = flatMap (λ h. flatMap (λ a. map (λ o. h * 6 + a * 3 + o) (r .origins)) (r .accesses)) (r .holders)

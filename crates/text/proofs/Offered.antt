@@ -4,11 +4,11 @@ pub use Rattle.text.proofs.Laws.Digits.{decimal-under, decimal-width, d
 unfoldable pub use Rattle.text.proofs.Laws.Digits.{digits}
 pub use Rattle.text.proofs.Laws.Group.{group-few, names-after}
 pub use Rattle.text.proofs.Laws.GroupLine.{group-is-line, group-is-no-event, group-reads-back, read-group-is-spelling, refused-group-is-2}
-pub use Rattle.text.proofs.Laws.Line.{part-some, parts-next, through-le}
+pub use Rattle.text.proofs.Laws.Line.{part-inside, part-longer, part-some, part-then, parts-end, parts-next, parts-together, through-le}
 pub use Rattle.text.proofs.Laws.Number.{Stops, digit-class, digit-small, number-of-small}
-pub use Rattle.text.proofs.Laws.OneLine.{header-is-no-event, spell-is-line}
+pub use Rattle.text.proofs.Laws.OneLine.{Ends, header-is-no-event, spell-is-line}
 pub use Rattle.text.proofs.Laws.OneSpelling.{spelling-reads-back}
-pub use Rattle.text.proofs.Laws.Put.{put-length, put-next, sets-first}
+pub use Rattle.text.proofs.Laws.Put.{put-length, put-next, put-two, sets-first}
 pub use Rattle.text.proofs.Laws.Range.{kind-short, right-length}
 pub use Rattle.text.proofs.Laws.Read.{same-is, same-refl, same-true}
 pub use Rattle.text.proofs.Laws.Words.{kind-back, kinds, next, number-is, plain-decimal, right-back, right-stops, rights}

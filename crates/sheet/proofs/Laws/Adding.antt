@@ -16,12 +16,12 @@ use Rattle.model.specs.Lists.{any, all, first}
 use Rattle.model.proofs.Offered.{test, clash, and-both}
 use Rattle.text.specs.Class.{newline}
 use Rattle.text.specs.Line.{nextPart}
+use Rattle.text.proofs.Offered.{parts-end, part-then}
 use Rattle.sheet.specs.declared.rule.Counted.{Counted}
 use Rattle.sheet.specs.Rule.{Rule, isRule, readRule}
 use Rattle.sheet.specs.Rules.{places, holderAt, accessAt, originAt, times, givenBy, given, resultGiven, judgeRules, bytesGiven}
 use Rattle.sheet.specs.ReadSheet.{rulesIn, judgeText, sheetInto}
 use Rattle.sheet.specs.Reading.{Counting, countsAt, Ready, Adds, Noted, ReadsLines}
-use Rattle.sheet.proofs.Laws.Reading.{parts-end, part-then}
 
 -- ---- the 18 places
 
@@ -35,7 +35,7 @@ each-below f zero h p l = absurd (omega arith)
 each-below f (suc n) h zero l = and-both (f zero) (allBelow (λ k. f (suc k)) n) h .0
 each-below f (suc n) h (suc p) l = each-below (λ k. f (suc k)) n (and-both (f zero) (allBelow (λ k. f (suc k)) n) h .1) p (omega arith)
 
-place-at : (p : ℕ) → p < 18 → getD places p 0 ≡ p
+pub place-at : (p : ℕ) → p < 18 → getD places p 0 ≡ p
 place-at p l = eqb-true (getD places p 0) p (each-below (λ k. eqb (getD places k 0) k) 18 refl p l)
 
 module _ (f : ℕ → Bool) (p : ℕ) (is : any f (drop p places) ≡ any f places) where
@@ -281,10 +281,14 @@ any-same f g h =
       h 17 (omega arith),
     )
 
-map-within : (f : ℕ → ℕ) (l : List ℕ) (p : ℕ) → p < length l → getD (map f l) p 0 ≡ f (getD l p 0)
-map-within f [] p h = absurd (omega arith)
-map-within f (x ∷ l) zero h = refl
-map-within f (x ∷ l) (suc p) h = map-within f l p (omega arith)
+map-within : (f : ℕ → ℕ) (l : List ℕ) (p d : ℕ) → p < length l → getD (map f l) p d ≡ f (getD l p 0)
+map-within f [] p d h = absurd (omega arith)
+map-within f (x ∷ l) zero d h = refl
+map-within f (x ∷ l) (suc p) d h = map-within f l p d (omega arith)
+
+-- the byte at a place is the result given there
+pub byte-at : (rules : List Rule) (p d : ℕ) → p < 18 → getD (bytesGiven rules) p d ≡ resultGiven rules p
+byte-at rules p d l = map-within (resultGiven rules) places p d l ∙ ap (resultGiven rules) (place-at p l)
 
 pub sheet-misspelt : (text lent : List ℕ) → false ≡ all isRule (rulesIn text) → (2 ≡ judgeText text) × (lent ≡ sheetInto text lent)
 unfolding judgeRules sheetInto
@@ -326,4 +330,4 @@ module _ (text lent seen results : List ℕ) (rules : true ≡ all isRule (rules
     )
       where
         at : (p : ℕ) → p < 18 → getD results p 0 ≡ getD (bytesGiven (rulesIn text)) p 0
-        at p l = noted .results-each p l ∙ sym (map-within (resultGiven (rulesIn text)) places p l ∙ ap (resultGiven (rulesIn text)) (place-at p l))
+        at p l = noted .results-each p l ∙ sym (byte-at (rulesIn text) p 0 l)

@@ -7,6 +7,7 @@ use Prim.Native.String.{String}
 use lib.ListN.{replicate}
 use Rattle.model.specs.Sheet6.{sheet6}
 use Rattle.table.specs.Sheets.{bytes6, sheetIn}
+use Rattle.table.proofs.Offered.{bytes6-is}
 use Rattle.text.specs.Class.{classOf}
 use Rattle.text.specs.Event.{bytes}
 use Rattle.text.specs.Line.{push, partsOf}
@@ -35,13 +36,9 @@ pub card6-bytes : bytesGiven (rulesIn card6Text) ≡ bytes6
 unfolding partsOf push classOf readRule behind listed numberAmong same flatMap resultGiven givenBy times
 card6-bytes = refl
 
-bytes6-are : sheetIn bytes6 ≡ sheet6
-unfolding sheetIn
-bytes6-are = refl
-
 -- so it is card 6's sheet
 pub card6-sheet : sheetIn (bytesGiven (rulesIn card6Text)) ≡ sheet6
-card6-sheet = ap sheetIn card6-bytes ∙ bytes6-are
+card6-sheet = ap sheetIn card6-bytes ∙ bytes6-is
 
 -- ---- a line
 

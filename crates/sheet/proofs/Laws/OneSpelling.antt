@@ -6,7 +6,7 @@ use mathlib.Core.Bool.{Bool, true, false, cond}
 use mathlib.Core.List.{List, [], _∷_, _++_, append-assoc, append-nil, flatMap}
 use Prim.Native.Nat.{ℕ, suc, _<_}
 use native.Mathlib.Omega.{arith}
-use lib.Dec.{ltb, eqb}
+use lib.Dec.{ltb}
 use lib.ListN.{length}
 use borrow.Author.Tests.{ltb-true, lt-ltb, le-ltb}
 use Rattle.model.proofs.Offered.{clash}
@@ -14,10 +14,10 @@ use Rattle.text.specs.Class.{classOf, space}
 use Rattle.text.specs.Event.{bytes}
 use Rattle.text.specs.Line.{push, partsOf, wordsOf, linesOf}
 use Rattle.text.specs.Read.{same}
-use Rattle.text.proofs.Offered.{same-true, same-refl}
+use Rattle.text.proofs.Offered.{Ends, parts-together, same-true, same-refl}
 use Rattle.sheet.specs.Words.{holderWords, accessWords, originWords, resultWords, inside, closing, ending, numberAmong}
 use Rattle.sheet.specs.Rule.{Rule, Listed, behind, listed, listedOf, resultOf, ruleOf, readRule, isRule, wordAt, spellWords, spellRule, Below, Spelled}
-use Rattle.sheet.proofs.Laws.Vocabulary.{ended-is, Vocabulary, holders-known, accesses-known, origins-known, result-back, Ends, Plain, holder-plain, access-plain, origin-plain, result-plain}
+use Rattle.sheet.proofs.Laws.Vocabulary.{ended-is, Vocabulary, holders-known, accesses-known, origins-known, result-back, Plain, holder-plain, access-plain, origin-plain, result-plain}
 
 -- ---- the line of a rule, its pieces one behind the other
 
@@ -65,23 +65,9 @@ bracket-back own known o cut [] b h t = clash h refl
 bracket-back own known o cut (n ∷ ns) b h t =
     rw (cut ((wordAt own n ++ spellWords own ns) ++ (bytes ") " ++ t)), same-refl (o ++ bytes " ")) (listed-back own known n ns b t)
 
--- the words of a text, together, are the text
+-- words, together
 abbrev flat : List (List ℕ) → List ℕ
 flat words = flatMap (λ (w : List ℕ). w) words
-
-flat-push : (b : ℕ) (words : List (List ℕ)) → flat (push b words) ≡ b ∷ flat words
-unfolding push flatMap
-flat-push b [] = refl
-flat-push b (w ∷ words) = refl
-
-flat-words : (s : List ℕ) → flat (wordsOf s) ≡ s
-unfolding partsOf flatMap
-flat-words [] = refl
-flat-words (b ∷ s) = go (eqb (classOf b) space) (flat-words s)
-  where
-    go : (t : Bool) → flat (wordsOf s) ≡ s → flat (cond t ((b ∷ []) ∷ wordsOf s) (push b (wordsOf s))) ≡ b ∷ s
-    go true e = ap (λ (l : List ℕ). b ∷ l) e
-    go false e = flat-push b (wordsOf s) ∙ ap (λ (l : List ℕ). b ∷ l) e
 
 -- a line's rule, bracket by bracket
 abbrev withOrigins : List ℕ → List ℕ → Listed → Rule
@@ -107,7 +93,7 @@ module _ (r : Rule) (s : Spelled r) where
   origins = bracket-back originWords origins-known (bytes "(from") (λ t. refl) (r .origins) (s .origins) (s .some-origin) (endOf r)
 
   result : resultOf (wordsOf (endOf r)) ≡ r .result
-  result = ap (numberAmong (ending resultWords)) (flat-words (endOf r)) ∙ result-back (r .result) (ltb-true (r .result) 3 (s .result))
+  result = ap (numberAmong (ending resultWords)) (parts-together space (endOf r)) ∙ result-back (r .result) (ltb-true (r .result) 3 (s .result))
 
   pub rule-reads-back : readRule (spellRule r) ≡ r
   unfolding readRule
@@ -237,7 +223,7 @@ module _ (line : List ℕ) where
       let ss = spellWords holderWords (holdersIn .numbers) in
       let xs = spellWords accessWords (accessesIn .numbers) in
       let os = spellWords originWords (originsIn .numbers) in (
-        sym (flat-words line) ∙ first .0 ∙ ap (λ (x : List ℕ). bytes "(rule " ++ x) (hs .text)
+        sym (parts-together space line) ∙ first .0 ∙ ap (λ (x : List ℕ). bytes "(rule " ++ x) (hs .text)
             ∙ ap (λ (x : List ℕ). bytes "(rule (holder" ++ (ss ++ (bytes ") " ++ x))) (a .text)
             ∙ ap (λ (x : List ℕ). bytes "(rule (holder" ++ (ss ++ (bytes ") (access" ++ (xs ++ (bytes ") " ++ x))))) (o .text)
             ∙ ap (λ (x : List ℕ). bytes "(rule (holder" ++ (ss ++ (bytes ") (access" ++ (xs ++ (bytes ") (from" ++ (os ++ (bytes ") " ++ x))))))) last

@@ -3,19 +3,20 @@
 use mathlib.Core.Path.{_≡_, refl, sym, ap, _∙_}
 use mathlib.Core.Logic.{_⊎_, inl, inr}
 use mathlib.Core.Bool.{Bool, true, false, cond}
-use mathlib.Core.List.{List, [], _∷_, flatMap}
-use Prim.Native.Nat.{ℕ, suc, _+_, _-_, _≤_, _<_, min}
+use mathlib.Core.List.{List, [], _∷_}
+use Prim.Native.Nat.{ℕ, _+_, _-_, _≤_, _<_, min}
 use native.Mathlib.Omega.{arith}
 use lib.Dec.{eqb, ltb}
-use lib.ListN.{length, getD, set, take, drop, replicate, length-drop, length-set, getD-replicate, drop-of-length-le}
-use lib.Seq.{take-all, length-take-le, drop-drop, getD-set-same, getD-set-other}
-use borrow.Author.Tests.{ltb-true, ltb-false, eq-eqb, ne-eqb, eqb-true, eqb-false}
+use lib.ListN.{length, getD, set, take, drop, replicate, length-drop, length-set, getD-replicate}
+use lib.Seq.{take-all, getD-set-same, getD-set-other}
+use borrow.Author.Tests.{ltb-true, ltb-false, eq-eqb, eqb-true, eqb-false}
+use Rattle.model.specs.Lists.{filter, consIf}
 use Rattle.model.proofs.Offered.{test, unless, clash}
-use Rattle.text.specs.Class.{classOf, space}
+use Rattle.text.specs.Class.{space}
 use Rattle.text.specs.Event.{bytes}
-use Rattle.text.specs.Line.{through, nextPart, push, partsOf}
+use Rattle.text.specs.Line.{nextPart}
 use Rattle.text.specs.Read.{same}
-use Rattle.text.proofs.Offered.{same-refl, same-true, parts-next, part-some, through-le}
+use Rattle.text.proofs.Offered.{same-refl, same-true, parts-end, part-inside, part-then, parts-together}
 use Rattle.sheet.specs.declared.words.Bracket.{Bracket}
 use Rattle.sheet.specs.declared.words.Bracket.the-variants.{Holder, Access, From}
 use Rattle.sheet.specs.declared.rule.Found.{Found}
@@ -35,35 +36,6 @@ passed {r} {s} {t} h e = rw (h .0 e) (same-refl t)
 
 pub failed : {r : Bool} {s t : List ℕ} → Tells r s t → r ≡ false → same s t ≡ false
 failed {r} {s} {t} h n = unless (same s t) (λ e. clash (h .1 (same-true s t e)) n)
-
--- ---- the parts of a text, from a place on
-
-pub parts-end : (class : ℕ) (s : List ℕ) (at : ℕ) → length s ≤ at → partsOf class (drop at s) ≡ []
-unfolding partsOf
-parts-end class s at e = rw (drop-of-length-le s e)
-
--- part is the next part of what is left of s from a place on
-module _ (class : ℕ) (s : List ℕ) (at : ℕ) (fits : at ≤ length s) (part : List ℕ) (is : part ≡ nextPart class (take (length s - at) (drop at s))) where
-  part-is : part ≡ nextPart class (drop at s)
-  part-is = is ∙ ap (nextPart class) (take-all (length s - at) (drop at s) (omega (arith, length-drop at s)))
-
-  part-length : length part ≡ through class (drop at s)
-  part-length = ap length part-is ∙ length-take-le (through class (drop at s)) (drop at s) (through-le class (drop at s))
-
-  pub part-inside : at + length part ≤ length s
-  part-inside = omega (arith, part-length, through-le class (drop at s), length-drop at s)
-
-  module _ (more : at < length s) where
-    left-some : 0 < length (drop at s)
-    left-some = omega (arith, length-drop at s)
-
-    pub part-longer : 0 < length part
-    part-longer = omega (arith, ap length part-is, part-some class (drop at s) left-some)
-
-    pub part-then : partsOf class (drop at s) ≡ part ∷ partsOf class (drop (at + length part) s)
-    part-then =
-        let rest-is : drop (through class (drop at s)) (drop at s) ≡ drop (at + length part) s = drop-drop (through class (drop at s)) at s ∙ ap (λ (k : ℕ). drop (at + k) s) (sym part-length) in
-        rw (parts-next class (drop at s) left-some, rest-is, part-is)
 
 -- ---- a word, and what is behind it
 
@@ -127,13 +99,13 @@ module _ (own : List (List ℕ)) (short : length own ≤ 3) (w : List ℕ) (word
 
 -- ---- a bracket, word by word
 
-times-same : (n : ℕ) (l : List ℕ) → times n (n ∷ l) ≡ suc (times n l)
+pub times-first : (n x : ℕ) (l : List ℕ) → times n (x ∷ l) ≡ cond (eqb n x) 1 0 + times n l
 unfolding times
-times-same n l = rw (eq-eqb n n refl)
-
-times-other : (n k : ℕ) (l : List ℕ) → (n ≡ k → ⊥) → times n (k ∷ l) ≡ times n l
-unfolding times
-times-other n k l h = rw (ne-eqb n k h)
+times-first n x l = go (eqb n x)
+  where
+    go : (b : Bool) → length (consIf b x (filter (eqb n) l)) ≡ cond b 1 0 + length (filter (eqb n) l)
+    go true = omega arith
+    go false = omega arith
 
 -- what is counted, with what is listed from here on, is what a bracket lists
 pub record Goes (whole : Listed) (counts : List ℕ) (left : Listed) : Type 0 where
@@ -170,8 +142,8 @@ module _ (whole : Listed) (counts : List ℕ) where
       small-at n l (inr f) = rw (getD-set-other counts k n more 0 (eqb-false n k f)) (g .small n l)
 
       each-at : (n : ℕ) → n < 3 → (eqb n k ≡ true) ⊎ (eqb n k ≡ false) → min (times n (whole .numbers)) 2 ≡ min (getD (set counts k more) n 0 + times n numbers) 2
-      each-at n l (inl t) = rw (eqb-true n k t, there) (omega (arith, g .each k low, times-same k numbers))
-      each-at n l (inr f) = rw (getD-set-other counts k n more 0 (eqb-false n k f)) (omega (arith, g .each n l, times-other n k numbers (eqb-false n k f)))
+      each-at n l (inl t) = rw (eqb-true n k t, there) (omega (arith, g .each k low, rw (eq-eqb k k refl) at (times-first k k numbers)))
+      each-at n l (inr f) = rw (getD-set-other counts k n more 0 (eqb-false n k f)) (omega (arith, g .each n l, rw f at (times-first n k numbers)))
 
   goes-end : (rest : List (List ℕ)) → Goes whole counts (listedOf [] rest) → Counts (whole .numbers) counts
   unfolding times
@@ -218,17 +190,6 @@ module _ (line : List ℕ) (start : ℕ) (own : List (List ℕ)) (counts : List 
         goes-one whole counts (listed own after .numbers) (listed own after .rest) code l now
 
 -- ---- a line
-
--- the parts of a text are, together, the text
-pub parts-together : (class : ℕ) (s : List ℕ) → flatMap (λ (w : List ℕ). w) (partsOf class s) ≡ s
-unfolding partsOf push flatMap
-parts-together class [] = refl
-parts-together class (b ∷ s) = go (eqb (classOf b) class) (partsOf class s) (parts-together class s)
-  where
-    go : (t : Bool) (parts : List (List ℕ)) → flatMap (λ (w : List ℕ). w) parts ≡ s → flatMap (λ (w : List ℕ). w) (cond t ((b ∷ []) ∷ parts) (push b parts)) ≡ b ∷ s
-    go true parts e = ap {B = List ℕ} (λ r. b ∷ r) e
-    go false [] e = ap {B = List ℕ} (λ r. b ∷ r) e
-    go false (l ∷ parts) e = ap {B = List ℕ} (λ r. b ∷ r) e
 
 pub bracket-read : (line : List ℕ) (start : ℕ) (opening : List ℕ) (own : List (List ℕ)) (at : ℕ) (r : Found) → Behind line start opening at → Lists line at own r → Brackets line start opening own r
 bracket-read line start opening own at r b l = record { fits = l .fits; numbers = rw (b .rest) at (l .numbers); rest = rw (b .rest) at (l .rest) }

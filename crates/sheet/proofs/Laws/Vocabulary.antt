@@ -8,9 +8,9 @@ use native.Mathlib.Omega.{arith}
 use lib.ListN.{length}
 use Rattle.text.specs.Class.{classOf}
 use Rattle.text.specs.Event.{bytes}
-use Rattle.text.specs.Line.{push, partsOf, wordsOf, linesOf}
+use Rattle.text.specs.Line.{push, partsOf, wordsOf}
 use Rattle.text.specs.Read.{same}
-use Rattle.text.proofs.Offered.{same-true}
+use Rattle.text.proofs.Offered.{Ends, same-true}
 use Rattle.sheet.specs.Words.{holderWords, accessWords, originWords, resultWords, inside, closing, ending, numberAmong}
 use Rattle.sheet.specs.Rule.{wordAt}
 
@@ -85,11 +85,7 @@ result-back (suc (suc (suc n))) h = absurd (omega arith)
 
 -- ---- no newline in a word
 
--- a text that is a line by itself, whatever follows
-abbrev pub Ends : List ℕ → Type 0
-Ends e = (t : List ℕ) → linesOf (e ++ t) ≡ e ∷ linesOf t
-
--- so is one with this in front of it
+-- a text that is a line by itself, whatever follows, is so with this in front of it too
 abbrev pub Plain : List ℕ → Type 0
 Plain w = (e : List ℕ) → Ends e → Ends (w ++ e)
 

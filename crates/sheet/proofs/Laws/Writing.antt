@@ -11,20 +11,12 @@ use Rattle.text.specs.Event.{bytes}
 use Rattle.text.specs.Put.{Put}
 use Rattle.text.specs.Write.{Writes, outcome}
 use Rattle.text.specs.declared.write.Written.{Written}
-use Rattle.text.proofs.Offered.{put-next, writes-put, wrote}
+use Rattle.text.proofs.Offered.{put-two, writes-put, wrote}
 use Rattle.sheet.specs.Words.{holderWords, accessWords, originWords, resultWords}
 use Rattle.sheet.specs.Rule.{wordAt, spellWords, spellRule}
 use Rattle.sheet.specs.Rules.{holderAt, accessAt, originAt}
 use Rattle.sheet.specs.Writing.{frontAt}
 use Rattle.sheet.specs.WriteSheet.{ruleWith, sheetText, writeSheet}
-
--- two pieces, one behind the other
-pub put-two : {a b out x y : List ℕ} {at p q : ℕ} → Put out at a x p → Put x p b y q → Put out at (a ++ b) y q
-put-two {a} {b} one two =
-    record {
-      moved = simp length-append (omega (arith, one .moved, two .moved));
-      stored = two .stored ∙ put-next one b;
-    }
 
 -- ---- the line of one combination
 

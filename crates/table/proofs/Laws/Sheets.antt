@@ -44,7 +44,7 @@ holder-other (suc (suc kind)) a b = refl
 
 -- ---- each combination has its place
 
-result-in : (bytes : List ℕ) (kind : ℕ) (a : Access) (from : Origin) → resultOf (sheetIn bytes) kind a from ≡ resultIn bytes (placeOf kind a from)
+pub result-in : (bytes : List ℕ) (kind : ℕ) (a : Access) (from : Origin) → resultOf (sheetIn bytes) kind a from ≡ resultIn bytes (placeOf kind a from)
 unfolding sheetIn
 result-in bytes zero Reading Cell = refl
 result-in bytes zero Reading Kin = refl

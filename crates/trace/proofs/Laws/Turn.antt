@@ -6,17 +6,16 @@ use mathlib.Core.List.{List}
 use Prim.Native.Nat.{ℕ, _+_, _-_, _≤_, _<_}
 use native.Mathlib.Omega.{arith}
 use lib.Dec.{eqb}
-use lib.ListN.{length, take, drop, length-drop, drop-of-length-le}
-use lib.Seq.{take-all, length-take-le, drop-drop}
+use lib.ListN.{length, take, drop}
 use Rattle.text.specs.Class.{newline}
-use Rattle.text.specs.Line.{through, nextLine, linesOf, partsOf}
+use Rattle.text.specs.Line.{nextLine, linesOf}
 use Rattle.text.specs.Read.{readEvent}
 use Rattle.text.specs.Group.{readGroup}
 use Rattle.model.specs.declared.Sheet.{Sheet}
 use Rattle.model.specs.Requests.{Request, Single, Group}
 use Rattle.text.specs.declared.spelling.Spelling.{Spelling}
 use Rattle.text.specs.Result.{Result, value, refused}
-use Rattle.text.proofs.Offered.{parts-next, part-some, through-le}
+use Rattle.text.proofs.Offered.{part-inside, part-longer, part-then, parts-end}
 use Rattle.model.specs.declared.Cap.{Cap}
 use Rattle.model.specs.declared.Event.{Event}
 use Rattle.model.specs.declared.Tally.{Tally}
@@ -70,23 +69,11 @@ module _ (sheet : Sheet) (ws : List (List ℕ)) (t : Tally) (line : List ℕ) wh
 
 -- line is the next line of what is left of s from a position on
 module _ (s : List ℕ) (at : ℕ) (more : at < length s) (line : List ℕ) (is : line ≡ nextLine (take (length s - at) (drop at s))) where
-  left-some : 0 < length (drop at s)
-  left-some = omega (arith, length-drop at s)
-
-  line-is : line ≡ nextLine (drop at s)
-  line-is = is ∙ ap nextLine (take-all (length s - at) (drop at s) (omega (arith, length-drop at s)))
-
-  line-length : length line ≡ through newline (drop at s)
-  line-length = ap length line-is ∙ length-take-le (through newline (drop at s)) (drop at s) (through-le newline (drop at s))
-
   pub line-some : 0 < length line
-  line-some = omega (arith, ap length line-is, part-some newline (drop at s) left-some)
+  line-some = part-longer newline s at (omega arith) line is more
 
   pub line-inside : at + length line ≤ length s
-  line-inside = omega (arith, line-length, through-le newline (drop at s), length-drop at s)
-
-  rest-is : drop (through newline (drop at s)) (drop at s) ≡ drop (at + length line) s
-  rest-is = drop-drop (through newline (drop at s)) at s ∙ ap (λ (k : ℕ). drop (at + k) s) (sym line-length)
+  line-inside = part-inside newline s at (omega arith) line is
 
   module _ (sheet : Sheet) (k : Spelling) (count : ℕ) (h : State) where
     abbrev taken : State
@@ -94,7 +81,7 @@ module _ (s : List ℕ) (at : ℕ) (more : at < length s) (line : List ℕ) (is 
 
     turn : runLines (lent sheet) k count h (linesOf (drop at s)) ≡ cond (eqb (takeLine (lent sheet) k h line .refusal) 0) (runLines (lent sheet) k (count + 1) taken (linesOf (drop (at + length line) s))) (record { refusal = takeLine (lent sheet) k h line .refusal; number = count + 1; state = taken })
     unfolding runLines
-    turn = rw (parts-next newline (drop at s) left-some, rest-is, line-is)
+    turn = rw (part-then newline s at (omega arith) line is more)
 
   -- the line was taken on the words of a table
   module _ (count : ℕ) {sheet : Sheet} {k : Spelling} {ws : List (List ℕ)} {t : Tally} {ws′ : List (List ℕ)} {r : Outcome} (took : Takes sheet k ws t line ws′ r) where
@@ -112,5 +99,5 @@ module _ (s : List ℕ) (at : ℕ) (more : at < length s) (line : List ℕ) (is 
 
 -- nothing is left
 pub run-ends : (sheet : Sheet) (k : Spelling) (s : List ℕ) (at count : ℕ) (h : State) → length s ≤ at → record { refusal = 0; number = count; state = h } ≡ runLines (lent sheet) k count h (linesOf (drop at s))
-unfolding runLines partsOf
-run-ends sheet k s at count h e = rw (drop-of-length-le s e)
+unfolding runLines
+run-ends sheet k s at count h e = rw (parts-end newline s at e)

@@ -5,7 +5,7 @@ use native.Mathlib.Omega.{arith}
 use lib.ListN.{length}
 use borrow.Author.Needs.{needs}
 use Rattle.text.specs.Class.{newline}
-use Rattle.sheet.proofs.Laws.Reading.{part-inside, part-longer}
+use Rattle.text.proofs.Offered.{part-inside, part-longer}
 use Rattle.sheet.proofs.Laws.Adding.{Reads, reads-none, reads-all, reads-stops, reads-more}
 use Rattle.sheet.proofs.read.read_lines.Statement.{statement}
 use Rattle.sheet.proofs.read.read_lines.Tie as tie

@@ -3,7 +3,8 @@
 use borrow.Author.Needs.{needs}
 use native.Mathlib.Omega.{arith}
 use Rattle.text.specs.Class.{space}
-use Rattle.sheet.proofs.Laws.Reading.{passed, failed, part-inside, behind-fits, behind-other}
+use Rattle.text.proofs.Offered.{part-inside}
+use Rattle.sheet.proofs.Laws.Reading.{passed, failed, behind-fits, behind-other}
 use Rattle.sheet.proofs.rule.behind.Statement.{statement}
 use Rattle.sheet.proofs.rule.behind.Tie as tie
 

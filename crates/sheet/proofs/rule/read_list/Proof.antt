@@ -7,7 +7,8 @@ use borrow.Author.Needs.{needs}
 use Rattle.text.specs.Class.{space}
 use Rattle.sheet.specs.Rule.{listed}
 use Rattle.sheet.specs.Reading.{wordsFor, wordsFrom}
-use Rattle.sheet.proofs.Laws.Reading.{part-inside, part-longer, few, Goes, goes-start, list-ends, list-other, list-closes, list-goes}
+use Rattle.text.proofs.Offered.{part-inside, part-longer}
+use Rattle.sheet.proofs.Laws.Reading.{few, Goes, goes-start, list-ends, list-other, list-closes, list-goes}
 use Rattle.sheet.proofs.rule.read_list.Statement.{statement}
 use Rattle.sheet.proofs.rule.read_list.Tie as tie
 

@@ -2,8 +2,9 @@
 -- Assumes nothing.
 use native.Mathlib.Omega.{arith}
 use borrow.Author.Needs.{needs}
+use Rattle.text.proofs.Offered.{put-two}
 use Rattle.sheet.specs.Writing.{frontAt}
-use Rattle.sheet.proofs.Laws.Writing.{put-two, front-long}
+use Rattle.sheet.proofs.Laws.Writing.{front-long}
 use Rattle.sheet.proofs.write.put_front.Statement.{statement}
 use Rattle.sheet.proofs.write.put_front.Tie as tie
 

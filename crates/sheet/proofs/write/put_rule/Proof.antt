@@ -2,7 +2,8 @@
 -- Assumes nothing.
 use native.Mathlib.Omega.{arith}
 use borrow.Author.Needs.{needs}
-use Rattle.sheet.proofs.Laws.Writing.{put-two, line-pieces, line-long}
+use Rattle.text.proofs.Offered.{put-two}
+use Rattle.sheet.proofs.Laws.Writing.{line-pieces, line-long}
 use Rattle.sheet.proofs.write.put_rule.Statement.{statement}
 use Rattle.sheet.proofs.write.put_rule.Tie as tie
 
