@@ -1,6 +1,8 @@
 //! The functions that the archive exports, declaration by declaration as `include/kelzoud.h` has them.
 
-use crate::{Cap, Tally};
+use core::mem::size_of;
+
+use crate::{Cap, Outcome, Request, Tally};
 
 /// `kz_event`, word for word.
 pub type EventWords = [u32; 8];
@@ -8,11 +10,19 @@ pub type EventWords = [u32; 8];
 /// `kz_answer`, word for word.
 pub type AnswerWords = [u32; 2];
 
+/// Each is cast to the other, where it is passed.
+const _: () = assert!(
+    size_of::<Request>() == size_of::<EventWords>()
+        && size_of::<Outcome>() == size_of::<AnswerWords>()
+);
+
 unsafe extern "C" {
     pub fn kz_abi_apply(
         table: *mut Cap,
         rows: usize,
         tally: *mut Tally,
+        sheet: *const u8,
+        sheet_len: usize,
         event: *const EventWords,
         names: *const u32,
         names_len: usize,
@@ -22,6 +32,8 @@ unsafe extern "C" {
         table: *mut Cap,
         rows: usize,
         tally: *mut Tally,
+        sheet: *const u8,
+        sheet_len: usize,
         events: *const EventWords,
         count: usize,
         names: *const u32,
@@ -34,6 +46,8 @@ unsafe extern "C" {
         table: *mut Cap,
         rows: usize,
         tally: *mut Tally,
+        sheet: *const u8,
+        sheet_len: usize,
         text: *const u8,
         text_len: usize,
     ) -> u64;
@@ -68,6 +82,15 @@ unsafe extern "C" {
         tally: *mut Tally,
         text: *const u8,
         text_len: usize,
+    ) -> u64;
+
+    pub fn kz_abi_read_sheet(text: *const u8, text_len: usize, sheet: *mut [u8; 18]) -> u64;
+
+    pub fn kz_abi_write_sheet(
+        sheet: *const u8,
+        sheet_len: usize,
+        out: *mut u8,
+        out_len: usize,
     ) -> u64;
 
     pub fn kz_abi_check(input: *const u8, input_len: usize, out: *mut u8, out_len: usize) -> u64;
