@@ -5,6 +5,7 @@
 //! exclusive one overlaps nothing else, `Cap`, `Tally`, `Request` and `Outcome` are laid out as the C
 //! structs are and a `Name` as its number is, and the library follows no pointer whose length is 0.
 
+use core::mem::size_of;
 use core::ptr;
 
 use crate::answers::value;
@@ -12,6 +13,12 @@ use crate::{
     ffi, Answer, Cap, Event, Lent, Line, Name, Outcome, Refusal, Request, RunAnswer, Sheet,
     Spelling, Tally, MAX_GROUP,
 };
+
+/// Each is cast to the other, where it is passed.
+const _: () = assert!(
+    size_of::<Request>() == size_of::<ffi::EventWords>()
+        && size_of::<Outcome>() == size_of::<ffi::AnswerWords>()
+);
 
 /// The length that was written.
 fn length(answer: u64) -> Result<usize, Refusal> {

@@ -1,20 +1,12 @@
 //! The functions that the archive exports, declaration by declaration as `include/kelzoud.h` has them.
 
-use core::mem::size_of;
-
-use crate::{Cap, Outcome, Request, Tally};
+use crate::{Cap, Tally};
 
 /// `kz_event`, word for word.
 pub type EventWords = [u32; 8];
 
 /// `kz_answer`, word for word.
 pub type AnswerWords = [u32; 2];
-
-/// Each is cast to the other, where it is passed.
-const _: () = assert!(
-    size_of::<Request>() == size_of::<EventWords>()
-        && size_of::<Outcome>() == size_of::<AnswerWords>()
-);
 
 unsafe extern "C" {
     pub fn kz_abi_apply(
