@@ -25,7 +25,8 @@ pub enum Refusal {
     /// A name is 0 or above the issued number.
     Unissued = 4,
     /// A name was issued, and its capability has ended: it was dropped, or written to from outside, or
-    /// its memory was handed out again, itself or an ancestor.
+    /// its memory was handed out again, itself or an ancestor. By other sheets than the default one
+    /// reads end too.
     Ended = 5,
     /// A span is not inside the capability's.
     OutsideSpan = 6,
