@@ -96,7 +96,7 @@ static void print_summary(const struct simulator *s) {
 int main(void) {
     static kz_cap table[ROWS]; /* all zeros: an empty table with no name issued */
     static kz_tally tally;
-    struct simulator s = {{table, ROWS, &tally}, {0}};
+    struct simulator s = {{table, ROWS, &tally, NULL}, {0}};
     size_t count = sizeof entries / sizeof entries[0];
     size_t i;
     for (i = 0; i < count; i++) {

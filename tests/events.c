@@ -16,6 +16,38 @@ static void check(const char *what, kz_answer answer, uint32_t refusal, uint32_t
     }
 }
 
+/* A sheet by which reads lower what they strike, and writes keep it, but a stranger's ends cells. */
+static void check_sheet(void) {
+    static kz_cap table[4];
+    static kz_tally tally;
+    static const kz_sheet sheet = {{1, 1, 1, 0, 0, 0, 1, 1, 1, 0, 0, 0, 1, 1, 1, 0, 0, 255}};
+    static const kz_event events[] = {
+        {KZ_WRITE, 1, 0, 8, 0, 0, 0, 0},
+        {KZ_WRITE, 2, 0, 8, 0, 0, 0, 0},
+        {KZ_READ, 3, 0, 8, 0, 0, 0, 0},
+        {KZ_WRITE, 2, 0, 8, 0, 0, 0, 0},
+    };
+    static const uint32_t names[] = {2, 3};
+    const kz_lent lent = {table, 4, &tally, &sheet};
+    kz_answer answers[4];
+    check("create by a sheet", kz_create(&lent, 0, 64, KZ_RW), 0, 1);
+    check("borrow by a sheet", kz_borrow(&lent, 1, 0, 8, KZ_RW), 0, 2);
+    check("raw borrow by a sheet", kz_borrow_as(&lent, 1, 0, 8, KZ_RW, KZ_RAW), 0, 3);
+    if (kz_apply_all(&lent, events, 4, NULL, 0, answers) != 4) {
+        puts("events.c: not all events were taken by a sheet");
+        failures++;
+    }
+    check("write that keeps its kin", answers[0], 0, 0);
+    check("write through what it kept", answers[1], 0, 0);
+    check("read that lowers its kin", answers[2], 0, 0);
+    check("write through what it lowered", answers[3], KZ_READ_ONLY, 0);
+    check("drop all by a sheet", kz_drop_all(&lent, names, 2), 0, 0);
+    check("cell borrow by a sheet", kz_borrow_as(&lent, 1, 0, 8, KZ_RW, KZ_CELL), 0, 4);
+    check("create that ends the cell", kz_create(&lent, 0, 8, KZ_RW), 0, 5);
+    check("read of what it ended", kz_read(&lent, 4, 0, 8), KZ_ENDED, 0);
+    check("write through what it kept", kz_write(&lent, 1, 0, 8), 0, 0);
+}
+
 int main(void) {
     static kz_part part;
     static const uint32_t names[] = {1, 3};
@@ -55,5 +87,6 @@ int main(void) {
     check("write through the cell again", kz_write(&lent, 6, 0, 8), KZ_READ_ONLY, 0);
     check("apply", kz_apply(&lent, events), KZ_MISNAMED, 0);
     check("drop all", kz_drop_all(&lent, names, 2), KZ_ENDED, 0);
+    check_sheet();
     return failures != 0;
 }

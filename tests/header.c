@@ -58,6 +58,7 @@ static void check_layout(void) {
     CHECK(sizeof(kz_event) == 32);
     CHECK(sizeof(kz_answer) == 8);
     CHECK(sizeof(kz_part) == KZ_MAX_ROWS * 28 + 28);
+    CHECK(sizeof(kz_sheet) == KZ_SHEET_PLACES);
     CHECK(offsetof(kz_cap, depth) == 20);
     CHECK(offsetof(kz_cap, kind) == 24);
     CHECK(offsetof(kz_tally, refused) == 24);
@@ -86,6 +87,8 @@ static void check_answers(void) {
         {0x0000000b00000007u, KZ_BUFFER_TOO_SHORT, 7},
         {0x0000000d00000000u, KZ_MISGROUPED, 0},
         {0x0000000dffffffffu, KZ_MISGROUPED, 4294967295u},
+        {0x0000000e00000000u, KZ_GIVEN_TWICE, 0},
+        {0x0000000f00000000u, KZ_NOT_GIVEN, 0},
     };
     size_t i;
     for (i = 0; i < sizeof cases / sizeof cases[0]; i++) {
@@ -99,6 +102,7 @@ static void check_lend(void) {
     static kz_part part;
     const kz_lent lent = kz_lend(&part);
     CHECK(lent.table == part.table && lent.rows == KZ_MAX_ROWS && lent.tally == &part.tally);
+    CHECK(lent.sheet == NULL);
     CHECK(allowed(kz_create(&lent, 0, 64, KZ_RW), 1));
     CHECK(part.table[0].name == 1 && part.tally.creates == 1);
 }
@@ -106,7 +110,7 @@ static void check_lend(void) {
 static void check_events(void) {
     static kz_cap table[3];
     static kz_tally tally;
-    const kz_lent lent = {table, 3, &tally};
+    const kz_lent lent = {table, 3, &tally, NULL};
     kz_event event = event_of(7, 1, 0, 1, KZ_RW);
     CHECK(allowed(kz_create(&lent, 0, 64, KZ_RW), 1));
     CHECK(allowed(kz_borrow(&lent, 1, 0, 16, KZ_RW), 2));
@@ -133,7 +137,7 @@ static void check_events(void) {
 static void check_reused_memory(void) {
     static kz_cap table[3];
     static kz_tally tally;
-    const kz_lent lent = {table, 3, &tally};
+    const kz_lent lent = {table, 3, &tally, NULL};
     CHECK(allowed(kz_create(&lent, 0, 64, KZ_RW), 1));
     CHECK(allowed(kz_borrow(&lent, 1, 0, 16, KZ_RW), 2));
     CHECK(allowed(kz_create(&lent, 8, 0, KZ_RW), 3));
@@ -153,7 +157,7 @@ static void check_reused_memory(void) {
 static void check_raw(void) {
     static kz_cap table[5];
     static kz_tally tally;
-    const kz_lent lent = {table, 5, &tally};
+    const kz_lent lent = {table, 5, &tally, NULL};
     CHECK(allowed(kz_create(&lent, 0, 64, KZ_RW), 1));
     CHECK(allowed(kz_borrow(&lent, 1, 0, 16, KZ_RW), 2));
     CHECK(allowed(kz_borrow_as(&lent, 2, 0, 8, KZ_RW, KZ_RAW), 3));
@@ -194,7 +198,7 @@ static void check_raw(void) {
 static void check_cells(void) {
     static kz_cap table[5];
     static kz_tally tally;
-    const kz_lent lent = {table, 5, &tally};
+    const kz_lent lent = {table, 5, &tally, NULL};
     uint32_t i;
     CHECK(allowed(kz_create(&lent, 0, 16, KZ_RW), 1));
     CHECK(allowed(kz_borrow_as(&lent, 1, 0, 8, KZ_RW, KZ_CELL), 2));
@@ -230,7 +234,7 @@ static void check_wrong_kinds(void) {
     static const uint32_t wrong[] = {3, 255, 256, KZ_RAW + 256, 4294967295u};
     static kz_cap table[3];
     static kz_tally tally;
-    const kz_lent lent = {table, 3, &tally};
+    const kz_lent lent = {table, 3, &tally, NULL};
     uint8_t out[64];
     kz_event event = with_kind(event_of(KZ_CREATE, 0, 0, 64, KZ_RW), KZ_CELL);
     size_t i;
@@ -271,7 +275,7 @@ static kz_answer apply_named(const kz_lent *lent, uint32_t kind, uint32_t writte
 static void check_named_events(void) {
     static kz_cap table[2];
     static kz_tally tally;
-    const kz_lent lent = {table, 2, &tally};
+    const kz_lent lent = {table, 2, &tally, NULL};
     kz_event event;
     CHECK(refused(apply_named(&lent, KZ_CREATE, 0, 0, 0, 64, KZ_RW), KZ_MISNAMED));
     CHECK(refused(apply_named(&lent, KZ_CREATE, 2, 0, 0, 64, KZ_RW), KZ_MISNAMED));
@@ -302,7 +306,7 @@ static void check_grouped_events(void) {
     uint32_t many[KZ_MAX_GROUP + 1];
     static kz_cap table[5];
     static kz_tally tally;
-    const kz_lent lent = {table, 5, &tally};
+    const kz_lent lent = {table, 5, &tally, NULL};
     uint32_t i;
     for (i = 0; i <= KZ_MAX_GROUP; i++) many[i] = i + 1;
     for (i = 1; i <= 3; i++) CHECK(allowed(kz_create(&lent, 8 * i, 8, KZ_RW), i));
@@ -334,7 +338,7 @@ static void check_many_events(void) {
     kz_answer answers[10];
     static kz_cap table[4];
     static kz_tally tally;
-    const kz_lent lent = {table, 4, &tally};
+    const kz_lent lent = {table, 4, &tally, NULL};
     size_t i;
     memset(answers, 255, sizeof answers);
     events[0] = event_of(KZ_CREATE, 0, 0, 8, KZ_RW);
@@ -363,6 +367,7 @@ static void check_many_events(void) {
    answers that are fewer or more than the events. */
 static void check_exported(void) {
     static const uint32_t names[] = {7, 1, 2};
+    const uint64_t misgrouped = (uint64_t)KZ_MISGROUPED << 32;
     kz_event events[2];
     kz_answer answers[3];
     static kz_cap table[2];
@@ -370,16 +375,16 @@ static void check_exported(void) {
     memset(answers, 255, sizeof answers);
     events[0] = event_of(KZ_CREATE, 0, 0, 8, KZ_RW);
     events[1] = event_of(KZ_CREATE, 0, 8, 8, KZ_RW);
-    CHECK(kz_abi_apply_all(table, 2, &tally, events, 2, NULL, 0, answers, 1) == 1);
+    CHECK(kz_abi_apply_all(table, 2, &tally, NULL, 0, events, 2, NULL, 0, answers, 1) == 1);
     CHECK(allowed(answers[0], 1) && answers[1].value == 4294967295u && tally.creates == 1);
-    CHECK(kz_abi_apply_all(table, 2, &tally, events + 1, 1, NULL, 0, answers, 3) == 1);
+    CHECK(kz_abi_apply_all(table, 2, &tally, NULL, 0, events + 1, 1, NULL, 0, answers, 3) == 1);
     CHECK(allowed(answers[0], 2) && answers[1].value == 4294967295u);
-    CHECK(kz_abi_apply_all(table, 2, &tally, events, 2, NULL, 0, NULL, 0) == 0);
+    CHECK(kz_abi_apply_all(table, 2, &tally, NULL, 0, events, 2, NULL, 0, NULL, 0) == 0);
     events[0] = event_of(KZ_DROP_ALL, 0, 1, 2, 0);
-    CHECK(kz_abi_apply(table, 2, &tally, events, names, 2) == (uint64_t)KZ_MISGROUPED << 32);
-    CHECK(kz_abi_apply(table, 2, &tally, events, names, 3) == 0);
+    CHECK(kz_abi_apply(table, 2, &tally, NULL, 0, events, names, 2) == misgrouped);
+    CHECK(kz_abi_apply(table, 2, &tally, NULL, 0, events, names, 3) == 0);
     events[0].start = 4294967295u;
-    CHECK(kz_abi_apply(table, 2, &tally, events, names, 3) == (uint64_t)KZ_MISGROUPED << 32);
+    CHECK(kz_abi_apply(table, 2, &tally, NULL, 0, events, names, 3) == misgrouped);
     CHECK(table[0].name == 0 && tally.drops == 1 && tally.refused == 2);
 }
 
@@ -393,7 +398,7 @@ static void check_text(void) {
     uint8_t out[64];
     static kz_cap table[2];
     static kz_tally tally;
-    const kz_lent lent = {table, 2, &tally};
+    const kz_lent lent = {table, 2, &tally, NULL};
     memset(&event, 255, sizeof event);
     names[0] = 9;
     CHECK(refused(kz_read_event(0, trace, 15, &event, names), KZ_MISSPELT));
@@ -424,7 +429,7 @@ static void check_named_text(void) {
     uint8_t out[64];
     static kz_cap table[2];
     static kz_tally tally;
-    const kz_lent lent = {table, 2, &tally};
+    const kz_lent lent = {table, 2, &tally, NULL};
     CHECK(allowed(kz_write_event(&event, NULL, 0, out, sizeof out), 9));
     CHECK(allowed(kz_read_event(1, out, 9, &event, names), 0));
     CHECK(same_event(&event, &dropped));
@@ -454,7 +459,7 @@ static void check_grouped_text(void) {
     uint8_t out[64];
     static kz_cap table[2];
     static kz_tally tally;
-    const kz_lent lent = {table, 2, &tally};
+    const kz_lent lent = {table, 2, &tally, NULL};
     uint32_t form;
     for (form = 0; form < 2; form++) {
         memset(names, 255, sizeof names);
@@ -532,7 +537,7 @@ static void check_kinds_text(void) {
     uint8_t out[96];
     static kz_cap table[5], other[5];
     static kz_tally tally, copied;
-    const kz_lent lent = {table, 5, &tally}, copy = {other, 5, &copied};
+    const kz_lent lent = {table, 5, &tally, NULL}, copy = {other, 5, &copied, NULL};
     size_t i;
     CHECK(writes_as(&raw, "(borrow 1 0 8 rw raw)\n"));
     CHECK(reads_as(0, "(borrow 1 0 8 rw raw)\n", &raw));
@@ -562,6 +567,348 @@ static void check_kinds_text(void) {
     CHECK(memcmp(out, "(allowed 5)\n(issued 2)\n(1 0 64 rw (2 0 8 rw raw))\n", 12 + 11 + 27) == 0);
 }
 
+/* The default sheet, by rising place. */
+static const kz_sheet default_sheet = {{1, 1, 1, 0, 2, 2, 0, 0, 0, 0, 0, 2, 1, 1, 1, 0, 2, 2}};
+
+/* A sheet of one result. */
+static kz_sheet all_of(uint8_t result) {
+    kz_sheet sheet;
+    memset(&sheet, result, sizeof sheet);
+    return sheet;
+}
+
+static int same_sheet(const kz_sheet *one, const kz_sheet *other) {
+    return memcmp(one, other, sizeof *one) == 0;
+}
+
+/* What an access from there does to a capability of this kind, by a sheet. Of `table`, which is left as
+   it is then, that one is 3. Where it comes from a stranger the parent of 3 is 2, a reference; else it
+   is 1, and the access comes from 1, or from the cell 2. */
+static uint32_t result_on(kz_cap table[3], const kz_sheet *sheet, uint32_t kind, uint32_t access,
+                          uint32_t from) {
+    kz_tally tally;
+    const kz_lent lent = {table, 3, &tally, sheet};
+    const uint32_t user = from == KZ_FROM_CELL ? 2 : 1;
+    const uint32_t parent = from == KZ_FROM_STRANGER ? 2 : 1;
+    const kz_event event = event_of(access, user, 0, 8, 0);
+    size_t i;
+    memset(table, 0, 3 * sizeof *table);
+    memset(&tally, 0, sizeof tally);
+    CHECK(allowed(kz_create(&lent, 0, 64, KZ_RW), 1));
+    CHECK(allowed(kz_borrow_as(&lent, 1, 0, 8, KZ_RW, user == 2 ? KZ_CELL : KZ_REFERENCE), 2));
+    CHECK(allowed(kz_borrow_as(&lent, parent, 0, 8, KZ_RW, kind), 3));
+    CHECK(allowed(kz_apply(&lent, &event), 0));
+    CHECK(tally.refused == 0 && table[0].name == 1 && table[0].right == KZ_RW);
+    for (i = 0; i < 3; i++) {
+        if (table[i].name == 3) return table[i].right == KZ_RW ? KZ_KEEP : KZ_LOWER;
+    }
+    return KZ_END;
+}
+
+/* The default sheet is that of NULL, and any number from KZ_END on is one. */
+static void check_sheet_of_default(void) {
+    const kz_sheet ends = all_of(KZ_END), others[] = {all_of(KZ_END + 1), all_of(255)};
+    kz_cap table[3], other[3];
+    uint32_t kind, access, from;
+    for (kind = 0; kind < 3; kind++) {
+        for (access = KZ_READ; access <= KZ_WRITE; access++) {
+            for (from = 0; from < 3; from++) {
+                const uint32_t result = result_on(table, &default_sheet, kind, access, from);
+                CHECK(result_on(other, NULL, kind, access, from) == result);
+                CHECK(memcmp(table, other, sizeof table) == 0);
+                CHECK(result_on(table, &ends, kind, access, from) == KZ_END);
+                CHECK(result_on(other, &others[0], kind, access, from) == KZ_END);
+                CHECK(memcmp(table, other, sizeof table) == 0);
+                CHECK(result_on(other, &others[1], kind, access, from) == KZ_END);
+                CHECK(memcmp(table, other, sizeof table) == 0);
+            }
+        }
+    }
+}
+
+/* Each place of a sheet decides on its own combination and on no other. What a stranger strikes goes
+   along with its parent, which the same access strikes as its kin. */
+static void check_sheet_places(void) {
+    static const uint32_t above[] = {KZ_WRITE + 1, 255, 256, 4294967295u};
+    kz_cap table[3];
+    uint32_t kind, access, from, place, result;
+    size_t i;
+    for (kind = 0; kind < 3; kind++) {
+        for (access = KZ_READ; access <= KZ_WRITE; access++) {
+            const size_t parents = kz_sheet_place(KZ_REFERENCE, access, KZ_FROM_KIN);
+            for (from = 0; from < 3; from++) {
+                const size_t own = kz_sheet_place(kind, access, from);
+                CHECK(own == kind * 6 + (access - KZ_READ) * 3 + from);
+                for (place = 0; place < KZ_SHEET_PLACES; place++) {
+                    const int decides =
+                        place == own || (from == KZ_FROM_STRANGER && place == parents);
+                    for (result = KZ_KEEP; result <= KZ_END; result++) {
+                        kz_sheet sheet = all_of(KZ_KEEP);
+                        sheet.results[place] = (uint8_t)result;
+                        CHECK(result_on(table, &sheet, kind, access, from) ==
+                              (decides ? result : (uint32_t)KZ_KEEP));
+                    }
+                }
+            }
+        }
+    }
+    /* A number above those of its list counts as the last. */
+    for (i = 0; i < sizeof above / sizeof above[0]; i++) {
+        CHECK(kz_sheet_place(above[i], KZ_READ, KZ_FROM_KIN) == 13);
+        CHECK(kz_sheet_place(KZ_RAW, above[i], KZ_FROM_CELL) == 9);
+        CHECK(kz_sheet_place(KZ_RAW, KZ_READ, above[i]) == 8);
+        CHECK(kz_sheet_place(above[i], above[i], above[i]) == KZ_SHEET_PLACES - 1);
+    }
+    CHECK(kz_sheet_place(3, KZ_READ, 3) == 14);
+}
+
+/* Sheets of one result: nothing is lost, all is lowered and stays, or all ends. A create is as a
+   stranger's write. */
+static void check_sheets_of_one_result(void) {
+    static kz_cap table[6];
+    static kz_tally tally;
+    kz_sheet sheet = all_of(KZ_KEEP);
+    const kz_lent lent = {table, 6, &tally, &sheet};
+    uint32_t i;
+    CHECK(allowed(kz_create(&lent, 0, 16, KZ_RW), 1));
+    CHECK(allowed(kz_borrow(&lent, 1, 0, 8, KZ_RW), 2));
+    CHECK(allowed(kz_borrow_as(&lent, 1, 0, 8, KZ_RW, KZ_RAW), 3));
+    CHECK(allowed(kz_borrow_as(&lent, 2, 0, 8, KZ_RW, KZ_CELL), 4));
+    CHECK(allowed(kz_create(&lent, 0, 8, KZ_RW), 5));
+    for (i = 1; i <= 5; i++) {
+        CHECK(allowed(kz_write(&lent, i, 0, 8), 0));
+        CHECK(allowed(kz_read(&lent, i, 0, 8), 0));
+    }
+    for (i = 0; i < 5; i++) CHECK(table[i].name == i + 1 && table[i].right == KZ_RW);
+    /* The sheet is looked at anew in each call. 4 goes along with 2. */
+    sheet = all_of(KZ_LOWER);
+    CHECK(allowed(kz_write(&lent, 4, 0, 8), 0));
+    for (i = 0; i < 5; i++) {
+        CHECK(table[i].name == i + 1);
+        CHECK(table[i].right == (uint32_t)(i == 2 || i == 4 ? KZ_RO : KZ_RW));
+    }
+    CHECK(refused(kz_write(&lent, 3, 0, 8), KZ_READ_ONLY));
+    CHECK(allowed(kz_read(&lent, 3, 0, 8), 0));
+    for (i = 1; i < 5; i++) CHECK(table[i].right == KZ_RO);
+    CHECK(table[0].right == KZ_RW);
+    CHECK(allowed(kz_create(&lent, 4, 1, KZ_RW), 6));
+    for (i = 0; i < 6; i++) CHECK(table[i].right == (uint32_t)(i == 5 ? KZ_RW : KZ_RO));
+    CHECK(refused(kz_create(&lent, 0, 8, KZ_RW), KZ_TABLE_FULL));
+    sheet = all_of(KZ_END);
+    CHECK(allowed(kz_read(&lent, 3, 0, 1), 0));
+    CHECK(table[0].name == 1 && table[1].name == 3 && table[2].name == 6 && table[3].name == 0);
+    CHECK(allowed(kz_create(&lent, 0, 8, KZ_RO), 7));
+    CHECK(table[0].name == 7 && table[1].name == 0);
+    CHECK(tally.issued == 7 && tally.creates == 4 && tally.borrows == 3);
+    CHECK(tally.reads == 7 && tally.writes == 6 && tally.refused == 2);
+}
+
+/* A create goes by the place of a stranger's write alone, for the kind of what it touches. */
+static void check_sheet_of_create(void) {
+    static kz_cap table[4];
+    static kz_tally tally;
+    kz_sheet sheet = all_of(KZ_END);
+    const kz_lent lent = {table, 4, &tally, &sheet};
+    CHECK(allowed(kz_create(&lent, 0, 16, KZ_RW), 1));
+    CHECK(allowed(kz_borrow_as(&lent, 1, 0, 8, KZ_RW, KZ_RAW), 2));
+    CHECK(allowed(kz_borrow_as(&lent, 1, 0, 8, KZ_RW, KZ_CELL), 3));
+    sheet.results[kz_sheet_place(KZ_REFERENCE, KZ_WRITE, KZ_FROM_STRANGER)] = KZ_KEEP;
+    sheet.results[kz_sheet_place(KZ_CELL, KZ_WRITE, KZ_FROM_STRANGER)] = KZ_LOWER;
+    CHECK(allowed(kz_create(&lent, 0, 8, KZ_RW), 4));
+    CHECK(table[0].name == 1 && table[0].right == KZ_RW);
+    CHECK(table[1].name == 3 && table[1].right == KZ_RO);
+    CHECK(table[2].name == 4 && table[2].right == KZ_RW && table[3].name == 0);
+}
+
+/* The sheet of a kz_lent goes with every call that takes events. What is dropped ends by any sheet. */
+static void check_sheet_in_calls(void) {
+    static const uint8_t trace[] = "(create 0 16 rw)\n(borrow 1 0 8 rw)\n(read 1 0 8)\n(write 2 0 8)\n";
+    static const uint32_t refusals[] = {0, KZ_READ_ONLY, KZ_ENDED};
+    static const uint32_t names[] = {1, 2};
+    static kz_part part;
+    kz_event events[5];
+    uint32_t result;
+    events[0] = event_of(KZ_CREATE, 0, 0, 16, KZ_RW);
+    events[1] = event_of(KZ_BORROW, 1, 0, 8, KZ_RW);
+    events[2] = event_of(KZ_READ, 1, 0, 8, 0);
+    events[3] = event_of(KZ_WRITE, 2, 0, 8, 0);
+    events[4] = event_of(KZ_DROP_ALL, 0, 0, 2, 0);
+    for (result = KZ_KEEP; result <= KZ_END; result++) {
+        const kz_sheet sheet = all_of((uint8_t)result);
+        const uint32_t dropped = result == KZ_END ? KZ_ENDED : 0;
+        kz_lent lent = kz_lend(&part);
+        kz_answer answers[5], answer;
+        lent.sheet = &sheet;
+        memset(&part, 0, sizeof part);
+        answer = kz_run(&lent, trace, sizeof trace - 1);
+        CHECK(answer.refusal == refusals[result] && answer.value == 4);
+        answer = kz_drop_all(&lent, names, 2);
+        CHECK(answer.refusal == dropped && answer.value == 0);
+        CHECK(part.table[0].name == (dropped == 0 ? 0u : 1u) && part.table[1].name == 0);
+        memset(&part, 0, sizeof part);
+        CHECK(kz_apply_all(&lent, events, 5, names, 2, answers) == 5);
+        CHECK(allowed(answers[0], 1) && allowed(answers[1], 2) && allowed(answers[2], 0));
+        CHECK(answers[3].refusal == refusals[result] && answers[3].value == 0);
+        CHECK(answers[4].refusal == dropped && answers[4].value == 0);
+        CHECK(part.table[0].name == (dropped == 0 ? 0u : 1u) && part.table[1].name == 0);
+    }
+}
+
+/* The exported functions with fewer bytes than a sheet has, of which the missing ones end, with more,
+   which are not looked at, and with none behind a pointer. */
+static void check_sheet_bytes(void) {
+    static const uint8_t made[] = "(create 0 8 rw)\n(borrow 1 0 8 rw)\n(borrow 1 0 8 rw cell)\n";
+    static const uint8_t uses[] = "(read 3 0 8)\n(read 1 0 8)\n";
+    static const struct {
+        size_t length;
+        uint32_t between, after[3]; /* the right of 2 after the first read, the names after both */
+    } cases[] = {
+        {0, KZ_RO, {1, 2, 3}},  {1, KZ_RW, {1, 0, 0}},  {2, KZ_RW, {1, 2, 0}},
+        {18, KZ_RW, {1, 2, 3}}, {19, KZ_RW, {1, 2, 3}},
+    };
+    kz_event events[2];
+    kz_answer answers[2];
+    kz_cap tables[3][3];
+    kz_tally tallies[3];
+    uint8_t bytes[KZ_SHEET_PLACES + 1], text[KZ_MAX_SHEET], other[KZ_MAX_SHEET];
+    size_t i, j;
+    events[0] = event_of(KZ_READ, 3, 0, 8, 0);
+    events[1] = event_of(KZ_READ, 1, 0, 8, 0);
+    memset(bytes, KZ_KEEP, sizeof bytes);
+    bytes[KZ_SHEET_PLACES] = KZ_END;
+    for (i = 0; i < sizeof cases / sizeof cases[0]; i++) {
+        const size_t length = cases[i].length;
+        kz_sheet sheet = all_of(KZ_END);
+        memset(tables, 0, sizeof tables);
+        memset(tallies, 0, sizeof tallies);
+        for (j = 0; j < 3; j++) {
+            CHECK(kz_abi_run(tables[j], 3, &tallies[j], bytes, length, made, sizeof made - 1) == 3);
+        }
+        CHECK(kz_abi_apply(tables[0], 3, tallies, bytes, length, &events[0], NULL, 0) == 0);
+        CHECK(tables[0][1].right == cases[i].between);
+        CHECK(kz_abi_apply(tables[0], 3, tallies, bytes, length, &events[1], NULL, 0) == 0);
+        for (j = 0; j < 3; j++) CHECK(tables[0][j].name == cases[i].after[j]);
+        CHECK(kz_abi_apply_all(tables[1], 3, &tallies[1], bytes, length, events, 2, NULL, 0,
+                               answers, 2) == 2);
+        CHECK(kz_abi_run(tables[2], 3, &tallies[2], bytes, length, uses, sizeof uses - 1) == 2);
+        for (j = 1; j < 3; j++) {
+            CHECK(memcmp(tables[0], tables[j], sizeof tables[0]) == 0);
+            CHECK(memcmp(&tallies[0], &tallies[j], sizeof tallies[0]) == 0);
+        }
+        memcpy(sheet.results, bytes, length < sizeof sheet ? length : sizeof sheet);
+        answers[0] = kz_write_sheet(length == 0 ? NULL : &sheet, text, sizeof text);
+        answers[1] = kz_abi_answer(kz_abi_write_sheet(bytes, length, other, sizeof other));
+        CHECK(answers[0].refusal == 0 && memcmp(&answers[0], &answers[1], sizeof answers[0]) == 0);
+        CHECK(memcmp(text, other, answers[0].value) == 0);
+    }
+}
+
+static int reads_to(const uint8_t *text, size_t length, const kz_sheet *expected) {
+    kz_sheet sheet = all_of(255);
+    return allowed(kz_read_sheet(text, length, &sheet), 0) && same_sheet(&sheet, expected);
+}
+
+static void check_sheet_text(void) {
+    /* The lines of examples/card6.sheet. */
+    static const char lines[] =
+        "(rule (holder reference cell) (access read) (from cell kin stranger) lower)\n"
+        "(rule (holder raw) (access read) (from cell kin stranger) keep)\n"
+        "(rule (holder reference raw cell) (access write) (from cell) keep)\n"
+        "(rule (holder raw) (access write) (from kin) keep)\n"
+        "(rule (holder reference cell) (access write) (from kin) end)\n"
+        "(rule (holder reference raw cell) (access write) (from stranger) end)\n";
+    static const char first[] = "(rule (holder reference) (access read) (from cell) lower)\n";
+    static const char last[] = "(rule (holder cell) (access write) (from stranger) end)\n";
+    const size_t length = 988, last_length = sizeof last - 1;
+    const kz_sheet lowers = all_of(KZ_LOWER);
+    kz_sheet sheet;
+    uint8_t out[KZ_MAX_SHEET + 1];
+    kz_answer answer;
+    uint32_t turn, place;
+    CHECK(reads_to((const uint8_t *)lines, sizeof lines - 1, &default_sheet));
+    memset(out, '?', sizeof out);
+    CHECK(refused(kz_write_sheet(NULL, out, length - 1), KZ_BUFFER_TOO_SHORT));
+    for (place = 0; place < sizeof out; place++) CHECK(out[place] == '?');
+    CHECK(allowed(kz_write_sheet(NULL, out, length), (uint32_t)length));
+    CHECK(memcmp(out, first, sizeof first - 1) == 0 && out[length] == '?');
+    CHECK(memcmp(out + length - last_length, last, last_length) == 0);
+    CHECK(reads_to(out, length, &default_sheet));
+    memset(out, '?', sizeof out);
+    CHECK(allowed(kz_write_sheet(&default_sheet, out, sizeof out), (uint32_t)length));
+    CHECK(memcmp(out, first, sizeof first - 1) == 0 && out[length] == '?');
+    CHECK(reads_to(out, length, &default_sheet));
+    /* The longest. */
+    memset(out, '?', sizeof out);
+    CHECK(refused(kz_write_sheet(&lowers, out, KZ_MAX_SHEET - 1), KZ_BUFFER_TOO_SHORT));
+    for (place = 0; place < sizeof out; place++) CHECK(out[place] == '?');
+    CHECK(allowed(kz_write_sheet(&lowers, out, KZ_MAX_SHEET), KZ_MAX_SHEET));
+    CHECK(out[KZ_MAX_SHEET] == '?' && reads_to(out, KZ_MAX_SHEET, &lowers));
+    /* Every number from KZ_END on is written and read back as KZ_END. */
+    for (turn = 0; turn < 256; turn++) {
+        kz_sheet expected;
+        for (place = 0; place < KZ_SHEET_PLACES; place++) {
+            const uint8_t result = (uint8_t)(place * (turn % 5 + 1) + turn);
+            sheet.results[place] = result;
+            expected.results[place] = result < KZ_END ? result : (uint8_t)KZ_END;
+        }
+        answer = kz_write_sheet(&sheet, out, KZ_MAX_SHEET);
+        CHECK(answer.refusal == 0 && reads_to(out, answer.value, &expected));
+    }
+}
+
+/* What is no sheet's text leaves the sheet as it was. The first refusal that applies to the whole text
+   is given. */
+static void check_wrong_sheet_text(void) {
+#define RULE "(rule (holder raw) (access write) (from kin) keep)\n"
+#define REST                                                                            \
+    "(rule (holder reference cell) (access read write) (from cell kin stranger) end)\n" \
+    "(rule (holder raw) (access read) (from cell kin stranger) end)\n"
+    static const struct {
+        const char *text;
+        enum kz_refusal refusal;
+    } cases[] = {
+        {"\n", KZ_MISSPELT},
+        {"(rule (holder raw) (access write) (from kin) keep)", KZ_MISSPELT},
+        {RULE "\n", KZ_MISSPELT},
+        {RULE " ", KZ_MISSPELT},
+        {"(rule (holder raw) (access write) (from kin) keep)\r\n", KZ_MISSPELT},
+        {"(rule (holder raw  cell) (access write) (from kin) keep)\n", KZ_MISSPELT},
+        {"(rule (holder) (access write) (from kin) keep)\n", KZ_MISSPELT},
+        {"(rule (access write) (holder raw) (from kin) keep)\n", KZ_MISSPELT},
+        {"(rule (holder Raw) (access write) (from kin) keep)\n", KZ_MISSPELT},
+        {"(rule (holder raw) (access drop) (from kin) keep)\n", KZ_MISSPELT},
+        {"(rule (holder raw) (access write) (from raw) keep)\n", KZ_MISSPELT},
+        {"(rule (holder raw) (access write) (from kin) raise)\n", KZ_MISSPELT},
+        {RULE RULE "(rule (holder raw) (access write) (from kin) keep end)\n", KZ_MISSPELT},
+        {RULE RULE, KZ_GIVEN_TWICE},
+        {"(rule (holder raw raw) (access write) (from kin) keep)\n", KZ_GIVEN_TWICE},
+        {"(rule (holder raw) (access write read write) (from kin) keep)\n", KZ_GIVEN_TWICE},
+        {"(rule (holder raw) (access write) (from kin kin) keep)\n", KZ_GIVEN_TWICE},
+        {REST RULE "(rule (holder raw) (access write) (from cell kin) end)\n", KZ_GIVEN_TWICE},
+        {"", KZ_NOT_GIVEN},
+        {RULE, KZ_NOT_GIVEN},
+        {REST RULE "(rule (holder raw) (access write) (from cell) end)\n", KZ_NOT_GIVEN},
+    };
+    static const char whole[] =
+        REST RULE "(rule (holder raw) (access write) (from stranger cell) end)\n";
+    const kz_sheet untouched = all_of(77);
+    kz_sheet sheet = all_of(KZ_END);
+    size_t i;
+    sheet.results[kz_sheet_place(KZ_RAW, KZ_WRITE, KZ_FROM_KIN)] = KZ_KEEP;
+    CHECK(reads_to((const uint8_t *)whole, sizeof whole - 1, &sheet));
+    sheet = untouched;
+    for (i = 0; i < sizeof cases / sizeof cases[0]; i++) {
+        const uint8_t *text = (const uint8_t *)cases[i].text;
+        CHECK(refused(kz_read_sheet(text, strlen(cases[i].text), &sheet), cases[i].refusal));
+        CHECK(same_sheet(&sheet, &untouched));
+    }
+    CHECK(refused(kz_read_sheet(NULL, 0, &sheet), KZ_NOT_GIVEN));
+    CHECK(refused(kz_write_sheet(NULL, NULL, 0), KZ_BUFFER_TOO_SHORT));
+    CHECK(same_sheet(&sheet, &untouched));
+#undef RULE
+#undef REST
+}
+
 static void check_null(void) {
     static const char listing[] = "(issued 0)\n";
     const uint8_t *text = (const uint8_t *)listing;
@@ -575,7 +922,7 @@ static void check_null(void) {
     kz_answer answer;
     uint8_t out[64];
     static kz_tally tally;
-    const kz_lent lent = {NULL, 0, &tally};
+    const kz_lent lent = {NULL, 0, &tally, NULL};
     CHECK(refused(kz_create(&lent, 0, 64, KZ_RW), KZ_TABLE_FULL));
     CHECK(refused(apply_named(&lent, KZ_CREATE, 1, 0, 0, 64, KZ_RW), KZ_TABLE_FULL));
     CHECK(kz_apply_all(&lent, &nobody, 1, NULL, 0, &answer) == 1);
@@ -653,6 +1000,14 @@ int main(void) {
     check_named_text();
     check_grouped_text();
     check_kinds_text();
+    check_sheet_of_default();
+    check_sheet_places();
+    check_sheets_of_one_result();
+    check_sheet_of_create();
+    check_sheet_in_calls();
+    check_sheet_bytes();
+    check_sheet_text();
+    check_wrong_sheet_text();
     check_null();
     check_longest();
     return failures != 0;

@@ -14,14 +14,19 @@ pub enum Refusal {
     /// A list of names to drop together is empty, longer than [`MAX_GROUP`](crate::MAX_GROUP) or not
     /// strictly rising.
     Misgrouped = 13,
-    /// A line or listing is not in the one spelling.
+    /// A line or listing is not in the one spelling, or a line of a sheet's text not of its form.
     Misspelt = 2,
+    /// A sheet's text gives a combination twice.
+    GivenTwice = 14,
+    /// A sheet's text leaves a combination out.
+    NotGiven = 15,
     /// An end is above 4,294,967,296.
     IllegalSpan = 3,
     /// A name is 0 or above the issued number.
     Unissued = 4,
     /// A name was issued, and its capability has ended: it was dropped, or written to from outside, or
-    /// its memory was handed out again, itself or an ancestor.
+    /// its memory was handed out again, itself or an ancestor. By other sheets than the default one
+    /// reads end too.
     Ended = 5,
     /// A span is not inside the capability's.
     OutsideSpan = 6,
@@ -41,7 +46,7 @@ pub enum Refusal {
 }
 
 impl Refusal {
-    /// The refusal's number, 1 to 13.
+    /// The refusal's number, 1 to 15.
     pub const fn number(self) -> u8 {
         self as u8
     }
@@ -62,6 +67,8 @@ impl Refusal {
             11 => Refusal::BufferTooShort,
             12 => Refusal::Misnamed,
             13 => Refusal::Misgrouped,
+            14 => Refusal::GivenTwice,
+            15 => Refusal::NotGiven,
             _ => return None,
         })
     }
@@ -71,6 +78,8 @@ impl Refusal {
             Refusal::Disordered => "the table is not in order",
             Refusal::Misgrouped => "the names are not 1 to 64, strictly rising",
             Refusal::Misspelt => "not in the one spelling",
+            Refusal::GivenTwice => "the sheet's text gives a combination twice",
+            Refusal::NotGiven => "the sheet's text leaves a combination out",
             Refusal::IllegalSpan => "the span is not legal",
             Refusal::Unissued => "the name was never issued",
             Refusal::Ended => "the capability has ended",
@@ -165,7 +174,7 @@ impl From<Answer> for Result<Option<Name>, Refusal> {
 
 /// The refusal of a number that the library gave.
 fn numbered(number: u32) -> Refusal {
-    Refusal::from_number(number).expect("refusals are numbered 1 to 13")
+    Refusal::from_number(number).expect("refusals are numbered 1 to 15")
 }
 
 /// An answer of the C interface taken apart: its value, or its refusal with its value.
@@ -176,4 +185,9 @@ pub(crate) fn split(answer: u64) -> Result<u32, (Refusal, u32)> {
         0 => Ok(value),
         _ => Err((numbered(number), value)),
     }
+}
+
+/// The value of an answer, or its refusal.
+pub(crate) fn value(answer: u64) -> Result<u32, Refusal> {
+    split(answer).map_err(|(refusal, _)| refusal)
 }

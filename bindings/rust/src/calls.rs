@@ -1,4 +1,5 @@
-//! The calls of the C interface, made safe.
+//! The calls of the C interface, made safe. Those that take events are made on a [`Lent`], and stand
+//! there; here are their shorthands for the default sheet.
 //!
 //! Safety, of each call below: a slice is a pointer to as many elements as its length says, an
 //! exclusive one overlaps nothing else, `Cap`, `Tally`, `Request` and `Outcome` are laid out as the C
@@ -7,10 +8,10 @@
 use core::mem::size_of;
 use core::ptr;
 
-use crate::answers::split;
+use crate::answers::value;
 use crate::{
-    ffi, Answer, Cap, Event, Line, Name, Outcome, Refusal, Request, RunAnswer, Spelling, Tally,
-    MAX_GROUP,
+    ffi, Answer, Cap, Event, Lent, Line, Name, Outcome, Refusal, Request, RunAnswer, Sheet,
+    Spelling, Tally, MAX_GROUP,
 };
 
 /// Each is cast to the other, where it is passed.
@@ -19,37 +20,25 @@ const _: () = assert!(
         && size_of::<Outcome>() == size_of::<ffi::AnswerWords>()
 );
 
-/// The value of an answer, or its refusal.
-fn value(answer: u64) -> Result<u32, Refusal> {
-    split(answer).map_err(|(refusal, _)| refusal)
-}
-
 /// The length that was written.
 fn length(answer: u64) -> Result<usize, Refusal> {
     value(answer).map(|length| length as usize)
 }
 
-/// One event on a lent table and tally, which follow it.
+/// One event on a lent table and tally, which follow it, by the default sheet. [`Lent::apply`] is the
+/// same by any sheet.
 ///
 /// [`Refusal::Disordered`] changes nothing; any other refusal adds one to the refused count and
 /// changes nothing else.
 pub fn apply(table: &mut [Cap], tally: &mut Tally, event: Event) -> Answer {
-    request(table, tally, event.into(), &[])
+    Lent::new(table, tally).apply(event)
 }
 
-/// One request and the list in which its names stand, if it has some.
-fn request(table: &mut [Cap], tally: &mut Tally, request: Request, names: &[Name]) -> Answer {
-    let rows = table.len();
-    let table = table.as_mut_ptr();
-    let request = ptr::from_ref(&request).cast();
-    let list = names.as_ptr().cast();
-    let answer = unsafe { ffi::kz_abi_apply(table, rows, tally, request, list, names.len()) };
-    Answer::of(value(answer))
-}
-
-/// Many requests on a lent table and tally, each in its turn on what those before it left; a refused
-/// one stops nothing. In `names` stand the names of every [`Request::drop_all`], which is taken as
-/// [`drop_all`] takes it; several may share names.
+/// Many requests on a lent table and tally, each in its turn on what those before it left, by the
+/// default sheet; a refused one stops nothing. [`Lent::apply_all`] is the same by any sheet.
+///
+/// In `names` stand the names of every [`Request::drop_all`], which is taken as [`drop_all`] takes it;
+/// several may share names.
 ///
 /// The answers are written to the start of `answers`, one for each request, and given back. Where it
 /// is shorter than the requests, those that it has no room for are not taken; the entries behind the
@@ -84,20 +73,7 @@ pub fn apply_all<'a>(
     names: &[Name],
     answers: &'a mut [Outcome],
 ) -> &'a [Outcome] {
-    let taken = unsafe {
-        ffi::kz_abi_apply_all(
-            table.as_mut_ptr(),
-            table.len(),
-            tally,
-            requests.as_ptr().cast(),
-            requests.len(),
-            names.as_ptr().cast(),
-            names.len(),
-            answers.as_mut_ptr().cast(),
-            answers.len(),
-        )
-    };
-    &answers[..taken]
+    Lent::new(table, tally).apply_all(requests, names, answers)
 }
 
 /// Capabilities dropped together, as when a function returns: 1 to [`MAX_GROUP`] names, each above the
@@ -110,10 +86,11 @@ pub fn apply_all<'a>(
 /// [`Refusal::Disordered`] changes nothing; any other refusal, [`Refusal::Misgrouped`] among them, adds
 /// one to the refused count and changes nothing else.
 pub fn drop_all(table: &mut [Cap], tally: &mut Tally, names: &[Name]) -> Answer {
-    request(table, tally, Request::drop_all(0..names.len()), names)
+    Lent::new(table, tally).drop_all(names)
 }
 
-/// A run of event lines on a lent table and tally, until one is refused.
+/// A run of event lines on a lent table and tally, until one is refused, by the default sheet.
+/// [`Lent::run`] is the same by any sheet.
 ///
 /// In a text whose first line is [`NAMED_HEADER`](crate::NAMED_HEADER) every create and borrow has its
 /// new name written out, else none has: the lines are those of [`write_event`]. That first line is
@@ -123,12 +100,7 @@ pub fn drop_all(table: &mut [Cap], tally: &mut Tally, names: &[Name]) -> Answer 
 /// The table is then as after the last allowed line. The refused line adds one to the refused
 /// count; [`Refusal::Disordered`] changes nothing.
 pub fn run(table: &mut [Cap], tally: &mut Tally, text: &[u8]) -> RunAnswer {
-    let rows = table.len();
-    let table = table.as_mut_ptr();
-    match split(unsafe { ffi::kz_abi_run(table, rows, tally, text.as_ptr(), text.len()) }) {
-        Ok(lines) => RunAnswer::Allowed { lines },
-        Err((refusal, line)) => RunAnswer::Refused { refusal, line },
-    }
+    Lent::new(table, tally).run(text)
 }
 
 /// Writes the line of an event, its newline included, to the start of the buffer, and answers its
@@ -227,6 +199,50 @@ pub fn read_listing(text: &[u8], table: &mut [Cap], tally: &mut Tally) -> Result
     let table = table.as_mut_ptr();
     value(unsafe { ffi::kz_abi_read_listing(table, rows, tally, text.as_ptr(), text.len()) })?;
     Ok(())
+}
+
+impl Sheet {
+    /// Reads the text of a sheet: lines such as
+    /// `(rule (holder raw cell) (access write) (from kin) keep)`, each ended by a newline, with one space
+    /// between words. Each bracket lists one word or more, in any order. A rule gives its result to every
+    /// combination of its words, and every combination is given exactly once in the whole text.
+    ///
+    /// ```
+    /// use kelzoud::{Refusal, Sheet};
+    ///
+    /// let text = b"(rule (holder reference cell) (access read) (from cell kin stranger) lower)\n\
+    ///     (rule (holder raw) (access read) (from cell kin stranger) keep)\n\
+    ///     (rule (holder reference raw cell) (access write) (from cell) keep)\n\
+    ///     (rule (holder raw) (access write) (from kin) keep)\n\
+    ///     (rule (holder reference cell) (access write) (from kin) end)\n\
+    ///     (rule (holder reference raw cell) (access write) (from stranger) end)\n";
+    /// assert_eq!(Sheet::read(text), Ok(Sheet::DEFAULT));
+    /// assert_eq!(Sheet::read(b""), Err(Refusal::NotGiven));
+    /// ```
+    ///
+    /// # Errors
+    ///
+    /// Over the whole text [`Refusal::Misspelt`] where a line is not of this form, else
+    /// [`Refusal::GivenTwice`], else [`Refusal::NotGiven`].
+    pub fn read(text: &[u8]) -> Result<Sheet, Refusal> {
+        let mut bytes = [0; Sheet::PLACES];
+        value(unsafe { ffi::kz_abi_read_sheet(text.as_ptr(), text.len(), &mut bytes) })?;
+        Ok(Sheet::from_bytes(bytes))
+    }
+
+    /// Writes one text of the sheet to the start of the buffer, and answers its length, at most
+    /// [`MAX_SHEET`](crate::MAX_SHEET). The bytes after it stay. It has a line for each combination, by
+    /// rising place, and reads back to the sheet.
+    ///
+    /// # Errors
+    ///
+    /// [`Refusal::BufferTooShort`], with the buffer untouched.
+    pub fn write(&self, out: &mut [u8]) -> Result<usize, Refusal> {
+        let sheet = self.as_bytes().as_ptr();
+        let size = out.len();
+        let out = out.as_mut_ptr();
+        length(unsafe { ffi::kz_abi_write_sheet(sheet, Sheet::PLACES, out, size) })
+    }
 }
 
 /// Writes what the program `capcheck` prints for an input to the start of the buffer, and answers

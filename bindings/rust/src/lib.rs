@@ -81,6 +81,22 @@
 //! assert_eq!(answer, RunAnswer::Refused { refusal: Refusal::Ended, line: 2 });
 //! ```
 //!
+//! All this goes by the default [conflict sheet](Sheet), which says for each [`Kind`], each [`Access`]
+//! and each [`Origin`] whether what is struck stays, is lowered or ends. A checker for a language with
+//! other rules makes a sheet of its own, and lends it with the table and the tally in a [`Lent`]. Here a
+//! read ends what the default sheet lets it lower:
+//!
+//! ```
+//! use kelzoud::{Access, Cap, Effect, Kind, Lent, Origin, Refusal, RunAnswer, Sheet, Tally};
+//!
+//! let sheet = Sheet::DEFAULT.with(Kind::Reference, Access::Read, Origin::Kin, Effect::End);
+//! let mut table = [Cap::EMPTY; 16];
+//! let mut tally = Tally::default();
+//! let mut lent = Lent { sheet, ..Lent::new(&mut table, &mut tally) };
+//! let answer = lent.run(b"(create 0 64 rw)\n(borrow 1 0 8 rw)\n(read 1 0 8)\n(read 2 0 8)\n");
+//! assert_eq!(answer, RunAnswer::Refused { refusal: Refusal::Ended, line: 4 });
+//! ```
+//!
 //! Many events are handed over in one call by [`apply_all`], and a log is read line by line by
 //! [`read_event`].
 //!
@@ -93,7 +109,9 @@
 mod answers;
 mod calls;
 mod ffi;
+mod lent;
 mod requests;
+mod sheets;
 mod values;
 
 pub use answers::{Answer, Outcome, Refusal, RunAnswer};
@@ -101,7 +119,9 @@ pub use calls::{
     apply, apply_all, check, drop_all, read_event, read_listing, run, write_drop, write_event,
     write_listing,
 };
+pub use lent::Lent;
 pub use requests::{Group, Line, Request, Spelling};
+pub use sheets::{Access, Effect, Origin, Sheet};
 pub use values::{Addr, Cap, Event, Kind, Name, Right, Span, Tally};
 
 /// The most rows of a table.
@@ -127,6 +147,9 @@ pub const MAX_NAMED_LINE: usize = 61;
 
 /// The most bytes of a line of [`write_drop`], its newline included.
 pub const MAX_DROP_LINE: usize = 711;
+
+/// The most bytes of the text of [`Sheet::write`].
+pub const MAX_SHEET: usize = 1_005;
 
 /// The first line of a text in which new names are written out.
 pub const NAMED_HEADER: &[u8] = b"(trace 2)\n";

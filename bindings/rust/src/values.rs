@@ -41,8 +41,9 @@ impl Right {
     }
 }
 
-/// What a capability stands for, which decides what strikes it and what is struck through it:
-/// [`Event::Read`] and [`Event::Write`] say how. There is no bond between kind and right.
+/// What a capability stands for: what a read or write does to one that it strikes goes by its kind, as a
+/// [`Sheet`](crate::Sheet) says. What is said of each here is so by the default sheet. There is no bond
+/// between kind and right.
 #[derive(Clone, Copy, Debug, Default, PartialEq, Eq, Hash)]
 #[repr(u8)]
 pub enum Kind {
@@ -75,6 +76,10 @@ impl Kind {
 /// A log may write out the name of what a create or borrow makes. A written name that is not the one
 /// that is given out next, the issued number plus one, is refused
 /// [`Misnamed`](crate::Refusal::Misnamed).
+///
+/// What reads, writes and creates do to others is said here by the default [`Sheet`](crate::Sheet). By
+/// another sheet each capability that a read or write touches, and that is neither its user nor an
+/// ancestor of its user, is kept, lowered or ended as that says; and a create is a stranger's write.
 #[derive(Clone, Copy, Debug, PartialEq, Eq, Hash)]
 pub enum Event {
     /// Makes a new root, a reference, as a fresh allocation: ends every capability that its span

@@ -544,12 +544,12 @@ fn capcheck_prints_the_verdict_and_the_listing() {
 
 #[test]
 fn refusals_have_their_numbers() {
-    for number in 1..=13 {
+    for number in 1..=15 {
         let refusal = Refusal::from_number(number).unwrap();
         assert_eq!(u32::from(refusal.number()), number);
     }
     assert_eq!(Refusal::from_number(0), None);
-    assert_eq!(Refusal::from_number(14), None);
+    assert_eq!(Refusal::from_number(16), None);
     assert_eq!(
         Refusal::Ended.to_string(),
         "refusal 5, the capability has ended"
