@@ -71,6 +71,28 @@ static void read_listing(void) {
     kz_read_listing(&lent, text, text_len);
 }
 
+/* A sheet of every result, and its text of a line for each combination. */
+static kz_sheet sheet;
+static uint8_t sheet_text[KZ_MAX_SHEET];
+static size_t sheet_len;
+
+static void events_by_sheet(void) {
+    kz_lent lent = kz_lend(&part);
+    static const kz_event event = {KZ_WRITE, 1, 0, 64, 0, 0, 0, 0};
+    lent.sheet = &sheet;
+    kz_apply(&lent, &event);
+}
+
+static void write_sheet(void) {
+    static uint8_t out[KZ_MAX_SHEET];
+    kz_write_sheet(&sheet, out, sizeof out);
+}
+
+static void read_sheet(void) {
+    static kz_sheet found;
+    kz_read_sheet(sheet_text, sheet_len, &found);
+}
+
 /* A chain down to the greatest depth, and a line of each sort. */
 static char trace[KZ_MAX_INPUT];
 static size_t trace_len;
@@ -128,11 +150,16 @@ int main(void) {
         {"kz_run", run},                {"kz_write_event", write_event},
         {"kz_read_event", read_event},  {"kz_write_listing", write_listing},
         {"kz_read_listing", read_listing}, {"kz_check", check},
+        {"kz_apply, a sheet", events_by_sheet}, {"kz_write_sheet", write_sheet},
+        {"kz_read_sheet", read_sheet},
     };
     deep_rows();
     deep_trace();
     const kz_lent lent = kz_lend(&fresh);
     text_len = kz_write_listing(&lent, text, sizeof text).value;
+    for (size_t place = 0; place < KZ_SHEET_PLACES; place++)
+        sheet.results[place] = (uint8_t)(place % 3);
+    sheet_len = kz_write_sheet(&sheet, sheet_text, sizeof sheet_text).value;
     const size_t none = measure(nothing);
     for (size_t i = 0; i < sizeof calls / sizeof calls[0]; i++)
         printf("%-18s %6zu\n", calls[i].name, measure(calls[i].call) - none);
