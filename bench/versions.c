@@ -17,10 +17,30 @@ enum { NAME, PARENT, START, LENGTH, RIGHT, DEPTH };
 static const uint32_t tree_length = 1u << 20;
 static const uint32_t beside = 1u << 21;
 
-typedef uint64_t apply_fn(uint32_t *table, size_t rows, uint32_t *tally, const uint32_t *event,
-                          const uint32_t *names, size_t names_len);
+/* One event by the default sheet. */
+typedef uint64_t apply_fn(uint32_t *table, size_t rows, uint32_t *tally, const uint32_t *event);
 
-apply_fn other_apply;
+#ifdef OTHER_TAKES_SHEETS
+uint64_t other_apply(uint32_t *table, size_t rows, uint32_t *tally, const uint8_t *sheet,
+                     size_t sheet_len, const uint32_t *event, const uint32_t *names,
+                     size_t names_len);
+
+static uint64_t by_other(uint32_t *table, size_t rows, uint32_t *tally, const uint32_t *event) {
+    return other_apply(table, rows, tally, NULL, 0, event, NULL, 0);
+}
+#else
+uint64_t other_apply(uint32_t *table, size_t rows, uint32_t *tally, const uint32_t *event,
+                     const uint32_t *names, size_t names_len);
+
+static uint64_t by_other(uint32_t *table, size_t rows, uint32_t *tally, const uint32_t *event) {
+    return other_apply(table, rows, tally, event, NULL, 0);
+}
+#endif
+
+static uint64_t by_this(uint32_t *table, size_t rows, uint32_t *tally, const uint32_t *event) {
+    return kz_abi_apply((kz_cap *)table, rows, (kz_tally *)tally, NULL, 0, (const kz_event *)event,
+                        NULL, 0);
+}
 
 typedef struct version {
     apply_fn *apply;
@@ -85,7 +105,7 @@ static double batch(const version *v, const row *table, size_t rows, uint32_t is
         tallies[i][0] = issued;
     }
     const double start = nanoseconds();
-    for (int i = 0; i < COPIES; i++) v->apply(tables[i], rows, tallies[i], event, NULL, 0);
+    for (int i = 0; i < COPIES; i++) v->apply(tables[i], rows, tallies[i], event);
     return (nanoseconds() - start) / COPIES;
 }
 
@@ -103,8 +123,8 @@ static void compare(const char *what, const version *versions, const row *table,
 int main(int argc, char **argv) {
     if (argc != 2) return 2;
     const version versions[2] = {
-        {other_apply, (size_t)atoi(argv[1])},
-        {(apply_fn *)kz_abi_apply, sizeof(kz_cap) / 4},
+        {by_other, (size_t)atoi(argv[1])},
+        {by_this, sizeof(kz_cap) / 4},
     };
     static row table[MOST_ROWS];
     const uint32_t name = 1;

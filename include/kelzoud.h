@@ -78,7 +78,7 @@ enum {
 enum kz_refusal {
     KZ_DISORDERED = 1,       /* the table is not in order, as kz_cap says, or has too many rows */
     KZ_MISGROUPED = 13,      /* lent names: none, more than KZ_MAX_GROUP, or not strictly rising */
-    KZ_MISSPELT = 2,         /* not in the one spelling; an unknown kind, right or cap_kind */
+    KZ_MISSPELT = 2,         /* text that is not spelled so; an unknown kind, right or cap_kind */
     KZ_GIVEN_TWICE = 14,     /* a sheet's text gives a combination twice */
     KZ_NOT_GIVEN = 15,       /* a sheet's text leaves a combination out */
     KZ_ILLEGAL_SPAN = 3,     /* an end above 4,294,967,296 */
@@ -142,10 +142,11 @@ enum {
  * A conflict sheet: what a read or write does to what it strikes, for each kind of the struck
  * capability, each access, and where the access comes from. These are 18 combinations, each with a
  * place, kz_sheet_place: the kind times 6, plus 3 for a write, plus where it comes from. Every array of
- * 18 bytes is a sheet. Reading and writing its text is for kz_read_sheet and kz_write_sheet;
- * docs/SHEETS.md tells how to make one for another language.
+ * 18 bytes is a sheet, and one of zeros keeps everything. kz_read_sheet and kz_write_sheet are for its
+ * text; docs/SHEETS.md tells how to make one for another language.
  *
- * The default sheet is that of kz_event. One table is used with one sheet throughout.
+ * The default sheet is that of kz_event. Each event goes by the sheet that is lent with it; a tool that
+ * keeps one sheet for all events of a table has the promises about whole lists of events.
  */
 enum { KZ_SHEET_PLACES = 18 };
 
@@ -155,7 +156,8 @@ typedef struct kz_sheet {
 
 /*
  * What a caller lends for events: a table of `rows` rows, 0 to KZ_MAX_ROWS of them, its tally, and the
- * conflict sheet by which events are carried out, NULL for the default one.
+ * conflict sheet by which events are carried out, NULL for the default one. Begin with all zeros here
+ * too, and set the fields by name.
  */
 typedef struct kz_lent {
     kz_cap *table;
@@ -230,7 +232,8 @@ static inline kz_lent kz_lend(kz_part *part);
 
 /*
  * The place of a combination in a sheet: a kind of capability, KZ_READ or KZ_WRITE, and KZ_FROM_CELL to
- * KZ_FROM_STRANGER. A number above these counts as the last of its list, so the place is always inside.
+ * KZ_FROM_STRANGER. Any other number counts as KZ_CELL, KZ_WRITE or KZ_FROM_STRANGER, so the place is
+ * always inside.
  */
 static inline size_t kz_sheet_place(uint32_t kind, uint32_t access, uint32_t from);
 
@@ -398,9 +401,9 @@ static inline kz_answer kz_check(const uint8_t *input, size_t input_len, uint8_t
  * The functions that the archives export. The calls above are made of these, which have the parts of
  * a kz_lent one by one. A language that cannot include this header declares them itself: each of their
  * structs is a run of 32-bit words without gaps, and each length is a size_t. A sheet is its bytes and
- * how many they are: none is the default one, and of fewer than KZ_SHEET_PLACES the missing ones count
- * as KZ_END. An answer is one number, the refusal times 2^32 plus the value; only kz_abi_apply_all
- * writes kz_answer structs.
+ * how many they are: none is the default one, of fewer than KZ_SHEET_PLACES the missing ones count as
+ * KZ_END, and of more the first count. An answer is one number, the refusal times 2^32 plus the value;
+ * only kz_abi_apply_all writes kz_answer structs.
  */
 
 /* Both archives. */

@@ -1,5 +1,5 @@
 -- Card 7: a conflict sheet as the bytes that a caller lends. Each of the 18 combinations has one place, and its byte is the result: 0 keep,
--- 1 lower, anything else `end`. So every array of bytes is a sheet, and no damage to it hides a violation.
+-- 1 lower, anything else `end`. So every array of bytes is a sheet, and a byte that is no result takes all that one can.
 -- Assumes nothing.
 use Prim.Native.Nat.{ℕ, zero, suc, _+_, _*_}
 use mathlib.Core.Path.{_≡_}
