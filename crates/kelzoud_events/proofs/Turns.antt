@@ -6,14 +6,14 @@ use mathlib.Core.List.{List, [], _∷_, _++_, map, map-append}
 use Prim.Native.Nat.{ℕ, suc, _+_, _≤_, _<_}
 use native.Mathlib.Numerals.{add-one}
 use native.Mathlib.Omega.{arith}
-use lib.ListN.{length, getD, set, take, drop, replicate, length-map, length-replicate, replicate-append-replicate, List·getD-map}
+use lib.ListN.{length, getD, set, drop, replicate, length-map, length-replicate, replicate-append-replicate, List·getD-map}
 use lib.Seq.{take-suc, drop-cons, set-at, append-snoc, length-take-le}
 use Rattle.model.specs.Requests.{Request}
 use Rattle.model.specs.Lists.{final, answers}
 use Rattle.model.specs.Table.{inOrder}
 use Rattle.model.specs.Refusals.{refusals, judge}
 use Rattle.model.specs.declared.Sheet.{Sheet}
-use Rattle.model.specs.Step.{State, Verdict, after, answer}
+use Rattle.model.specs.Step.{State, after, answer}
 use Rattle.model.proofs.Offered.{final-append, answers-append}
 use Rattle.table.specs.Words.{rowsIn}
 use Rattle.table.specs.Lent.{tallyIn, lent}

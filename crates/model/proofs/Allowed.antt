@@ -20,7 +20,7 @@ use Rattle.model.specs.Lists.{filter, any}
 use Rattle.model.specs.Derivation.{Derivation}
 use Rattle.model.specs.Values.{legal, inside}
 use Rattle.model.specs.Table.{emptyRow, span, named, liveRows, lentTable, lookup, inOrder}
-use Rattle.model.specs.Refusals.{viewOf, disordered, refusals, judge}
+use Rattle.model.specs.Refusals.{disordered, refusals, judge}
 use Rattle.model.specs.Step.{initial, stateAfter, isAllowed}
 use Rattle.model.specs.Table
 use Rattle.model.specs.Refusals

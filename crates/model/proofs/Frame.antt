@@ -4,7 +4,7 @@ use mathlib.Core.Path.{_≡_, ap}
 use Prim.Native.Nat.{ℕ, zero, suc}
 use Rattle.model.specs.declared.Sheet.{Sheet}
 use Rattle.model.specs.Requests.{Request}
-use Rattle.model.specs.Refusals.{viewOf, judge}
+use Rattle.model.specs.Refusals.{judge}
 use Rattle.model.specs.Counts.{countRefused}
 use Rattle.model.specs.Step.{State, view, answer, outcome, after}
 

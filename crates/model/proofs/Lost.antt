@@ -9,7 +9,7 @@ use Rattle.model.specs.declared.Event.the-variants.{Create, Borrow, Read
 use Rattle.model.specs.Requests.{Request, Single, Group}
 use Rattle.model.specs.declared.Sheet.{Sheet}
 use Rattle.model.specs.Lists.{final}
-use Rattle.model.specs.Refusals.{viewOf, judge}
+use Rattle.model.specs.Refusals.{judge}
 use Rattle.model.specs.Effects.{issuedAfter}
 use Rattle.model.specs.History.{Note, Dropped, derivations, ends, lowers, hits, lives, writable, livesRw, view, notesOf, History, outcome, after, emptyHistory, historyAfter}
 use Rattle.model.proofs.Lists.{clash, unless, and-both, final-append}

@@ -1,8 +1,8 @@
 -- Where an access comes from, for the proofs of the code: the nearest cell above the user decides for all cells.
 -- Assumes nothing.
-use mathlib.Core.Path.{_≡_, refl, sym, ap, _∙_}
+use mathlib.Core.Path.{_≡_, refl, sym}
 use mathlib.Core.Logic.{_⊎_, inl, inr}
-use mathlib.Core.Bool.{true, false, not, cond, _&&_, and-false, or-true}
+use mathlib.Core.Bool.{true, false, not, _&&_, and-false, or-true}
 use mathlib.Core.List.{List, [], _∷_}
 use Prim.Native.Nat.{ℕ, _<_, _≤_}
 use native.Mathlib.Omega.{arith}

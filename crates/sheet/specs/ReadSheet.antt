@@ -1,7 +1,6 @@
 -- Card 7: reading a sheet's text. "A refused sheet changes nothing."
 -- Assumes nothing.
 use Prim.Native.Nat.{ℕ}
-use mathlib.Core.Path.{_≡_}
 use mathlib.Core.Bool.{cond}
 use mathlib.Core.List.{List, map}
 use lib.Dec.{eqb}

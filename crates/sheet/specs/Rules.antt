@@ -1,7 +1,7 @@
 -- Card 7: "All 18 combinations must be given once." The rules of a sheet, when they make one, and which.
 -- Assumes nothing.
 use Prim.Native.Nat.{ℕ, _+_, _*_, _/_, _%_}
-use mathlib.Core.Bool.{Bool, not, cond}
+use mathlib.Core.Bool.{not, cond}
 use mathlib.Core.List.{List, [], _∷_, map, flatMap}
 use lib.Dec.{eqb, ltb}
 use lib.ListN.{length}

@@ -1,6 +1,5 @@
 -- `kelzoud::kz_abi_read_event` meets its contract.
 -- Assumes nothing.
-use mathlib.Core.Path.{_≡_}
 use borrow.Author.Needs.{needs}
 use Rattle.kelzoud.proofs.kz_abi_read_event.Statement.{statement}
 use Rattle.kelzoud.proofs.kz_abi_read_event.Tie as tie

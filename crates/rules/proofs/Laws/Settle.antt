@@ -5,7 +5,6 @@ use mathlib.Core.Logic.{_⊎_, inl, inr}
 use mathlib.Core.Bool.{Bool, true, false, cond}
 use mathlib.Core.List.{List, _∷_, _++_, reverse-reverse}
 use Prim.Native.Nat.{ℕ, zero, suc, _+_, _-_, _≤_, _<_}
-use native.Mathlib.Nat.{not-suc-le-zero}
 use native.Mathlib.Numerals.{add-one}
 use native.Mathlib.Omega.{arith}
 use lib.Dec.{eqb, ltb}
@@ -19,7 +18,7 @@ use Rattle.model.specs.Effects.{lowered, revoke}
 use Rattle.table.specs.Rows.{nameAt, parentAt, before, Filled, Found, Places}
 use Rattle.rules.specs.Engine.{mark, Marked, Downward, Stays, kept, Closes, Clears, Lowers, Settled}
 use Rattle.model.proofs.Offered.{All, test, or-neither}
-use Rattle.table.proofs.Offered.{last, before-suc, before-same, length-before, at-before, Alike, places-same, places-none, places-more, places-past, before-reverse}
+use Rattle.table.proofs.Offered.{last, before-suc, before-same, length-before, at-before, Alike, places-same, places-more, places-past, before-reverse}
 
 -- ---- closing up
 

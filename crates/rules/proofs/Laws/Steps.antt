@@ -1,16 +1,15 @@
 -- One event: what the engine's parts do, put together.
 -- Assumes nothing.
 use mathlib.Core.Path.{_≡_, refl, sym, ap, ap₂, subst, _∙_}
-use mathlib.Core.Logic.{_⊎_, inl, inr}
-use mathlib.Core.Bool.{Bool, true, false, not, cond, _&&_, _||_}
+use mathlib.Core.Bool.{true, false}
 use mathlib.Core.List.{List, [], _∷_}
 use Prim.Native.Nat.{ℕ, zero, suc, _+_, _≤_, _<_}
 use native.Mathlib.Numerals.{add-one}
 use native.Mathlib.Omega.{arith}
-use lib.Dec.{ltb, leb}
+use lib.Dec.{leb}
 use lib.ListN.{length, getD, set, length-set}
 use lib.Seq.{getD-set-same, getD-set-other}
-use borrow.Author.Tests.{eqb-false, ltb-true, leb-false, not-false, lt-leb}
+use borrow.Author.Tests.{eqb-false, leb-false, not-false}
 use Rattle.model.specs.declared.Name.{Name}
 use Rattle.model.specs.declared.NewName.{NewName}
 use Rattle.model.specs.declared.Span.{Span}
@@ -20,20 +19,18 @@ use Rattle.model.specs.declared.Sheet.{Sheet}
 use Rattle.model.specs.declared.Access.the-variants.{Reading, Writing}
 use Rattle.model.specs.declared.Tally.{Tally}
 use Rattle.rules.specs.declared.Outcome.{Outcome}
-use Rattle.model.specs.declared.Event.{Event}
 use Rattle.model.specs.declared.Event.the-variants.{Create, Borrow, Read, Write, Drop}
 use Rattle.model.specs.declared.Refusal.{Refusal}
 use Rattle.model.specs.declared.Refusal.the-variants.{Disordered}
 use Rattle.model.specs.declared.Answer.the-variants.{Allowed, Refused}
-use Rattle.model.specs.Lists.{first, any, all}
-use Rattle.model.specs.Strike.{isEnd, isLower, reached, struck}
-use Rattle.model.specs.Derivation.{Derivation, ancestry, inSubtree, onAncestry}
+use Rattle.model.specs.Lists.{any, all}
+use Rattle.model.specs.Strike.{isEnd, isLower, struck}
 use Rattle.model.specs.Step.{Verdict, State, verdict, outcome, after, answer}
 use Rattle.model.specs.Table.{row, emptyRow, derivations, named, liveRows, lookup, lentTable, inOrder}
 use Rattle.model.specs.declared.Asked.{Asked}
 use Rattle.model.specs.declared.Asked.the-variants as ask
 use Rattle.model.specs.Requests.{Request, Single, Group, requestOf}
-use Rattle.model.specs.Refusals.{viewOf, standings, checks, refusals, judge}
+use Rattle.model.specs.Refusals.{viewOf, refusals, judge}
 use Rattle.model.specs.Effects.{newName, afterAccess, rowsWithout, rowsAfter}
 use Rattle.model.specs.Counts.{countAllowed, countRefused}
 use Rattle.model.specs.Answers.{number, verdictOf}
@@ -41,8 +38,8 @@ use Rattle.table.specs.Words.{rowsIn}
 use Rattle.table.specs.Rows.{nameAt, before, Filled, Front, Found, Places, Orderly}
 use Rattle.rules.specs.Engine.{Marked, kept, Ready, Settled}
 use Rattle.rules.specs.Steps.{lends, Stepped}
-use Rattle.model.proofs.Offered.{test, and-both, allowed, ordered-not-1, access-fits, Named, live-lent, Ordered, ordered, live-named, access-inOrder, access-named, order-after}
-use Rattle.table.proofs.Offered.{length-in, before-suc, before-same, length-before, extend, Alike, places-more, found-zero, numbered, orderly-live, orderly-rise, orderly-standing, orderly-judge, orderly-zeros}
+use Rattle.model.proofs.Offered.{allowed, ordered-not-1, access-fits, Named, live-lent, ordered, live-named, access-inOrder, access-named, order-after}
+use Rattle.table.proofs.Offered.{length-in, before-suc, before-same, length-before, extend, Alike, places-more, found-zero, numbered, orderly-live, orderly-rise, orderly-standing, orderly-zeros}
 use Rattle.rules.proofs.Laws.Settle.{before-lent, kept-revoke}
 
 -- a new row after the live ones

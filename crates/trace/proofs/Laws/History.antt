@@ -21,7 +21,7 @@ use Rattle.text.specs.Read.{same}
 use Rattle.text.specs.declared.spelling.Spelling.{Spelling}
 use Rattle.text.specs.declared.spelling.Spelling.the-variants.{Plain, Named}
 use Rattle.text.specs.Request.{readRequest}
-use Rattle.trace.specs.Run.{header, Taken, Ran, takeRead, takeLine, runLines, runTrace, runFrom, lent, run}
+use Rattle.trace.specs.Run.{header, Taken, Ran, takeRead, takeLine, runLines, runTrace, runFrom, lent}
 use Rattle.trace.specs.HistoryRun.{noted, SameRun}
 
 module _ (sheet : Sheet) (n : ℕ) where

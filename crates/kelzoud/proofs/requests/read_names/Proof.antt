@@ -1,13 +1,9 @@
 -- `kelzoud::requests::read_names` meets its contract: the words of a group and its names, or nothing is written.
 -- Assumes nothing.
-use mathlib.Core.Path.{_≡_, sym, ap, _∙_}
+use mathlib.Core.Path.{sym, ap, _∙_}
 use native.Mathlib.Omega.{arith}
-use Rattle.model.specs.Requests.{Request}
-use Rattle.text.specs.Result.{Result, value, refused}
-use Rattle.text.specs.Group.{readGroup, groupAnswer}
-use Rattle.text.specs.Request.{groupOf}
-use Rattle.kelzoud_events.specs.Interface.{wordsOf, groupWords}
-use Rattle.kelzoud.specs.Interface.{packedRead, eventAfter, groupAfter}
+use Rattle.text.specs.Group.{groupAnswer}
+use Rattle.kelzoud_events.specs.Interface.{wordsOf}
 use Rattle.kelzoud.proofs.Laws.{counted, unread}
 use borrow.Author.Needs.{needs}
 use Rattle.kelzoud.proofs.requests.read_names.Statement.{statement}

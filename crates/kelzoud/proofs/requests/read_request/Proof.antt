@@ -1,6 +1,6 @@
 -- `kelzoud::requests::read_request` meets its contract: a line that is no event is read as a group.
 -- Assumes nothing.
-use mathlib.Core.Path.{_≡_, refl, sym, ap, _∙_}
+use mathlib.Core.Path.{sym, ap, _∙_}
 use Rattle.model.specs.declared.Event.{Event}
 use Rattle.text.specs.Result.{Result}
 use Rattle.text.specs.Read.{readAnswer}

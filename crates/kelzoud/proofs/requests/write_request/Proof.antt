@@ -1,7 +1,6 @@
 -- `kelzoud::requests::write_request` meets its contract, case by case.
 -- Assumes nothing.
-use mathlib.Core.Path.{_≡_, sym, ap, _∙_}
-use Rattle.model.specs.declared.Event.{Event}
+use mathlib.Core.Path.{sym, ap, _∙_}
 use Rattle.model.specs.declared.Asked.{Asked}
 use Rattle.model.specs.Requests.{requestOf}
 use Rattle.text.specs.declared.spelling.Spelling.{Spelling}

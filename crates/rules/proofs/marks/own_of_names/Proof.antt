@@ -1,11 +1,9 @@
 -- `own_of_names` meets its contract: from the last name to the first, those from i on are noted.
 -- Assumes nothing.
 use native.Mathlib.Omega.{arith}
-use native.Mathlib.Numerals.{add-one}
 use mathlib.Core.Path.{_≡_}
 use Prim.Native.Nat.{_+_, _-_, _≤_}
 use lib.ListN.{length, drop}
-use borrow.Author.Needs.{needs}
 use Rattle.table.specs.Words.{rowsIn}
 use Rattle.rules.specs.Engine.{Owned}
 use Rattle.rules.proofs.Laws.Marks.{stand-rise, owned-none, owned-more}

@@ -1,6 +1,5 @@
 -- `relate` meets its contract.
 -- Assumes nothing.
-use borrow.Author.Needs.{needs}
 use Rattle.table.specs.Words.{rowsIn}
 use Rattle.rules.proofs.Laws.Marks.{stand-rise, related-none, related-inside}
 use Rattle.rules.proofs.marks.relate.Statement.{statement}

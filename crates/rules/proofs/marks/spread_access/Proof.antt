@@ -1,12 +1,11 @@
 -- `spread_access` meets its contract: the first i are done.
 -- Assumes nothing.
-use mathlib.Core.Path.{_≡_, sym, ap, ap₂, _∙_}
+use mathlib.Core.Path.{_≡_, ap, ap₂, _∙_}
 use Prim.Native.Nat.{ℕ, _-_, _≤_, _<_, max}
 use native.Mathlib.Omega.{arith}
 use lib.Dec.{eqb}
 use lib.ListN.{getD, replicate, length-replicate, getD-replicate}
 use lib.Seq.{getD-set-other}
-use borrow.Author.Needs.{needs}
 use Rattle.model.specs.declared.Cap.{Cap}
 use Rattle.table.proofs.Offered.{rise-fits}
 use Rattle.table.specs.Words.{rowsIn}

@@ -1,10 +1,7 @@
 -- `request_held` meets its contract: a sheet is that of its bytes.
 -- Assumes nothing.
 use mathlib.Core.Path.{_≡_, ap, _∙_}
-use mathlib.Core.List.{List}
-use Prim.Native.Nat.{ℕ}
 use borrow.Author.Needs.{needs}
-use Rattle.model.specs.declared.Sheet.{Sheet}
 use Rattle.table.specs.Sheets.{sheetIn}
 use Rattle.table.proofs.Offered.{bytes-back}
 use Rattle.rules.proofs.records.request_held.Statement.{statement}

@@ -1,24 +1,21 @@
 -- `change_event` meets its contract.
 -- Assumes nothing.
 use mathlib.Core.Path.{_≡_, sym, ap, _∙_, subst}
-use mathlib.Core.Bool.{false}
 use mathlib.Core.List.{List, [], _∷_}
 use Prim.Native.Nat.{_+_, _≤_, _<_}
 use native.Mathlib.Omega.{arith}
-use lib.ListN.{length, take}
+use lib.ListN.{length}
 use borrow.Author.Needs.{needs}
 use Rattle.model.specs.declared.Cap.{Cap}
 use Rattle.model.specs.declared.Event.{Event}
 use Rattle.model.specs.declared.Access.the-variants.{Reading, Writing}
-use Rattle.model.specs.Derivation.{ancestry, inSubtree}
-use Rattle.model.specs.Table.{derivations}
 use Rattle.model.specs.Requests.{Single}
 use Rattle.model.specs.Refusals.{viewOf, judge}
 use Rattle.model.specs.Effects.{afterAccess, rowsWithout, rowsAfter}
 use Rattle.table.specs.Words.{rowsIn}
 use Rattle.table.specs.Sheets.{sheetIn}
 use Rattle.table.specs.Rows.{before, Found}
-use Rattle.table.proofs.Offered.{length-in, orderly-issued, orderly-few, orderly-rise}
+use Rattle.table.proofs.Offered.{orderly-issued, orderly-few, orderly-rise}
 use Rattle.rules.proofs.Laws.Steps.{ready, access-rows, access-few, access-ready, access-root, room-create, room-borrow, there-borrow, depth-borrow, next-create, next-borrow, next-read, next-write, next-drop}
 use Rattle.rules.proofs.steps.change_event.Statement.{statement}
 use Rattle.rules.proofs.steps.change_event.Tie as tie

@@ -1,6 +1,6 @@
 -- `table::sheets::bytes_of` meets its contract: six places for each kind of holder.
 -- Assumes nothing.
-use mathlib.Core.Path.{_∙_, ap, refl}
+use mathlib.Core.Path.{_∙_, ap}
 use mathlib.Core.List.{List}
 use Prim.Native.Nat.{ℕ}
 use native.Mathlib.Omega.{arith}

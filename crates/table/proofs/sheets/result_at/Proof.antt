@@ -1,11 +1,9 @@
 -- `table::sheets::result_at` meets its contract: the byte at the combination's place, and 2 for any above.
 -- Assumes nothing.
-use mathlib.Core.Path.{_≡_, sym, ap, _∙_}
+use mathlib.Core.Path.{_∙_}
 use native.Mathlib.Omega.{arith}
 use lib.ListN.{getD}
 use borrow.Author.Needs.{needs}
-use Rattle.model.specs.declared.Effect.{Effect}
-use Rattle.table.specs.Sheets.{weight}
 use Rattle.table.proofs.Laws.Sheets.{weight-at, weight-small, weight-other}
 use Rattle.table.proofs.sheets.result_at.Statement.{statement}
 use Rattle.table.proofs.sheets.result_at.Tie as tie

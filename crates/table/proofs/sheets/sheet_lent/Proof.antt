@@ -1,6 +1,6 @@
 -- `table::sheets::sheet_lent` meets its contract: card 6's where no byte is lent, and otherwise byte by byte.
 -- Assumes nothing.
-use mathlib.Core.Path.{_≡_, sym, ap, subst}
+use mathlib.Core.Path.{sym, ap, subst}
 use Prim.Native.Nat.{_-_, _≤_}
 use native.Mathlib.Omega.{arith}
 use lib.ListN.{length}

@@ -1,6 +1,6 @@
 -- `trace::run::run` meets its contract.
 -- Assumes nothing.
-use mathlib.Core.Path.{_≡_, ap, _∙_}
+use mathlib.Core.Path.{ap, _∙_}
 use borrow.Author.Needs.{needs}
 use Rattle.model.specs.declared.Tally.{Tally}
 use Rattle.table.specs.Words.{rowsIn}

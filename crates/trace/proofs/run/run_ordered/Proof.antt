@@ -15,10 +15,6 @@ use Rattle.trace.specs.Run.{lent, runLines}
 use Rattle.trace.proofs.Laws.Turn.{line-some, line-inside, turn-on, turn-ends, run-ends}
 use Rattle.trace.proofs.run.run_ordered.Statement.{statement}
 use Rattle.trace.proofs.run.run_ordered.Tie as tie
-use Rattle.trace.proofs.run.run_ordered.Reads as reads
-use Rattle.trace.proofs.run.run_ordered.Lts as lts
-use Rattle.text.proofs.lines.next_line.Reads as next-line-reads
-use Rattle.trace.proofs.run.take_line.Reads as take-line-reads
 
 abbrev Inv-loop : tie.InvT-loop
 Inv-loop table₀ live places₀ sheet spelling before text left₀ alive₀ at₀ count₀ table places left alive at count =

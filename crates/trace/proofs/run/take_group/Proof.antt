@@ -1,15 +1,12 @@
 -- `trace::run::take_group` meets its contract: the names that the line spells are dropped together, or refusal 2.
 -- Assumes nothing.
-use mathlib.Core.Path.{_≡_, sym, ap, subst, _∙_}
-use mathlib.Core.List.{List}
-use Prim.Native.Nat.{ℕ}
-use lib.ListN.{length, take}
+use mathlib.Core.Path.{_≡_, sym, ap, _∙_}
+use lib.ListN.{take}
 use lib.Seq.{length-take-le}
 use Rattle.model.specs.declared.Tally.{Tally}
 use Rattle.model.specs.Answers.{number}
-use Rattle.text.specs.Result.{Result, value, refused}
-use Rattle.text.specs.Group.{readGroup, groupAnswer, countOf}
-use Rattle.text.proofs.Offered.{refused-group-is-2}
+use Rattle.text.specs.Result.{value, refused}
+use Rattle.text.specs.Group.{readGroup, groupAnswer}
 use Rattle.table.specs.Sheets.{sheetIn}
 use Rattle.trace.proofs.Laws.Turn.{taken-group, taken-misspelt}
 use Rattle.trace.proofs.Laws.Names.{Got, got, none-got}

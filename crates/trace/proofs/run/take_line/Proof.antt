@@ -1,7 +1,6 @@
 -- `trace::run::take_line` meets its contract: the step of the event that the line spells, or what a line that spells none does.
 -- Assumes nothing.
 use mathlib.Core.Path.{_≡_, sym, ap, _∙_}
-use Prim.Native.Nat.{ℕ}
 use Rattle.model.specs.Answers.{number}
 use Rattle.text.specs.Result.{refused}
 use Rattle.text.specs.Read.{readAnswer, readEvent}
