@@ -13,6 +13,8 @@ unsafe extern "C" {
         table: *mut Cap,
         rows: usize,
         tally: *mut Tally,
+        sheet: *const u8,
+        sheet_len: usize,
         event: *const EventWords,
         names: *const u32,
         names_len: usize,
@@ -22,6 +24,8 @@ unsafe extern "C" {
         table: *mut Cap,
         rows: usize,
         tally: *mut Tally,
+        sheet: *const u8,
+        sheet_len: usize,
         events: *const EventWords,
         count: usize,
         names: *const u32,
@@ -34,6 +38,8 @@ unsafe extern "C" {
         table: *mut Cap,
         rows: usize,
         tally: *mut Tally,
+        sheet: *const u8,
+        sheet_len: usize,
         text: *const u8,
         text_len: usize,
     ) -> u64;
@@ -68,6 +74,15 @@ unsafe extern "C" {
         tally: *mut Tally,
         text: *const u8,
         text_len: usize,
+    ) -> u64;
+
+    pub fn kz_abi_read_sheet(text: *const u8, text_len: usize, sheet: *mut [u8; 18]) -> u64;
+
+    pub fn kz_abi_write_sheet(
+        sheet: *const u8,
+        sheet_len: usize,
+        out: *mut u8,
+        out_len: usize,
     ) -> u64;
 
     pub fn kz_abi_check(input: *const u8, input_len: usize, out: *mut u8, out_len: usize) -> u64;
