@@ -4,6 +4,7 @@ use crate::event::{Event, Kind, Refusal};
 use crate::order::{
     CELL, Cap, EMPTY, Index, MAX_DEPTH, MAX_NAME, MAX_ROWS, RAW, REFERENCE, SLOTS, Span, find,
 };
+use crate::sheet::{Sheet, Take};
 
 #[repr(C)]
 #[derive(Clone, Copy, Debug, Default, PartialEq, Eq)]
@@ -37,19 +38,23 @@ pub(crate) trait Work {
     fn on<const ROWS: usize>(self, ordered: Ordered<ROWS>) -> Self::Answer;
 }
 
-/// Checks the order of a lent table once and works on it; nothing where the table is disordered.
+/// Checks the order of a lent table once and works on it by the sheet; nothing where the table is
+/// disordered.
 /// What is kept beside the table is as large as the table needs: clearing it is a good part of the
 /// time for few rows.
 pub(crate) fn in_order<W: Work>(
     table: &mut [Cap],
     tally: &mut Tally,
+    sheet: &[u8],
     work: W,
 ) -> Option<W::Answer> {
+    let sheet = Sheet::lent(sheet);
+    let sheet = sheet.as_ref();
     match table.len() {
-        0..=16 => in_rows::<16, 32, W>(table, tally, work),
-        17..=64 => in_rows::<64, 128, W>(table, tally, work),
-        65..=256 => in_rows::<256, 512, W>(table, tally, work),
-        257..=MAX_ROWS => in_rows::<MAX_ROWS, SLOTS, W>(table, tally, work),
+        0..=16 => in_rows::<16, 32, W>(table, tally, sheet, work),
+        17..=64 => in_rows::<64, 128, W>(table, tally, sheet, work),
+        65..=256 => in_rows::<256, 512, W>(table, tally, sheet, work),
+        257..=MAX_ROWS => in_rows::<MAX_ROWS, SLOTS, W>(table, tally, sheet, work),
         _ => None,
     }
 }
@@ -57,6 +62,7 @@ pub(crate) fn in_order<W: Work>(
 fn in_rows<const ROWS: usize, const SLOTS: usize, W: Work>(
     table: &mut [Cap],
     tally: &mut Tally,
+    sheet: Option<&Sheet>,
     work: W,
 ) -> Option<W::Answer> {
     let mut index = Index::<ROWS>::of::<SLOTS>(table, tally.issued)?;
@@ -65,17 +71,19 @@ fn in_rows<const ROWS: usize, const SLOTS: usize, W: Work>(
         table,
         index,
         tally,
+        sheet,
     }))
 }
 
-/// One event: the new name (0 where none is made), or the refusal. Whoever has its values in another
-/// layout need not copy them first.
+/// One event by a sheet: the new name (0 where none is made), or the refusal. Whoever has its values in
+/// another layout need not copy them first.
 pub fn apply(
     table: &mut [Cap],
     tally: &mut Tally,
+    sheet: &[u8],
     event: impl Into<Event>,
 ) -> Result<u32, Refusal> {
-    in_order(table, tally, One(event.into())).unwrap_or(Err(Refusal::Disordered))
+    in_order(table, tally, sheet, One(event.into())).unwrap_or(Err(Refusal::Disordered))
 }
 
 struct One(Event);
@@ -93,6 +101,8 @@ pub(crate) struct Ordered<'a, const ROWS: usize> {
     pub(crate) table: &'a mut [Cap],
     pub(crate) index: &'a mut Index<ROWS>,
     pub(crate) tally: &'a mut Tally,
+    /// The sheet by which events are carried out, where it is not the default one.
+    pub(crate) sheet: Option<&'a Sheet>,
 }
 
 /// A mark for each live row, of the bits below.
@@ -104,11 +114,14 @@ const STRUCK: u8 = 1;
 /// The row is the user of an access or above it: it is not taken from.
 const SPARED: u8 = 2;
 
-/// The row is inside the cell that a write comes from, and so are all below it.
+/// The row is inside the cell that an access comes from, and so are all below it.
 const INSIDE: u8 = 4;
 
+/// The row becomes read-only, and so do all below it.
+const LOWERED: u8 = 8;
+
 /// The bits that a row has from its parent.
-const INHERITED: u8 = STRUCK | INSIDE;
+const INHERITED: u8 = STRUCK | INSIDE | LOWERED;
 
 /// What a read, a write or a create strikes.
 #[derive(Clone, Copy)]
@@ -240,7 +253,10 @@ impl<const ROWS: usize> Ordered<'_, ROWS> {
                 marks[at] = STRUCK;
                 self.remove(&mut marks, at, none);
             }
-            _ => self.access(kind, user, event.span()),
+            _ => match self.sheet {
+                None => self.access(kind, user, event.span()),
+                Some(sheet) => self.access_by(sheet, kind, user, event.span()),
+            },
         }
         match kind.makes() {
             true => self.append(event, user),
@@ -248,7 +264,8 @@ impl<const ROWS: usize> Ordered<'_, ROWS> {
         }
     }
 
-    /// What a read, a write or a create takes; a create is a write that no row is the user of.
+    /// What a read, a write or a create takes by the default sheet; a create is a write that no row is
+    /// the user of.
     fn access(&mut self, kind: Kind, user: Option<usize>, span: Span) {
         let mut marks = [0; ROWS];
         let mut access = Access {
@@ -269,6 +286,54 @@ impl<const ROWS: usize> Ordered<'_, ROWS> {
             true => self.lower(&mut marks, first, strikes),
             false => self.remove(&mut marks, first, strikes),
         }
+    }
+
+    /// The same by another sheet. Rows before the first that is touched, and before the cell that the
+    /// access comes from, inherit nothing.
+    #[inline(never)]
+    fn access_by(&mut self, sheet: &Sheet, kind: Kind, user: Option<usize>, span: Span) {
+        let takes = match kind {
+            Kind::Read => &sheet.reads,
+            _ => &sheet.writes,
+        };
+        let live = self.index.live;
+        let mut touched = self.table[..live].iter();
+        let Some(touched) = touched.position(|row| row.span().touches(span)) else {
+            return;
+        };
+        let mut marks = [0; ROWS];
+        let cell = self.spare(&mut marks, user);
+        let reach = match cell {
+            Some(cell) => {
+                marks[cell] |= INSIDE;
+                INSIDE
+            }
+            None => 0,
+        };
+        let mut first = live;
+        for at in touched.min(cell.unwrap_or(touched))..live {
+            let parent = marks[usize::from(self.index.parents[at]) % ROWS];
+            let before = marks[at] | (parent & INHERITED);
+            let row = &mut self.table[at];
+            let from = match before & reach == reach {
+                false => 0,
+                true if parent & SPARED != 0 => 1,
+                true => 2,
+            };
+            let own = match takes[(row.kind as usize * 3 + from) % takes.len()] {
+                _ if before & SPARED != 0 || !row.span().touches(span) => 0,
+                Take::Nothing => 0,
+                Take::ReadWrite => LOWERED,
+                Take::Life => STRUCK,
+            };
+            let mark = before | own;
+            marks[at] = mark;
+            row.right = if mark & LOWERED != 0 { 1 } else { row.right };
+            if mark & STRUCK != 0 {
+                first = first.min(at);
+            }
+        }
+        self.remove(&mut marks, first, none);
     }
 
     /// Marks the user of an access and all above it: the cell among them that is nearest to the user.
