@@ -2,6 +2,7 @@
 
 use std::collections::BTreeSet;
 
+use crate::sheet::{Access, Outcome, Sheet, Source};
 use crate::span::Span;
 use crate::values::{
     CELL, Event, MAX_DEPTH, MAX_NAME, MAX_ROWS, RAW, READ_ONLY, READ_WRITE, REFERENCE, Refused,
@@ -136,13 +137,27 @@ fn borrows_too_deep(rows: &[Row], event: Event) -> bool {
 
 /// One event on a lent table and tally: the new name (0 where none is made), or the refusal.
 pub fn apply(rows: &mut [Row], tally: &mut Tally, event: Event) -> Result<u32, Refused> {
+    apply_by(None, rows, tally, event)
+}
+
+/// The same by a sheet, or by card 6's sentences where there is none.
+pub fn apply_by(
+    sheet: Option<&Sheet>,
+    rows: &mut [Row],
+    tally: &mut Tally,
+    event: Event,
+) -> Result<u32, Refused> {
     if let Some(number) = refusal(rows, tally.issued, event) {
         if number != 1 {
             tally.refused = tally.refused.saturating_add(1);
         }
         return Err(number);
     }
-    let after = rows_after(live_rows(rows), event, tally.issued + 1);
+    let live = live_rows(rows);
+    let after = match sheet {
+        None => rows_after(live, event, tally.issued + 1),
+        Some(sheet) => rows_after_by(sheet, live, event, tally.issued + 1),
+    };
     rows.fill(Row::default());
     rows[..after.len()].copy_from_slice(&after);
     count_allowed(tally, event);
@@ -273,6 +288,78 @@ fn struck_by_write(live: &[Row], user: u32, span: Span) -> BTreeSet<u32> {
 /// a write from outside every subtree but its own, so that card 6 spares no raw one and no cell of it.
 fn reclaimed(live: &[Row], span: Span) -> Vec<u32> {
     subtrees(live, |row| row.span().touches(span))
+}
+
+/// Card 7: what the sheet changes of the rows that an event leaves. A create makes its row besides.
+fn rows_after_by(sheet: &Sheet, live: &[Row], event: Event, new_name: u32) -> Vec<Row> {
+    match event {
+        Event::Read { name, span } => rows_struck(live, |row| {
+            outcome(sheet, live, Access::Read, name, span, row)
+        }),
+        Event::Write { name, span } => rows_struck(live, |row| {
+            outcome(sheet, live, Access::Write, name, span, row)
+        }),
+        Event::Create { span, right, .. } => {
+            let left = rows_struck(live, |row| reclaimed_by(sheet, span, row));
+            with_new(&left, new_name, None, span, right, REFERENCE)
+        }
+        _ => rows_after(live, event, new_name),
+    }
+}
+
+/// '`end` taking life and `lower` taking `rw`', of what is struck and of its subtree.
+fn rows_struck(live: &[Row], outcome: impl Fn(&Row) -> Outcome) -> Vec<Row> {
+    let struck = |wanted: Outcome| {
+        let rows = live.iter().filter(|row| outcome(row) == wanted);
+        below(live, &rows.map(|row| row.name).collect())
+    };
+    let lowered = struck(Outcome::Lower);
+    let mut left = without(live, &struck(Outcome::End));
+    for row in left.iter_mut().filter(|row| lowered.contains(&row.name)) {
+        row.right = READ_ONLY.into();
+    }
+    left
+}
+
+/// What a read or write does to a row by itself.
+fn outcome(
+    sheet: &Sheet,
+    live: &[Row],
+    access: Access,
+    user: u32,
+    span: Span,
+    row: &Row,
+) -> Outcome {
+    let is_outside = !subtree(live, row.name).contains(&user);
+    match is_outside && row.span().touches(span) {
+        true => sheet.outcome((row.kind, access, source(live, user, row))),
+        false => Outcome::Keep,
+    }
+}
+
+/// '`cell` when it is in the subtree of a cell the holder is not under, else `kin` when in the subtree of
+/// the holder's parent, else `stranger`.'
+fn source(live: &[Row], user: u32, holder: &Row) -> Source {
+    let is_from = |cell: &Row| {
+        let inside = subtree(live, cell.name);
+        inside.contains(&user) && !inside.contains(&holder.name)
+    };
+    if live.iter().any(|row| row.kind == CELL && is_from(row)) {
+        return Source::Cell;
+    }
+    let is_kin = |parent: &Row| subtree(live, parent.name).contains(&user);
+    match find(live, holder.parent).is_some_and(is_kin) {
+        true => Source::Kin,
+        false => Source::Stranger,
+    }
+}
+
+/// 'A create acts as a stranger's write.'
+fn reclaimed_by(sheet: &Sheet, span: Span, row: &Row) -> Outcome {
+    match row.span().touches(span) {
+        true => sheet.outcome((row.kind, Access::Write, Source::Stranger)),
+        false => Outcome::Keep,
+    }
 }
 
 /// What an allowed event adds to the tally.
