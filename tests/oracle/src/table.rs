@@ -2,7 +2,7 @@
 
 use std::collections::BTreeSet;
 
-use crate::sheet::{Access, Outcome, Sheet, Source};
+use crate::sheet::{Access, Combination, Outcome, Sheet, Source};
 use crate::span::Span;
 use crate::values::{
     CELL, Event, MAX_DEPTH, MAX_NAME, MAX_ROWS, RAW, READ_ONLY, READ_WRITE, REFERENCE, Refused,
@@ -290,17 +290,12 @@ fn reclaimed(live: &[Row], span: Span) -> Vec<u32> {
     subtrees(live, |row| row.span().touches(span))
 }
 
-/// Card 7: what the sheet changes of the rows that an event leaves. A create makes its row besides.
+/// Card 7: the rows that an event leaves by a sheet. A create makes its row besides.
 fn rows_after_by(sheet: &Sheet, live: &[Row], event: Event, new_name: u32) -> Vec<Row> {
     match event {
-        Event::Read { name, span } => rows_struck(live, |row| {
-            outcome(sheet, live, Access::Read, name, span, row)
-        }),
-        Event::Write { name, span } => rows_struck(live, |row| {
-            outcome(sheet, live, Access::Write, name, span, row)
-        }),
+        Event::Read { .. } | Event::Write { .. } => rows_struck(sheet, live, event),
         Event::Create { span, right, .. } => {
-            let left = rows_struck(live, |row| reclaimed_by(sheet, span, row));
+            let left = rows_struck(sheet, live, event);
             with_new(&left, new_name, None, span, right, REFERENCE)
         }
         _ => rows_after(live, event, new_name),
@@ -308,10 +303,13 @@ fn rows_after_by(sheet: &Sheet, live: &[Row], event: Event, new_name: u32) -> Ve
 }
 
 /// '`end` taking life and `lower` taking `rw`', of what is struck and of its subtree.
-fn rows_struck(live: &[Row], outcome: impl Fn(&Row) -> Outcome) -> Vec<Row> {
+fn rows_struck(sheet: &Sheet, live: &[Row], event: Event) -> Vec<Row> {
+    let strikes = strikes(live, event);
     let struck = |wanted: Outcome| {
-        let rows = live.iter().filter(|row| outcome(row) == wanted);
-        below(live, &rows.map(|row| row.name).collect())
+        let by_it = strikes
+            .iter()
+            .filter(|(_, one)| sheet.outcome(*one) == wanted);
+        below(live, &by_it.map(|(name, _)| *name).collect())
     };
     let lowered = struck(Outcome::Lower);
     let mut left = without(live, &struck(Outcome::End));
@@ -321,44 +319,42 @@ fn rows_struck(live: &[Row], outcome: impl Fn(&Row) -> Outcome) -> Vec<Row> {
     left
 }
 
-/// What a read or write does to a row by itself.
-fn outcome(
-    sheet: &Sheet,
-    live: &[Row],
-    access: Access,
-    user: u32,
-    span: Span,
-    row: &Row,
-) -> Outcome {
-    let is_outside = !subtree(live, row.name).contains(&user);
-    match is_outside && row.span().touches(span) {
-        true => sheet.outcome((row.kind, access, source(live, user, row))),
-        false => Outcome::Keep,
-    }
+/// Every name that an access touches from outside the name's subtree, with its combination. 'A create acts
+/// as a stranger's write.'
+pub fn strikes(live: &[Row], event: Event) -> Vec<(u32, Combination)> {
+    let (access, user, span) = match event {
+        Event::Read { name, span } => (Access::Read, name, span),
+        Event::Write { name, span } => (Access::Write, name, span),
+        // No name is 0.
+        Event::Create { span, .. } => (Access::Write, 0, span),
+        _ => return Vec::new(),
+    };
+    let cells = live.iter().filter(|row| row.kind == CELL);
+    let insides = cells.map(|cell| subtree(live, cell.name));
+    let around_user: Vec<BTreeSet<u32>> = insides.filter(|inside| inside.contains(&user)).collect();
+    let combination = |holder: &Row| {
+        let source = source(live, &around_user, user, holder);
+        (holder.name, (holder.kind, access, source))
+    };
+    touched(live, user, span)
+        .into_iter()
+        .map(combination)
+        .collect()
 }
 
 /// '`cell` when it is in the subtree of a cell the holder is not under, else `kin` when in the subtree of
-/// the holder's parent, else `stranger`.'
-fn source(live: &[Row], user: u32, holder: &Row) -> Source {
-    let is_from = |cell: &Row| {
-        let inside = subtree(live, cell.name);
-        inside.contains(&user) && !inside.contains(&holder.name)
-    };
-    if live.iter().any(|row| row.kind == CELL && is_from(row)) {
+/// the holder's parent, else `stranger`.' The subtrees are those of cells that the user is in.
+fn source(live: &[Row], around_user: &[BTreeSet<u32>], user: u32, holder: &Row) -> Source {
+    if around_user
+        .iter()
+        .any(|inside| !inside.contains(&holder.name))
+    {
         return Source::Cell;
     }
-    let is_kin = |parent: &Row| subtree(live, parent.name).contains(&user);
-    match find(live, holder.parent).is_some_and(is_kin) {
+    let parent = find(live, holder.parent);
+    match parent.is_some_and(|parent| subtree(live, parent.name).contains(&user)) {
         true => Source::Kin,
         false => Source::Stranger,
-    }
-}
-
-/// 'A create acts as a stranger's write.'
-fn reclaimed_by(sheet: &Sheet, span: Span, row: &Row) -> Outcome {
-    match row.span().touches(span) {
-        true => sheet.outcome((row.kind, Access::Write, Source::Stranger)),
-        false => Outcome::Keep,
     }
 }
 
