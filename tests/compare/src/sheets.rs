@@ -337,14 +337,17 @@ fn lists(random: &mut Random, subject: Subject) -> Checked {
     Ok(LISTS)
 }
 
-/// Events one after the other on each of many tables, each table by a sheet of its own.
+/// Events one after the other on each of many tables, by one sheet or by several in turn.
 fn on_tables(random: &mut Random, subject: Subject, tables: &Tables) -> Checked {
     let mut cases = 0;
     for _ in 0..tables.count / 2 {
-        let by = sheet(random);
+        let mut by = sheet(random);
         let mut lent = (tables.table)(random);
         let spelling = spelling(random);
         for event in generate::events(random, lent.clone(), tables.events, spelling) {
+            if random.one_in(3) {
+                by = sheet(random);
+            }
             let answer = check_event(subject, &by, &mut lent, event)?;
             ANSWERS_MET.count_answer(match answer >> 32 {
                 0 => Ok(0),
