@@ -17,7 +17,7 @@ fn is_group(names: &[u32]) -> bool {
 
 /// Drops the names of a group together, or none of them.
 pub fn drop_all(table: &mut [Cap], tally: &mut Tally, names: &[u32]) -> Result<(), Refusal> {
-    in_order(table, tally, Together(names)).unwrap_or(Err(Refusal::Disordered))
+    in_order(table, tally, &[], Together(names)).unwrap_or(Err(Refusal::Disordered))
 }
 
 struct Together<'a>(&'a [u32]);

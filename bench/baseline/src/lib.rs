@@ -11,6 +11,7 @@ mod listing;
 mod many;
 mod order;
 mod run;
+mod sheet;
 mod step;
 mod text;
 
@@ -21,4 +22,5 @@ pub use listing::{read_listing, write_listing};
 pub use many::apply_all;
 pub use order::{CELL, Cap, MAX_DEPTH, MAX_NAME, MAX_ROWS, RAW, REFERENCE};
 pub use run::{check, run};
+pub use sheet::{SHEET_PLACES, read_sheet, write_sheet};
 pub use step::{Tally, apply};

@@ -5,12 +5,13 @@ use crate::group::drop_names;
 use crate::order::Cap;
 use crate::step::{Ordered, Tally, Work, in_order};
 
-/// Takes as many events as there are answers for, in turn, and goes on after refusals: how many it
-/// took. An answer is the refusal's number, 0 where there is none, and the new name, 0 where none is
+/// Takes as many events as there are answers for, in turn and by one sheet, and goes on after refusals:
+/// how many it took. An answer is the refusal's number, 0 where there is none, and the new name, 0 where none is
 /// made. An event of the kind `DROP_ALL` drops the names `names[start..start + length]` together.
 pub fn apply_all(
     table: &mut [Cap],
     tally: &mut Tally,
+    sheet: &[u8],
     events: &[impl Into<Event> + Copy],
     names: &[u32],
     answers: &mut [[u32; 2]],
@@ -23,7 +24,7 @@ pub fn apply_all(
         names,
         answers,
     };
-    if in_order(table, tally, many).is_none() {
+    if in_order(table, tally, sheet, many).is_none() {
         answers.fill([Refusal::Disordered as u32, 0]);
     }
     taken
@@ -65,7 +66,7 @@ fn names_of<'a>(event: &Event, names: &'a [u32]) -> &'a [u32] {
 #[cfg(test)]
 mod tests {
     use super::*;
-    use crate::{MAX_ROWS, apply, drop_all};
+    use crate::{MAX_ROWS, SHEET_PLACES, apply, drop_all};
 
     /// Numbers that look random and are the same each time (xorshift).
     struct Random(u64);
@@ -80,6 +81,12 @@ mod tests {
 
         fn pick<T: Copy>(&mut self, items: &[T]) -> T {
             items[self.below(items.len() as u32) as usize]
+        }
+
+        /// No sheet, or one of any results.
+        fn sheet(&mut self) -> Vec<u8> {
+            let places = self.pick(&[0, SHEET_PLACES, SHEET_PLACES]);
+            (0..places).map(|_| self.pick(&[0, 0, 0, 1, 2])).collect()
         }
 
         /// An event through one of the last names, mostly within the row of that name.
@@ -113,12 +120,13 @@ mod tests {
     fn one_by_one(
         table: &mut [Cap],
         tally: &mut Tally,
+        sheet: &[u8],
         event: &Event,
         names: &[u32],
     ) -> Result<u32, Refusal> {
         match event.kind {
             DROP_ALL => drop_all(table, tally, names_of(event, names)).map(|()| 0),
-            _ => apply(table, tally, *event),
+            _ => apply(table, tally, sheet, *event),
         }
     }
 
@@ -130,6 +138,7 @@ mod tests {
             for _ in 0..40 {
                 let mut table = vec![Cap::default(); rows];
                 let mut tally = Tally::default();
+                let sheet = random.sheet();
                 for _ in 0..8 {
                     let (mut table_of_one, mut tally_of_one) = (table.clone(), tally);
                     // Near the names that are made, so that groups of live names are met.
@@ -138,8 +147,8 @@ mod tests {
                     let mut expected = Vec::new();
                     for _ in 0..random.below(60) {
                         let event = random.event(&table_of_one, tally_of_one.issued);
-                        let answer =
-                            one_by_one(&mut table_of_one, &mut tally_of_one, &event, &names);
+                        let (table, tally) = (&mut table_of_one, &mut tally_of_one);
+                        let answer = one_by_one(table, tally, &sheet, &event, &names);
                         events.push(event);
                         expected.push(match answer {
                             Ok(value) => [0, value],
@@ -147,11 +156,12 @@ mod tests {
                         });
                     }
                     let mut answers = vec![[7, 7]; events.len()];
-                    let taken = apply_all(&mut table, &mut tally, &events, &names, &mut answers);
+                    let (table, tally) = (&mut table, &mut tally);
+                    let taken = apply_all(table, tally, &sheet, &events, &names, &mut answers);
                     assert_eq!(taken, events.len());
                     assert_eq!(answers, expected);
-                    assert_eq!(table, table_of_one);
-                    assert_eq!(tally, tally_of_one);
+                    assert_eq!(*table, table_of_one);
+                    assert_eq!(*tally, tally_of_one);
                     answers
                         .iter()
                         .for_each(|answer| met[answer[0] as usize] += 1);
@@ -175,9 +185,10 @@ mod tests {
         let mut table = [Cap::default(); 4];
         let mut tally = Tally::default();
         let mut answers = [[7, 7]; 2];
-        let taken = apply_all(&mut table, &mut tally, &[create; 3], &[], &mut answers);
+        let (table, tally) = (&mut table, &mut tally);
+        let taken = apply_all(table, tally, &[], &[create; 3], &[], &mut answers);
         assert_eq!((taken, answers), (2, [[0, 1], [0, 2]]));
-        let taken = apply_all(&mut table, &mut tally, &[create; 1], &[], &mut answers);
+        let taken = apply_all(table, tally, &[], &[create; 1], &[], &mut answers);
         assert_eq!((taken, answers), (1, [[0, 3], [0, 2]]));
     }
 
@@ -200,11 +211,11 @@ mod tests {
                 right: 2,
                 ..Event::default()
             };
-            assert_eq!(apply(&mut table, &mut tally, create), Ok(length));
+            assert_eq!(apply(&mut table, &mut tally, &[], create), Ok(length));
         }
         let mut answers = [[7, 7]; 6];
         let events = places.map(drop_all);
-        apply_all(&mut table, &mut tally, &events, &[1, 2], &mut answers);
+        apply_all(&mut table, &mut tally, &[], &events, &[1, 2], &mut answers);
         assert_eq!(answers[..5], [[13, 0]; 5]);
         assert_eq!((answers[5], table), ([0, 0], [Cap::default(); 2]));
         assert_eq!((tally.refused, tally.drops), (5, 1));
@@ -218,7 +229,7 @@ mod tests {
         let mut tally = Tally::default();
         let mut answers = [[7, 7]; 3];
         let events = [Event::default(); 2];
-        let taken = apply_all(&mut table, &mut tally, &events, &[], &mut answers);
+        let taken = apply_all(&mut table, &mut tally, &[], &events, &[], &mut answers);
         assert_eq!((taken, answers), (2, [[1, 0], [1, 0], [7, 7]]));
         assert_eq!((table, tally), (before, Tally::default()));
     }

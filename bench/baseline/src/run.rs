@@ -17,9 +17,9 @@ const HEADER: &[u8] = b"(trace 2)\n";
 /// How many lines were allowed, or the refusal and its line.
 type Answer = Result<u32, (Refusal, u32)>;
 
-/// Takes lines until one is refused.
-pub fn run(table: &mut [Cap], tally: &mut Tally, text: &[u8]) -> Answer {
-    in_order(table, tally, Lines(text)).unwrap_or(Err((Refusal::Disordered, 0)))
+/// Takes lines by a sheet until one is refused.
+pub fn run(table: &mut [Cap], tally: &mut Tally, sheet: &[u8], text: &[u8]) -> Answer {
+    in_order(table, tally, sheet, Lines(text)).unwrap_or(Err((Refusal::Disordered, 0)))
 }
 
 struct Lines<'a>(&'a [u8]);
@@ -80,6 +80,7 @@ pub fn check(input: &[u8], out: &mut [u8]) -> Result<u32, Refusal> {
         table: &mut table,
         index: &mut index,
         tally: &mut tally,
+        sheet: None,
     };
     let answer = run_lines(ordered, input);
     let mut line = [0; 32];

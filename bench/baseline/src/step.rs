@@ -4,6 +4,7 @@ use crate::event::{Event, Kind, Refusal};
 use crate::order::{
     CELL, Cap, EMPTY, Index, MAX_DEPTH, MAX_NAME, MAX_ROWS, RAW, REFERENCE, SLOTS, Span, find,
 };
+use crate::sheet::{Sheet, Take};
 
 #[repr(C)]
 #[derive(Clone, Copy, Debug, Default, PartialEq, Eq)]
@@ -37,19 +38,23 @@ pub(crate) trait Work {
     fn on<const ROWS: usize>(self, ordered: Ordered<ROWS>) -> Self::Answer;
 }
 
-/// Checks the order of a lent table once and works on it; nothing where the table is disordered.
+/// Checks the order of a lent table once and works on it by the sheet; nothing where the table is
+/// disordered.
 /// What is kept beside the table is as large as the table needs: clearing it is a good part of the
 /// time for few rows.
 pub(crate) fn in_order<W: Work>(
     table: &mut [Cap],
     tally: &mut Tally,
+    sheet: &[u8],
     work: W,
 ) -> Option<W::Answer> {
+    let sheet = Sheet::lent(sheet);
+    let sheet = sheet.as_ref();
     match table.len() {
-        0..=16 => in_rows::<16, 32, W>(table, tally, work),
-        17..=64 => in_rows::<64, 128, W>(table, tally, work),
-        65..=256 => in_rows::<256, 512, W>(table, tally, work),
-        257..=MAX_ROWS => in_rows::<MAX_ROWS, SLOTS, W>(table, tally, work),
+        0..=16 => in_rows::<16, 32, W>(table, tally, sheet, work),
+        17..=64 => in_rows::<64, 128, W>(table, tally, sheet, work),
+        65..=256 => in_rows::<256, 512, W>(table, tally, sheet, work),
+        257..=MAX_ROWS => in_rows::<MAX_ROWS, SLOTS, W>(table, tally, sheet, work),
         _ => None,
     }
 }
@@ -57,6 +62,7 @@ pub(crate) fn in_order<W: Work>(
 fn in_rows<const ROWS: usize, const SLOTS: usize, W: Work>(
     table: &mut [Cap],
     tally: &mut Tally,
+    sheet: Option<&Sheet>,
     work: W,
 ) -> Option<W::Answer> {
     let mut index = Index::<ROWS>::of::<SLOTS>(table, tally.issued)?;
@@ -65,17 +71,19 @@ fn in_rows<const ROWS: usize, const SLOTS: usize, W: Work>(
         table,
         index,
         tally,
+        sheet,
     }))
 }
 
-/// One event: the new name (0 where none is made), or the refusal. Whoever has its values in another
-/// layout need not copy them first.
+/// One event by a sheet: the new name (0 where none is made), or the refusal. Whoever has its values in
+/// another layout need not copy them first.
 pub fn apply(
     table: &mut [Cap],
     tally: &mut Tally,
+    sheet: &[u8],
     event: impl Into<Event>,
 ) -> Result<u32, Refusal> {
-    in_order(table, tally, One(event.into())).unwrap_or(Err(Refusal::Disordered))
+    in_order(table, tally, sheet, One(event.into())).unwrap_or(Err(Refusal::Disordered))
 }
 
 struct One(Event);
@@ -93,6 +101,8 @@ pub(crate) struct Ordered<'a, const ROWS: usize> {
     pub(crate) table: &'a mut [Cap],
     pub(crate) index: &'a mut Index<ROWS>,
     pub(crate) tally: &'a mut Tally,
+    /// The sheet by which events are carried out, where it is not the default one.
+    pub(crate) sheet: Option<&'a Sheet>,
 }
 
 /// A mark for each live row, of the bits below.
@@ -104,11 +114,14 @@ const STRUCK: u8 = 1;
 /// The row is the user of an access or above it: it is not taken from.
 const SPARED: u8 = 2;
 
-/// The row is inside the cell that a write comes from, and so are all below it.
+/// The row is inside the cell that an access comes from, and so are all below it.
 const INSIDE: u8 = 4;
 
+/// The row becomes read-only, and so do all below it.
+const LOWERED: u8 = 8;
+
 /// The bits that a row has from its parent.
-const INHERITED: u8 = STRUCK | INSIDE;
+const INHERITED: u8 = STRUCK | INSIDE | LOWERED;
 
 /// What a read, a write or a create strikes.
 #[derive(Clone, Copy)]
@@ -133,11 +146,43 @@ impl Access {
         let keeps_raw = self.is_read | (parent & SPARED != 0);
         self.touches(row) & is_in_reach & !((row.kind == RAW) & keeps_raw)
     }
+
+    /// The bits that a row gets by itself.
+    #[inline(always)]
+    fn takes(&self, row: &Cap, mark: u8, parent: u8) -> u8 {
+        match self.strikes(row, mark, parent) {
+            true => STRUCK,
+            false => 0,
+        }
+    }
 }
 
-/// Strikes no row by itself.
-fn none(_: &Cap, _: u8, _: u8) -> bool {
-    false
+/// The same by a sheet other than the default one.
+#[derive(Clone, Copy)]
+struct AccessBy {
+    span: Span,
+    /// The bits for the row's kind times 3, plus where the access comes from.
+    bits: [u8; 16],
+    /// The bits without which a row is outside the cell that the access comes from.
+    reach: u8,
+}
+
+impl AccessBy {
+    /// The bits that a row with this mark gets by itself, whose parent has that one.
+    #[inline(always)]
+    fn takes(&self, row: &Cap, mark: u8, parent: u8) -> u8 {
+        let is_inside = mark & self.reach == self.reach;
+        let is_stranger = parent & SPARED == 0;
+        let from = usize::from(is_inside) + usize::from(is_inside & is_stranger);
+        let is_met = (mark & SPARED == 0) & row.span().touches(self.span);
+        let bits = self.bits[(row.kind as usize * 3 + from) % self.bits.len()];
+        if is_met { bits } else { 0 }
+    }
+}
+
+/// Takes nothing from any row by itself.
+fn none(_: &Cap, _: u8, _: u8) -> u8 {
+    0
 }
 
 impl<const ROWS: usize> Ordered<'_, ROWS> {
@@ -163,7 +208,7 @@ impl<const ROWS: usize> Ordered<'_, ROWS> {
             }
         }
         self.tally.count_allowed(Kind::Drop);
-        self.remove(&mut marks, first, none);
+        self.remove::<false>(&mut marks, first, none);
         Ok(())
     }
 
@@ -238,9 +283,12 @@ impl<const ROWS: usize> Ordered<'_, ROWS> {
             (Kind::Drop, Some(at)) => {
                 let mut marks = [0; ROWS];
                 marks[at] = STRUCK;
-                self.remove(&mut marks, at, none);
+                self.remove::<false>(&mut marks, at, none);
             }
-            _ => self.access(kind, user, event.span()),
+            _ => match self.sheet {
+                None => self.access(kind, user, event.span()),
+                Some(sheet) => self.access_by(sheet, kind, user, event.span()),
+            },
         }
         match kind.makes() {
             true => self.append(event, user),
@@ -248,7 +296,8 @@ impl<const ROWS: usize> Ordered<'_, ROWS> {
         }
     }
 
-    /// What a read, a write or a create takes; a create is a write that no row is the user of.
+    /// What a read, a write or a create takes by the default sheet; a create is a write that no row is
+    /// the user of.
     fn access(&mut self, kind: Kind, user: Option<usize>, span: Span) {
         let mut marks = [0; ROWS];
         let mut access = Access {
@@ -264,11 +313,55 @@ impl<const ROWS: usize> Ordered<'_, ROWS> {
             }
             _ => self.first_struck(&marks, access),
         };
-        let strikes = |row: &Cap, mark, parent| access.strikes(row, mark, parent);
+        let takes = |row: &Cap, mark, parent| access.takes(row, mark, parent);
         match access.is_read {
-            true => self.lower(&mut marks, first, strikes),
-            false => self.remove(&mut marks, first, strikes),
+            true => self.lower(&mut marks, first, takes),
+            false => self.remove::<false>(&mut marks, first, takes),
         }
+    }
+
+    /// The same by another sheet. Rows before the first that is touched, and before the cell that the
+    /// access comes from, inherit nothing.
+    #[inline(never)]
+    fn access_by(&mut self, sheet: &Sheet, kind: Kind, user: Option<usize>, span: Span) {
+        let live = self.index.live;
+        let mut rows = self.table[..live].iter();
+        let Some(touched) = rows.position(|row| row.span().touches(span)) else {
+            return;
+        };
+        let mut marks = [0; ROWS];
+        let cell = self.spare(&mut marks, user);
+        if let Some(cell) = cell {
+            marks[cell] |= INSIDE;
+        }
+        let takes = match kind {
+            Kind::Read => &sheet.reads,
+            _ => &sheet.writes,
+        };
+        let mut bits = [0; 16];
+        for (bits, take) in bits.iter_mut().zip(takes) {
+            *bits = match take {
+                Take::Nothing => 0,
+                Take::ReadWrite => LOWERED,
+                Take::Life => STRUCK,
+            };
+        }
+        let access = AccessBy {
+            span,
+            bits,
+            reach: if cell.is_some() { INSIDE } else { 0 },
+        };
+        let takes = |row: &Cap, mark, parent| access.takes(row, mark, parent);
+        let mut first = touched.min(cell.unwrap_or(touched));
+        while first < live {
+            let mark = self.mark(&mut marks, first, takes);
+            if mark & STRUCK != 0 {
+                break;
+            }
+            self.lower_row(first, mark & LOWERED != 0);
+            first += 1;
+        }
+        self.remove::<true>(&mut marks, first, takes);
     }
 
     /// Marks the user of an access and all above it: the cell among them that is nearest to the user.
@@ -315,8 +408,8 @@ impl<const ROWS: usize> Ordered<'_, ROWS> {
     #[inline]
     fn first_inside(&self, marks: &mut Marks<ROWS>, cell: usize, access: Access) -> usize {
         marks[cell] |= INSIDE;
-        let strikes = |row: &Cap, mark, parent| access.strikes(row, mark, parent);
-        let is_struck = |at: &usize| self.mark(marks, *at, strikes) & STRUCK != 0;
+        let takes = |row: &Cap, mark, parent| access.takes(row, mark, parent);
+        let is_struck = |at: &usize| self.mark(marks, *at, takes) & STRUCK != 0;
         let live = self.index.live;
         (cell + 1..live).find(is_struck).unwrap_or(live)
     }
@@ -344,28 +437,28 @@ impl<const ROWS: usize> Ordered<'_, ROWS> {
     }
 
     /// Marks what is struck from the row `first` on, and lowers it.
-    fn lower(
-        &mut self,
-        marks: &mut Marks<ROWS>,
-        first: usize,
-        strikes: impl Fn(&Cap, u8, u8) -> bool,
-    ) {
+    fn lower(&mut self, marks: &mut Marks<ROWS>, first: usize, takes: impl Fn(&Cap, u8, u8) -> u8) {
         for at in first..self.index.live {
-            let mark = self.mark(marks, at, &strikes);
-            let row = &mut self.table[at];
-            row.right = if mark & STRUCK != 0 { 1 } else { row.right };
+            let mark = self.mark(marks, at, &takes);
+            self.lower_row(at, mark & STRUCK != 0);
         }
     }
 
+    #[inline(always)]
+    fn lower_row(&mut self, at: usize, lowers: bool) {
+        let row = &mut self.table[at];
+        row.right = if lowers { 1 } else { row.right };
+    }
+
     /// Marks what is struck from the row `first` on, closes the gaps that it leaves, all in one
-    /// pass, and clears the rows that come free. Not inlined, so that events that end nothing do not
-    /// make room for its places.
+    /// pass, and clears the rows that come free. Where the access lowers too, so does this. Not inlined,
+    /// so that events that end nothing do not make room for its places.
     #[inline(never)]
-    fn remove(
+    fn remove<const LOWERS: bool>(
         &mut self,
         marks: &mut Marks<ROWS>,
         first: usize,
-        strikes: impl Fn(&Cap, u8, u8) -> bool,
+        takes: impl Fn(&Cap, u8, u8) -> u8,
     ) {
         let live = self.index.live;
         if first == live {
@@ -377,10 +470,14 @@ impl<const ROWS: usize> Ordered<'_, ROWS> {
         }
         let mut kept = first;
         for at in first..live {
-            let mark = self.mark(marks, at, &strikes);
+            let mark = self.mark(marks, at, &takes);
             moved[at] = kept as u16;
             // A row that ends is written too, and the next one is written over it.
+            let right = self.table[at].right;
             self.table[kept] = self.table[at];
+            if LOWERS {
+                self.table[kept].right = if mark & LOWERED != 0 { 1 } else { right };
+            }
             self.index.parents[kept] = moved[usize::from(self.index.parents[at]) % ROWS];
             kept += usize::from(mark & STRUCK == 0);
         }
@@ -388,19 +485,13 @@ impl<const ROWS: usize> Ordered<'_, ROWS> {
         self.index.live = kept;
     }
 
-    /// Marks a row whose parent has been marked: bits are inherited or had before, and it is struck by
-    /// itself as `strikes` says. A root's parent is its own row, from which it inherits what it had.
+    /// Marks a row whose parent has been marked: bits are inherited or had before, and it gets those that
+    /// `takes` says by itself. A root's parent is its own row, from which it inherits what it had.
     #[inline(always)]
-    fn mark(
-        &self,
-        marks: &mut Marks<ROWS>,
-        at: usize,
-        strikes: impl Fn(&Cap, u8, u8) -> bool,
-    ) -> u8 {
+    fn mark(&self, marks: &mut Marks<ROWS>, at: usize, takes: impl Fn(&Cap, u8, u8) -> u8) -> u8 {
         let parent = marks[usize::from(self.index.parents[at]) % ROWS];
         let before = marks[at] | (parent & INHERITED);
-        let own = strikes(&self.table[at], before, parent);
-        let mark = before | if own { STRUCK } else { 0 };
+        let mark = before | takes(&self.table[at], before, parent);
         marks[at] = mark;
         mark
     }

@@ -2,10 +2,11 @@
 
 use std::fmt::Debug;
 
-use interface::{AnswerWords, Cap, DROP_ALL, Event, Interface, MAX_GROUP, Words};
-use oracle::{Refused, Row, Span, Spelling, Tally};
+use interface::{AnswerWords, Cap, DROP_ALL, Event, Interface, MAX_GROUP, SHEET_PLACES, Words};
+use oracle::{Refused, Row, Sheet, Span, Spelling, Tally};
 
 use crate::report::{Checked, Met, MetAnswers, check_few};
+use crate::sheets;
 use crate::strikes;
 
 /// The implementation under test.
@@ -29,6 +30,33 @@ impl Lent {
             tally: Tally::default(),
         }
     }
+}
+
+/// A sheet as it is lent, and as the oracle reads it.
+#[derive(Clone, Debug)]
+pub struct LentSheet {
+    pub bytes: Vec<u8>,
+    pub sheet: Sheet,
+}
+
+impl LentSheet {
+    pub fn of(bytes: &[u8]) -> LentSheet {
+        LentSheet {
+            bytes: bytes.to_vec(),
+            sheet: Sheet::lent(bytes),
+        }
+    }
+}
+
+/// A lent sheet, or none. Without one the oracle goes by the sentences of card 6.
+pub type By<'a> = Option<&'a LentSheet>;
+
+fn bytes_of<'a>(by: By<'a>) -> &'a [u8] {
+    by.map_or(&[], |lent| &lent.bytes)
+}
+
+fn sheet_of<'a>(by: By<'a>) -> Option<&'a Sheet> {
+    by.map(|lent| &lent.sheet)
 }
 
 pub fn packed(answer: Result<u32, Refused>) -> u64 {
@@ -229,18 +257,37 @@ pub fn every_create_met() -> Checked {
 
 /// One event by the oracle alone.
 pub fn oracle_apply(lent: &mut Lent, event: Event) -> Result<u32, Refused> {
-    oracle::apply(&mut lent.rows, &mut lent.tally, oracle_event(event))
+    oracle_apply_by(None, lent, event)
+}
+
+/// The same by a sheet.
+pub fn oracle_apply_by(by: By, lent: &mut Lent, event: Event) -> Result<u32, Refused> {
+    let event = oracle_event(event);
+    oracle::apply_by(sheet_of(by), &mut lent.rows, &mut lent.tally, event)
 }
 
 /// One event on what is lent, which is then as the event leaves it.
 pub fn apply(subject: Subject, lent: &mut Lent, event: Event) -> Result<u64, String> {
-    let (answer, found) = lend(lent, |table, tally| subject.apply(table, tally, event))?;
+    apply_by(subject, None, lent, event)
+}
+
+/// The same by a sheet.
+pub fn apply_by(subject: Subject, by: By, lent: &mut Lent, event: Event) -> Result<u64, String> {
+    let (answer, found) = lend(lent, |table, tally| match by {
+        None => subject.apply(table, tally, event),
+        Some(sheet) => subject.apply_by(&sheet.bytes, table, tally, event),
+    })?;
     let before = lent.clone();
-    let verdict = oracle_apply(lent, event);
-    if event.kind == 1 {
-        count_create(&before.rows, lent, event, verdict);
+    let verdict = oracle_apply_by(by, lent, event);
+    match by {
+        None => {
+            if event.kind == 1 {
+                count_create(&before.rows, lent, event, verdict);
+            }
+            strikes::count(&before, lent, event, verdict);
+        }
+        Some(sheet) => sheets::count(sheet, &before, lent, event, verdict),
     }
-    strikes::count(&before, lent, event, verdict);
     MET.count_answer(verdict);
     same_answer(packed(verdict), answer)?;
     same_lent(lent, &found)?;
@@ -256,9 +303,11 @@ pub fn apply_each(subject: Subject, mut lent: Lent, events: &[Event]) -> Agreed 
 }
 
 /// What words ask for, by the oracle alone.
-pub fn oracle_ask(lent: &mut Lent, words: &Words, names: &[u32]) -> Result<u32, Refused> {
+fn oracle_ask(by: By, lent: &mut Lent, words: &Words, names: &[u32]) -> Result<u32, Refused> {
     match asked(words, names) {
-        Asked::Event(event) => oracle::apply(&mut lent.rows, &mut lent.tally, event),
+        Asked::Event(event) => {
+            oracle::apply_by(sheet_of(by), &mut lent.rows, &mut lent.tally, event)
+        }
         Asked::Names(names) => oracle_drop_all(lent, names),
     }
 }
@@ -270,10 +319,21 @@ pub fn apply_words(
     words: &Words,
     names: &[u32],
 ) -> Result<u64, String> {
+    apply_words_by(subject, None, lent, words, names)
+}
+
+/// The same by a sheet.
+pub fn apply_words_by(
+    subject: Subject,
+    by: By,
+    lent: &mut Lent,
+    words: &Words,
+    names: &[u32],
+) -> Result<u64, String> {
     let (answer, found) = lend(lent, |table, tally| {
-        subject.apply_words(table, tally, words, names)
+        subject.apply_words_by(bytes_of(by), table, tally, words, names)
     })?;
-    let verdict = oracle_ask(lent, words, names);
+    let verdict = oracle_ask(by, lent, words, names);
     MET.count_answer(verdict);
     same_answer(packed(verdict), answer)?;
     same_lent(lent, &found)?;
@@ -292,15 +352,28 @@ pub fn apply_all(
     names: &[u32],
     room: usize,
 ) -> Result<Vec<AnswerWords>, String> {
+    apply_all_by(subject, None, lent, events, names, room)
+}
+
+/// The same by a sheet.
+pub fn apply_all_by(
+    subject: Subject,
+    by: By,
+    lent: &mut Lent,
+    events: &[Words],
+    names: &[u32],
+    room: usize,
+) -> Result<Vec<AnswerWords>, String> {
     let untouched = |at: usize| [UNTOUCHED ^ at as u32, !(at as u32)];
     let mut answers: Vec<AnswerWords> = (0..room + GUARD_ANSWERS).map(untouched).collect();
     let mut expected = answers.clone();
     let (taken, found) = lend(lent, |table, tally| {
-        subject.apply_all(table, tally, events, names, &mut answers[..room]) as u64
+        let answers = &mut answers[..room];
+        subject.apply_all_by(bytes_of(by), table, tally, events, names, answers) as u64
     })?;
     let count = events.len().min(room);
     for (words, answer) in events.iter().zip(&mut expected[..room]) {
-        let singly = apply_words(subject, lent, words, names)?;
+        let singly = apply_words_by(subject, by, lent, words, names)?;
         *answer = [(singly >> 32) as u32, singly as u32];
     }
     same("events taken", count as u64, taken)?;
@@ -334,7 +407,20 @@ pub fn oracle_drop_all(lent: &mut Lent, names: &[u32]) -> Result<u32, Refused> {
 
 /// Names dropped together on what is lent, which is then as the call leaves it.
 pub fn drop_all(subject: Subject, lent: &mut Lent, names: &[u32]) -> Result<u64, String> {
-    let (answer, found) = lend(lent, |table, tally| subject.drop_all(table, tally, names))?;
+    drop_all_by(subject, None, lent, names)
+}
+
+/// The same with a sheet lent.
+pub fn drop_all_by(
+    subject: Subject,
+    by: By,
+    lent: &mut Lent,
+    names: &[u32],
+) -> Result<u64, String> {
+    let (answer, found) = lend(lent, |table, tally| match by {
+        None => subject.drop_all(table, tally, names),
+        Some(sheet) => subject.drop_all_by(&sheet.bytes, table, tally, names),
+    })?;
     let verdict = oracle_drop_all(lent, names);
     MET.count_answer(verdict);
     same_answer(packed(verdict), answer)?;
@@ -344,8 +430,15 @@ pub fn drop_all(subject: Subject, lent: &mut Lent, names: &[u32]) -> Result<u64,
 
 /// A run on what is lent, which is then as the run leaves it.
 pub fn run(subject: Subject, lent: &mut Lent, text: &[u8]) -> Result<u64, String> {
-    let (answer, found) = lend(lent, |table, tally| subject.run(table, tally, text))?;
-    let verdict = oracle::run(&mut lent.rows, &mut lent.tally, text);
+    run_by(subject, None, lent, text)
+}
+
+/// The same by a sheet.
+pub fn run_by(subject: Subject, by: By, lent: &mut Lent, text: &[u8]) -> Result<u64, String> {
+    let (answer, found) = lend(lent, |table, tally| {
+        subject.run_by(bytes_of(by), table, tally, text)
+    })?;
+    let verdict = oracle::run_by(sheet_of(by), &mut lent.rows, &mut lent.tally, text);
     same_answer(packed_run(verdict), answer)?;
     same_lent(lent, &found)?;
     Ok(answer)
@@ -474,6 +567,39 @@ pub fn read_listing(subject: Subject, text: &[u8], lent: &Lent) -> Agreed {
             same_lent(lent, &found)
         }
     }
+}
+
+/// What a sheet holds before a text is read into it, and after a refusal.
+const UNTOUCHED_RESULT: u8 = 0xA5;
+
+/// The text of a sheet: gives what the oracle makes of it.
+pub fn read_sheet(subject: Subject, text: &[u8]) -> Result<Result<Sheet, Refused>, String> {
+    let mut found = [UNTOUCHED_RESULT; SHEET_PLACES + 2];
+    let lent = found.first_chunk_mut().expect("there are two bytes more");
+    let answer = subject.read_sheet(text, lent);
+    let read = Sheet::read(text);
+    same_answer(
+        packed(read.as_ref().map(|_| 0).map_err(|number| *number)),
+        answer,
+    )?;
+    let mut expected = read.as_ref().map_or(Vec::new(), Sheet::bytes);
+    expected.resize(found.len(), UNTOUCHED_RESULT);
+    same("results", &expected[..], &found[..])?;
+    Ok(read)
+}
+
+/// The text of a lent sheet.
+pub fn write_sheet(subject: Subject, sheet: &[u8]) -> Agreed {
+    into_buffers(
+        |size| oracle::write_sheet(sheet, size),
+        |out| subject.write_sheet(sheet, out),
+    )
+}
+
+/// The same into a buffer of one size.
+pub fn write_sheet_into(subject: Subject, sheet: &[u8], size: usize) -> Agreed {
+    let expected = oracle::write_sheet(sheet, size);
+    into_buffer(size, expected, |out| subject.write_sheet(sheet, out))
 }
 
 /// Bytes that stand after an output buffer and are not the call's to write.

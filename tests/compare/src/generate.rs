@@ -47,7 +47,7 @@ pub fn area(random: &mut Random) -> Span {
 }
 
 /// A legal span inside another. It may have length 0, and then start at the other's end.
-fn inside(random: &mut Random, outer: Span) -> Span {
+pub fn inside(random: &mut Random, outer: Span) -> Span {
     if random.one_in(3) {
         return outer;
     }

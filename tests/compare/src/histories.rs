@@ -5,10 +5,13 @@ use std::collections::BTreeSet;
 use interface::Event;
 use oracle::{History, MAX_ROWS, Span, Spelling};
 
-use crate::agree::{self, Agreed, Lent, Subject, oracle_event, packed, same, same_answer, span_of};
+use crate::agree::{
+    self, Agreed, By, Lent, Subject, oracle_event, packed, same, same_answer, span_of,
+};
 use crate::generate::{self, Request};
 use crate::random::Random;
 use crate::report::{Checked, Met, MetAnswers, Report, check_few};
+use crate::sheets;
 use crate::together;
 
 /// Lists of one sort: how many of them, how many requests in each, and how one is made.
@@ -122,7 +125,12 @@ pub fn every_answer_met() -> Checked {
 
 /// Checks a list; on failure gives a short list that still fails.
 pub fn check_list(subject: Subject, lent: &Lent, requests: &[Request]) -> Agreed {
-    let check = |requests: &[Request]| follow(subject, lent.clone(), requests);
+    check_list_by(subject, None, lent, requests)
+}
+
+/// The same by a sheet.
+pub fn check_list_by(subject: Subject, by: By, lent: &Lent, requests: &[Request]) -> Agreed {
+    let check = |requests: &[Request]| follow(subject, by, lent.clone(), requests);
     check_few(requests, check).map_err(|(why, requests)| {
         let rows = lent.rows.len();
         let tally = lent.tally;
@@ -130,8 +138,12 @@ pub fn check_list(subject: Subject, lent: &Lent, requests: &[Request]) -> Agreed
     })
 }
 
-fn follow(subject: Subject, mut lent: Lent, requests: &[Request]) -> Agreed {
-    let mut history = History::new(lent.rows.len());
+fn follow(subject: Subject, by: By, mut lent: Lent, requests: &[Request]) -> Agreed {
+    let rows = lent.rows.len();
+    let mut history = match by {
+        None => History::new(rows),
+        Some(sheet) => History::by(sheet.sheet.clone(), rows),
+    };
     let mut lost = Lost::default();
     let mut spans = Vec::new();
     for request in requests {
@@ -139,21 +151,34 @@ fn follow(subject: Subject, mut lent: Lent, requests: &[Request]) -> Agreed {
             Request::Single(event) => {
                 spans.push(span_of(*event));
                 let expected = history.answer(oracle_event(*event));
-                (expected, agree::apply(subject, &mut lent, *event)?)
+                (expected, agree::apply_by(subject, by, &mut lent, *event)?)
             }
             Request::Group(names) => {
                 let expected = answer_all(&mut history, names)?;
-                (expected, together::drop_all(subject, &mut lent, names)?)
+                let answer = match by {
+                    None => together::drop_all(subject, &mut lent, names)?,
+                    Some(_) => agree::drop_all_by(subject, by, &mut lent, names)?,
+                };
+                (expected, answer)
             }
         };
-        MET.count_answer(expected);
+        match by {
+            None => MET.count_answer(expected),
+            Some(_) => sheets::ANSWERS_MET.count_answer(expected),
+        }
         same_answer(packed(expected), answer).map_err(|why| format!("history: {why}"))?;
         if history.table() != lent.rows || history.count() != lent.tally.issued {
             return Err(format!("history: another table, {:?}", history.table()));
         }
         lost.check(&lent)?;
     }
-    demand_three(subject, &lent, &history, spans.into_iter().rev().take(4))
+    let last_spans = match by {
+        None => 4,
+        // There are many more lists by sheets.
+        Some(_) => 1,
+    };
+    let spans = spans.into_iter().rev().take(last_spans);
+    demand_three(subject, by, &lent, &history, spans)
 }
 
 /// The history's answer to a group. Where that is allowed so are single drops in falling order, and
@@ -202,6 +227,7 @@ impl Lost {
 /// Reads and writes through every name are allowed exactly when demand 3 says.
 fn demand_three(
     subject: Subject,
+    by: By,
     lent: &Lent,
     history: &History,
     spans: impl Iterator<Item = Span>,
@@ -220,7 +246,7 @@ fn demand_three(
                     right: 0,
                     cap_kind: u8::MAX,
                 };
-                let answer = agree::apply(subject, &mut lent.clone(), event)?;
+                let answer = agree::apply_by(subject, by, &mut lent.clone(), event)?;
                 if (answer >> 32 == 0) != expected {
                     return Err(format!("demand 3 on {event:?}: allowed is {expected}"));
                 }

@@ -52,10 +52,10 @@ pub fn groups(report: &mut Report, subject: Subject) {
 }
 
 /// A row of a tree: the place of its parent among those before it, and its kind.
-type Node = (usize, u32);
+pub type Node = (usize, u32);
 
 /// Every tree of a root and so many rows in all, with every kind in each place but the root's.
-fn for_trees(rows: usize, check: impl Fn(&[Node]) -> Checked) -> Checked {
+pub fn for_trees(rows: usize, check: impl Fn(&[Node]) -> Checked) -> Checked {
     let mut trees: Vec<Vec<Node>> = vec![vec![(0, REFERENCE)]];
     for at in 1..rows {
         let kinds = [REFERENCE, RAW, CELL];
@@ -103,7 +103,7 @@ fn made(tree: &[Node]) -> Vec<Event> {
 }
 
 /// The tree as rows, and a row that is empty.
-fn table(tree: &[Node]) -> Lent {
+pub fn table(tree: &[Node]) -> Lent {
     let mut rows: Vec<Row> = Vec::new();
     for (at, (parent, kind)) in tree.iter().enumerate() {
         rows.push(match at {
@@ -125,7 +125,7 @@ fn table(tree: &[Node]) -> Lent {
 }
 
 /// A read and a write through each of a tree, and a create over it.
-fn accesses(tree: &[Node]) -> Vec<Event> {
+pub fn accesses(tree: &[Node]) -> Vec<Event> {
     let through = |at| [event(3, name_at(at)), event(4, name_at(at))];
     let accesses = (0..tree.len()).flat_map(through);
     accesses.chain([event(1, 0)]).collect()

@@ -18,6 +18,8 @@ mod many;
 mod random;
 mod report;
 mod runs;
+mod sheet_texts;
+mod sheets;
 mod spellings;
 mod strikes;
 mod together;
@@ -84,6 +86,8 @@ fn main() -> ExitCode {
     // Before the trees of kinds, which would meet every sort by themselves.
     strikes::groups(&mut report);
     kinds::groups(&mut report, subject);
+    sheets::groups(&mut report, subject);
+    sheet_texts::groups(&mut report, subject);
     report.met("every answer of an event was met", agree::every_answer_met);
     report.met(
         "every answer of the history was met",

@@ -1,7 +1,7 @@
 //! The C interface as a trait, over the library or over the baseline, so that whatever tests or
 //! measures the one can test or measure the other.
 
-pub use baseline::{CELL, Cap, Event, MAX_GROUP, RAW, REFERENCE, Tally};
+pub use baseline::{CELL, Cap, Event, MAX_GROUP, RAW, REFERENCE, SHEET_PLACES, Tally};
 pub use words::{AnswerWords, DROP_ALL, Words};
 
 #[cfg(library)]
@@ -14,22 +14,25 @@ mod plain;
 mod words;
 
 /// The functions of the C interface, and below them the same in the shapes that a caller has at hand.
-/// Each but `apply_all` answers the refusal's number times 2^32 plus a value.
+/// Each but the two for many events answers the refusal's number times 2^32 plus a value. A sheet is its
+/// bytes, none of them for the default one.
 pub trait Interface {
     fn name(&self) -> &'static str;
 
     /// `kz_abi_apply`: an event, or names dropped together that stand in the list.
-    fn apply_words(
+    fn apply_words_by(
         &self,
+        sheet: &[u8],
         table: &mut [Cap],
         tally: &mut Tally,
         words: &Words,
         names: &[u32],
     ) -> u64;
 
-    /// As many events as there are answers for: how many were taken.
-    fn apply_all(
+    /// `kz_abi_apply_all`: as many events as there are answers for, and how many were taken.
+    fn apply_all_by(
         &self,
+        sheet: &[u8],
         table: &mut [Cap],
         tally: &mut Tally,
         events: &[Words],
@@ -37,7 +40,7 @@ pub trait Interface {
         answers: &mut [AnswerWords],
     ) -> usize;
 
-    fn run(&self, table: &mut [Cap], tally: &mut Tally, text: &[u8]) -> u64;
+    fn run_by(&self, sheet: &[u8], table: &mut [Cap], tally: &mut Tally, text: &[u8]) -> u64;
 
     /// `kz_abi_write_event`: the line of what `apply_words` takes.
     fn write_words(&self, words: &Words, names: &[u32], out: &mut [u8]) -> u64;
@@ -55,16 +58,65 @@ pub trait Interface {
 
     fn read_listing(&self, text: &[u8], table: &mut [Cap], tally: &mut Tally) -> u64;
 
+    fn read_sheet(&self, text: &[u8], sheet: &mut [u8; SHEET_PLACES]) -> u64;
+
+    fn write_sheet(&self, sheet: &[u8], out: &mut [u8]) -> u64;
+
     fn check(&self, input: &[u8], out: &mut [u8]) -> u64;
 
-    /// One event.
+    /// What `apply_words_by` takes, by the default sheet.
+    fn apply_words(
+        &self,
+        table: &mut [Cap],
+        tally: &mut Tally,
+        words: &Words,
+        names: &[u32],
+    ) -> u64 {
+        self.apply_words_by(&[], table, tally, words, names)
+    }
+
+    /// Many events by the default sheet.
+    fn apply_all(
+        &self,
+        table: &mut [Cap],
+        tally: &mut Tally,
+        events: &[Words],
+        names: &[u32],
+        answers: &mut [AnswerWords],
+    ) -> usize {
+        self.apply_all_by(&[], table, tally, events, names, answers)
+    }
+
+    /// A run by the default sheet.
+    fn run(&self, table: &mut [Cap], tally: &mut Tally, text: &[u8]) -> u64 {
+        self.run_by(&[], table, tally, text)
+    }
+
+    /// One event by a sheet.
+    fn apply_by(&self, sheet: &[u8], table: &mut [Cap], tally: &mut Tally, event: Event) -> u64 {
+        self.apply_words_by(sheet, table, tally, &event.into(), &[])
+    }
+
+    /// One event by the default sheet.
     fn apply(&self, table: &mut [Cap], tally: &mut Tally, event: Event) -> u64 {
-        self.apply_words(table, tally, &event.into(), &[])
+        self.apply_by(&[], table, tally, event)
+    }
+
+    /// Names dropped together, with a sheet lent.
+    fn drop_all_by(
+        &self,
+        sheet: &[u8],
+        table: &mut [Cap],
+        tally: &mut Tally,
+        names: &[u32],
+    ) -> u64 {
+        let words = Words::drop_all(0, names.len() as u32);
+        self.apply_words_by(sheet, table, tally, &words, names)
     }
 
     /// Names dropped together.
     fn drop_all(&self, table: &mut [Cap], tally: &mut Tally, names: &[u32]) -> u64 {
-        self.apply_words(table, tally, &Words::drop_all(0, names.len() as u32), names)
+        self.drop_all_by(&[], table, tally, names)
     }
 
     /// An event's line, in the named spelling where a name is written.

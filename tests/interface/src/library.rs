@@ -3,7 +3,7 @@
 
 use std::ptr;
 
-use crate::{AnswerWords, Cap, Interface, MAX_GROUP, Tally, Words, ffi};
+use crate::{AnswerWords, Cap, Interface, MAX_GROUP, SHEET_PLACES, Tally, Words, ffi};
 
 pub struct Library;
 
@@ -18,21 +18,31 @@ impl Interface for Library {
         "C library"
     }
 
-    fn apply_words(
+    fn apply_words_by(
         &self,
+        sheet: &[u8],
         table: &mut [Cap],
         tally: &mut Tally,
         words: &Words,
         names: &[u32],
     ) -> u64 {
-        let rows = table.len();
-        let table = table.as_mut_ptr();
-        let event = ptr::from_ref(words).cast();
-        unsafe { ffi::kz_abi_apply(table, rows, tally, event, names.as_ptr(), names.len()) }
+        unsafe {
+            ffi::kz_abi_apply(
+                table.as_mut_ptr(),
+                table.len(),
+                tally,
+                sheet.as_ptr(),
+                sheet.len(),
+                ptr::from_ref(words).cast(),
+                names.as_ptr(),
+                names.len(),
+            )
+        }
     }
 
-    fn apply_all(
+    fn apply_all_by(
         &self,
+        sheet: &[u8],
         table: &mut [Cap],
         tally: &mut Tally,
         events: &[Words],
@@ -44,6 +54,8 @@ impl Interface for Library {
                 table.as_mut_ptr(),
                 table.len(),
                 tally,
+                sheet.as_ptr(),
+                sheet.len(),
                 events.as_ptr().cast(),
                 events.len(),
                 names.as_ptr(),
@@ -54,9 +66,18 @@ impl Interface for Library {
         }
     }
 
-    fn run(&self, table: &mut [Cap], tally: &mut Tally, text: &[u8]) -> u64 {
-        let rows = table.len();
-        unsafe { ffi::kz_abi_run(table.as_mut_ptr(), rows, tally, text.as_ptr(), text.len()) }
+    fn run_by(&self, sheet: &[u8], table: &mut [Cap], tally: &mut Tally, text: &[u8]) -> u64 {
+        unsafe {
+            ffi::kz_abi_run(
+                table.as_mut_ptr(),
+                table.len(),
+                tally,
+                sheet.as_ptr(),
+                sheet.len(),
+                text.as_ptr(),
+                text.len(),
+            )
+        }
     }
 
     fn write_words(&self, words: &Words, names: &[u32], out: &mut [u8]) -> u64 {
@@ -87,6 +108,16 @@ impl Interface for Library {
         let rows = table.len();
         let table = table.as_mut_ptr();
         unsafe { ffi::kz_abi_read_listing(table, rows, tally, text.as_ptr(), text.len()) }
+    }
+
+    fn read_sheet(&self, text: &[u8], sheet: &mut [u8; SHEET_PLACES]) -> u64 {
+        unsafe { ffi::kz_abi_read_sheet(text.as_ptr(), text.len(), sheet) }
+    }
+
+    fn write_sheet(&self, sheet: &[u8], out: &mut [u8]) -> u64 {
+        let size = out.len();
+        let out = out.as_mut_ptr();
+        unsafe { ffi::kz_abi_write_sheet(sheet.as_ptr(), sheet.len(), out, size) }
     }
 
     fn check(&self, input: &[u8], out: &mut [u8]) -> u64 {

@@ -1,6 +1,6 @@
 //! The baseline behind the C interface.
 
-use baseline::{Cap, Event, MAX_GROUP, Refusal, Spelling, Tally};
+use baseline::{Cap, Event, MAX_GROUP, Refusal, SHEET_PLACES, Spelling, Tally};
 
 use crate::{AnswerWords, DROP_ALL, Interface, Words};
 
@@ -25,8 +25,9 @@ impl Interface for Baseline {
         "baseline"
     }
 
-    fn apply_words(
+    fn apply_words_by(
         &self,
+        sheet: &[u8],
         table: &mut [Cap],
         tally: &mut Tally,
         words: &Words,
@@ -34,23 +35,24 @@ impl Interface for Baseline {
     ) -> u64 {
         match group(words, names) {
             Some(names) => self.drop_all(table, tally, names),
-            None => packed(baseline::apply(table, tally, *words)),
+            None => packed(baseline::apply(table, tally, sheet, *words)),
         }
     }
 
-    fn apply_all(
+    fn apply_all_by(
         &self,
+        sheet: &[u8],
         table: &mut [Cap],
         tally: &mut Tally,
         events: &[Words],
         names: &[u32],
         answers: &mut [AnswerWords],
     ) -> usize {
-        baseline::apply_all(table, tally, events, names, answers)
+        baseline::apply_all(table, tally, sheet, events, names, answers)
     }
 
-    fn run(&self, table: &mut [Cap], tally: &mut Tally, text: &[u8]) -> u64 {
-        match baseline::run(table, tally, text) {
+    fn run_by(&self, sheet: &[u8], table: &mut [Cap], tally: &mut Tally, text: &[u8]) -> u64 {
+        match baseline::run(table, tally, sheet, text) {
             Ok(lines) => u64::from(lines),
             Err((refusal, line)) => packed(Err(refusal)) + u64::from(line),
         }
@@ -92,12 +94,20 @@ impl Interface for Baseline {
         packed(baseline::read_listing(text, table, tally).map(|()| 0))
     }
 
+    fn read_sheet(&self, text: &[u8], sheet: &mut [u8; SHEET_PLACES]) -> u64 {
+        packed(baseline::read_sheet(text, sheet).map(|()| 0))
+    }
+
+    fn write_sheet(&self, sheet: &[u8], out: &mut [u8]) -> u64 {
+        packed(baseline::write_sheet(sheet, out))
+    }
+
     fn check(&self, input: &[u8], out: &mut [u8]) -> u64 {
         packed(baseline::check(input, out))
     }
 
-    fn apply(&self, table: &mut [Cap], tally: &mut Tally, event: Event) -> u64 {
-        packed(baseline::apply(table, tally, event))
+    fn apply_by(&self, sheet: &[u8], table: &mut [Cap], tally: &mut Tally, event: Event) -> u64 {
+        packed(baseline::apply(table, tally, sheet, event))
     }
 
     fn drop_all(&self, table: &mut [Cap], tally: &mut Tally, names: &[u32]) -> u64 {

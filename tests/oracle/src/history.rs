@@ -2,6 +2,7 @@
 //!
 //! It asks nothing of the lent table's rules: what refuses an event is written here again, kind by kind.
 
+use crate::sheet::{Access, Outcome, Sheet, Source};
 use crate::span::{ADDRESSES, Span};
 use crate::values::{
     CELL, Event, MAX_DEPTH, MAX_GROUP, MAX_NAME, MAX_ROWS, RAW, READ_ONLY, READ_WRITE, REFERENCE,
@@ -51,6 +52,8 @@ fn judge_span(span: Span) -> Judged {
 #[derive(Clone, Debug, PartialEq)]
 pub struct History {
     rows: usize,
+    /// The sheet that is kept throughout. Without one card 6's sentences say what is struck.
+    sheet: Option<Sheet>,
     notes: Vec<Note>,
     count: u32,
 }
@@ -59,8 +62,17 @@ impl History {
     pub fn new(rows: usize) -> History {
         History {
             rows,
+            sheet: None,
             notes: Vec::new(),
             count: 0,
+        }
+    }
+
+    /// Card 7: a history that is read by a sheet.
+    pub fn by(sheet: Sheet, rows: usize) -> History {
+        History {
+            sheet: Some(sheet),
+            ..History::new(rows)
         }
     }
 
@@ -260,33 +272,75 @@ impl History {
         cells.any(|cell| !self.is_in_subtree(name, *cell))
     }
 
+    /// Card 6: what an access does to a name.
+    fn outcome_by_card_6(&self, access: Access, user: u32, span: Span, name: u32) -> Outcome {
+        match access {
+            Access::Read if self.read_strikes(user, span, name) => Outcome::Lower,
+            Access::Write if self.write_strikes(user, span, name) => Outcome::End,
+            _ => Outcome::Keep,
+        }
+    }
+
+    /// Card 7: where an access comes from, for a name that it meets.
+    fn source(&self, user: u32, name: u32) -> Source {
+        if self.is_outside_a_cell_of(user, name) {
+            return Source::Cell;
+        }
+        let parent = self.made(name).map(|made| made.parent);
+        match parent.is_some_and(|parent| self.is_in_subtree(user, parent)) {
+            true => Source::Kin,
+            false => Source::Stranger,
+        }
+    }
+
+    /// What a noted event does to a name that is not dropped by it. Card 4: a create counts as a write
+    /// through the name that it made; card 7: it acts as a stranger's.
+    fn outcome(&self, note: &Note, name: u32) -> Outcome {
+        let (access, user, span) = match note.event {
+            Event::Read { name, span } => (Access::Read, name, span),
+            Event::Write { name, span } => (Access::Write, name, span),
+            Event::Create { span, .. } => (Access::Write, note.made, span),
+            _ => return Outcome::Keep,
+        };
+        let Some(sheet) = &self.sheet else {
+            return self.outcome_by_card_6(access, user, span, name);
+        };
+        if !self.meets(user, span, name) {
+            return Outcome::Keep;
+        }
+        let source = match note.event.makes() {
+            true => Source::Stranger,
+            false => self.source(user, name),
+        };
+        let kind = self.made(name).map_or(REFERENCE, |made| made.kind);
+        sheet.outcome((kind, access, source))
+    }
+
     /// Whether a note later than the one that made the name is one of those that take something from
     /// it.
     fn any_later(&self, made: Made, takes: impl Fn(&Note) -> bool) -> bool {
         self.notes[made.at + 1..].iter().any(takes)
     }
 
-    /// Card 4: a create counts as a write through the name that it made.
+    /// Whether the name was made and nothing later ended it or an ancestor of it.
     pub fn lives(&self, name: u32) -> bool {
         let path = self.ancestry(name);
-        let strikes = |user, span| path.iter().any(|at| self.write_strikes(user, span, *at));
         let ends = |note: &Note| match note.event {
             Event::Drop { name } => path.contains(&name),
-            Event::Write { name, span } => strikes(name, span),
-            Event::Create { span, .. } => strikes(note.made, span),
-            _ => false,
+            _ => path
+                .iter()
+                .any(|at| self.outcome(note, *at) == Outcome::End),
         };
         self.made(name)
             .is_some_and(|made| !self.any_later(made, ends))
     }
 
-    /// Whether the name was made writable and no later read took that away.
+    /// Whether the name was made writable and nothing later took that away from it or an ancestor of it.
     pub fn is_read_write(&self, name: u32) -> bool {
         let path = self.ancestry(name);
-        let strikes = |user, span| path.iter().any(|at| self.read_strikes(user, span, *at));
-        let lowers = |note: &Note| match note.event {
-            Event::Read { name, span } => strikes(name, span),
-            _ => false,
+        let lowers = |note: &Note| {
+            path.iter()
+                .any(|at| self.outcome(note, *at) == Outcome::Lower)
         };
         self.made(name)
             .is_some_and(|made| made.right == READ_WRITE && !self.any_later(made, lowers))

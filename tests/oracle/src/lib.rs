@@ -1,4 +1,4 @@
-//! A second checker, written from document 01 and cards 1, 2, 4, 5 and 6 alone and for clarity alone.
+//! A second checker, written from document 01 and cards 1, 2 and 4 to 7 alone and for clarity alone.
 //!
 //! It shares no code and no plan with what it judges: the history derives everything from its notes
 //! each time it is asked, the rows of a lent table are searched from end to end, and text is taken
@@ -6,6 +6,7 @@
 
 mod history;
 mod lines;
+mod sheet;
 mod span;
 mod table;
 mod text;
@@ -15,10 +16,11 @@ mod values;
 
 pub use history::History;
 pub use lines::{Spelling, drop_line, event_line, read_drop_line, read_event_line};
+pub use sheet::{Access, CARD_6, Combination, Outcome, Sheet, Source, combinations, write_sheet};
 pub use span::Span;
-pub use table::{apply, in_order, live_rows};
+pub use table::{apply, apply_by, in_order, live_rows, strikes};
 pub use text::{
-    HEADER, Run, check, listing, read_listing, run, write_drop, write_event, write_listing,
+    HEADER, Run, check, listing, read_listing, run, run_by, write_drop, write_event, write_listing,
 };
 pub use together::{drop_all, is_group};
 pub use values::{

@@ -2,6 +2,7 @@
 
 use std::collections::BTreeSet;
 
+use crate::sheet::{Access, Combination, Outcome, Sheet, Source};
 use crate::span::Span;
 use crate::values::{
     CELL, Event, MAX_DEPTH, MAX_NAME, MAX_ROWS, RAW, READ_ONLY, READ_WRITE, REFERENCE, Refused,
@@ -136,13 +137,27 @@ fn borrows_too_deep(rows: &[Row], event: Event) -> bool {
 
 /// One event on a lent table and tally: the new name (0 where none is made), or the refusal.
 pub fn apply(rows: &mut [Row], tally: &mut Tally, event: Event) -> Result<u32, Refused> {
+    apply_by(None, rows, tally, event)
+}
+
+/// The same by a sheet, or by card 6's sentences where there is none.
+pub fn apply_by(
+    sheet: Option<&Sheet>,
+    rows: &mut [Row],
+    tally: &mut Tally,
+    event: Event,
+) -> Result<u32, Refused> {
     if let Some(number) = refusal(rows, tally.issued, event) {
         if number != 1 {
             tally.refused = tally.refused.saturating_add(1);
         }
         return Err(number);
     }
-    let after = rows_after(live_rows(rows), event, tally.issued + 1);
+    let live = live_rows(rows);
+    let after = match sheet {
+        None => rows_after(live, event, tally.issued + 1),
+        Some(sheet) => rows_after_by(sheet, live, event, tally.issued + 1),
+    };
     rows.fill(Row::default());
     rows[..after.len()].copy_from_slice(&after);
     count_allowed(tally, event);
@@ -273,6 +288,74 @@ fn struck_by_write(live: &[Row], user: u32, span: Span) -> BTreeSet<u32> {
 /// a write from outside every subtree but its own, so that card 6 spares no raw one and no cell of it.
 fn reclaimed(live: &[Row], span: Span) -> Vec<u32> {
     subtrees(live, |row| row.span().touches(span))
+}
+
+/// Card 7: the rows that an event leaves by a sheet. A create makes its row besides.
+fn rows_after_by(sheet: &Sheet, live: &[Row], event: Event, new_name: u32) -> Vec<Row> {
+    match event {
+        Event::Read { .. } | Event::Write { .. } => rows_struck(sheet, live, event),
+        Event::Create { span, right, .. } => {
+            let left = rows_struck(sheet, live, event);
+            with_new(&left, new_name, None, span, right, REFERENCE)
+        }
+        _ => rows_after(live, event, new_name),
+    }
+}
+
+/// '`end` taking life and `lower` taking `rw`', of what is struck and of its subtree.
+fn rows_struck(sheet: &Sheet, live: &[Row], event: Event) -> Vec<Row> {
+    let strikes = strikes(live, event);
+    let struck = |wanted: Outcome| {
+        let by_it = strikes
+            .iter()
+            .filter(|(_, one)| sheet.outcome(*one) == wanted);
+        below(live, &by_it.map(|(name, _)| *name).collect())
+    };
+    let lowered = struck(Outcome::Lower);
+    let mut left = without(live, &struck(Outcome::End));
+    for row in left.iter_mut().filter(|row| lowered.contains(&row.name)) {
+        row.right = READ_ONLY.into();
+    }
+    left
+}
+
+/// Every name that an access touches from outside the name's subtree, with its combination. 'A create acts
+/// as a stranger's write.'
+pub fn strikes(live: &[Row], event: Event) -> Vec<(u32, Combination)> {
+    let (access, user, span) = match event {
+        Event::Read { name, span } => (Access::Read, name, span),
+        Event::Write { name, span } => (Access::Write, name, span),
+        // No name is 0.
+        Event::Create { span, .. } => (Access::Write, 0, span),
+        _ => return Vec::new(),
+    };
+    let cells = live.iter().filter(|row| row.kind == CELL);
+    let insides = cells.map(|cell| subtree(live, cell.name));
+    let around_user: Vec<BTreeSet<u32>> = insides.filter(|inside| inside.contains(&user)).collect();
+    let combination = |holder: &Row| {
+        let source = source(live, &around_user, user, holder);
+        (holder.name, (holder.kind, access, source))
+    };
+    touched(live, user, span)
+        .into_iter()
+        .map(combination)
+        .collect()
+}
+
+/// '`cell` when it is in the subtree of a cell the holder is not under, else `kin` when in the subtree of
+/// the holder's parent, else `stranger`.' The subtrees are those of cells that the user is in.
+fn source(live: &[Row], around_user: &[BTreeSet<u32>], user: u32, holder: &Row) -> Source {
+    if around_user
+        .iter()
+        .any(|inside| !inside.contains(&holder.name))
+    {
+        return Source::Cell;
+    }
+    let parent = find(live, holder.parent);
+    match parent.is_some_and(|parent| subtree(live, parent.name).contains(&user)) {
+        true => Source::Kin,
+        false => Source::Stranger,
+    }
 }
 
 /// What an allowed event adds to the tally.

@@ -4,7 +4,8 @@ use crate::lines::{
     Spelling, drop_line, event_line, kind_word, number, read_drop_line, read_event_line, right,
     right_word,
 };
-use crate::table::{apply, in_order, live_rows};
+use crate::sheet::Sheet;
+use crate::table::{apply_by, in_order, live_rows};
 use crate::together::drop_all;
 use crate::values::{
     CELL, Event, MAX_DEPTH, MAX_INPUT, MAX_ROWS, RAW, REFERENCE, Refused, Row, Tally,
@@ -169,6 +170,11 @@ fn lines(text: &[u8]) -> impl Iterator<Item = &[u8]> {
 /// Takes lines until one is refused. A first line that says so is no event, and is counted as a
 /// line; the others are then spelt with names.
 pub fn run(rows: &mut [Row], tally: &mut Tally, text: &[u8]) -> Run {
+    run_by(None, rows, tally, text)
+}
+
+/// The same by a sheet, or by card 6's sentences where there is none.
+pub fn run_by(sheet: Option<&Sheet>, rows: &mut [Row], tally: &mut Tally, text: &[u8]) -> Run {
     if !in_order(rows, tally.issued) {
         return Err((1, 0));
     }
@@ -182,7 +188,7 @@ pub fn run(rows: &mut [Row], tally: &mut Tally, text: &[u8]) -> Run {
             // An unknown kind is refused and counted just as a misspelt line is.
             None => {
                 let event = read_event_line(line, spelling).unwrap_or(Event::Unknown);
-                apply(rows, tally, event)
+                apply_by(sheet, rows, tally, event)
             }
         };
         answer.map_err(|number| (number, allowed + 1))?;

@@ -1,4 +1,4 @@
-//! Traces of card 6, with their answers and listings worked out by hand from the card's sentences.
+//! Traces of cards 6 and 7, with their answers and listings worked out by hand from the cards' sentences.
 
 /// A line and its answer.
 pub type Step = (&'static str, Result<u32, u8>);
@@ -274,5 +274,155 @@ pub const KINDS: [Trace; 21] = [
             ("(write 3 4 0)", Ok(0)),
         ],
         "(issued 4)\n(1 0 64 rw (2 0 8 rw raw) (3 4 0 rw cell) (4 0 8 rw))\n",
+    ),
+];
+
+/// What a trace shows, the text of its sheet, its lines, and the listing that they leave.
+pub type SheetTrace = (&'static str, &'static str, &'static [Step], &'static str);
+
+const KEEP_ALL: &str =
+    "(rule (holder reference raw cell) (access read write) (from cell kin stranger) keep)\n";
+const LOWER_ALL: &str =
+    "(rule (holder cell raw reference) (access write read) (from stranger kin cell) lower)\n";
+const END_ALL: &str =
+    "(rule (holder raw cell reference) (access read write) (from kin stranger cell) end)\n";
+
+/// What it does goes by where it comes from alone.
+const BY_SOURCE: &str = "\
+(rule (holder cell raw reference) (access read write) (from cell) lower)
+(rule (holder reference raw cell) (access write read) (from kin) keep)
+(rule (holder raw cell reference) (access read write) (from stranger) end)
+";
+
+/// What it does goes by the holder alone.
+const BY_HOLDER: &str = "\
+(rule (holder reference) (access read write) (from cell kin stranger) end)
+(rule (holder raw cell) (access read write) (from cell kin stranger) keep)
+";
+
+/// A stranger's write alone takes nothing.
+const STRANGERS_WRITE: &str = "\
+(rule (holder reference raw cell) (access write) (from stranger) keep)
+(rule (holder reference raw cell) (access read) (from stranger) end)
+(rule (holder reference raw cell) (access read write) (from cell kin) end)
+";
+
+/// Traces by sheets, on six rows or more with no name issued.
+pub const SHEETS: [SheetTrace; 7] = [
+    (
+        "a sheet that keeps all",
+        KEEP_ALL,
+        &[
+            ROOT,
+            ("(borrow 1 0 8 rw)", Ok(2)),
+            ("(borrow 1 0 8 rw)", Ok(3)),
+            ("(write 1 0 8)", Ok(0)),
+            ("(write 2 0 8)", Ok(0)),
+            ("(write 3 0 8)", Ok(0)),
+            ("(read 2 0 8)", Ok(0)),
+            ("(create 0 8 rw)", Ok(4)),
+            ("(write 2 0 8)", Ok(0)),
+            ("(write 4 0 8)", Ok(0)),
+        ],
+        "(issued 4)\n(1 0 64 rw (2 0 8 rw) (3 0 8 rw))\n(4 0 8 rw)\n",
+    ),
+    (
+        "reads that end",
+        END_ALL,
+        &[
+            ROOT,
+            ("(borrow 1 0 8 rw)", Ok(2)),
+            ("(borrow 2 0 8 rw)", Ok(3)),
+            ("(borrow 1 0 8 rw)", Ok(4)),
+            ("(read 4 0 8)", Ok(0)),
+            ("(read 3 0 8)", Err(5)),
+            ("(read 1 0 1)", Ok(0)),
+        ],
+        "(issued 4)\n(1 0 64 rw)\n",
+    ),
+    (
+        "a write and a create that lower",
+        LOWER_ALL,
+        &[
+            ROOT,
+            ("(borrow 1 0 8 rw)", Ok(2)),
+            ("(borrow 2 0 8 rw)", Ok(3)),
+            ("(write 1 0 8)", Ok(0)),
+            ("(write 3 0 8)", Err(7)),
+            ("(create 0 8 rw)", Ok(4)),
+            ("(write 1 8 8)", Err(7)),
+        ],
+        "(issued 4)\n(1 0 64 ro (2 0 8 ro (3 0 8 ro)))\n(4 0 8 rw)\n",
+    ),
+    (
+        "cells before kin, and kin before strangers",
+        BY_SOURCE,
+        &[
+            ROOT,
+            ("(borrow 1 0 8 rw)", Ok(2)),
+            ("(borrow 1 0 8 rw cell)", Ok(3)),
+            ("(borrow 3 0 8 rw)", Ok(4)),
+            ("(borrow 3 0 8 rw)", Ok(5)),
+            ("(borrow 1 0 8 rw raw)", Ok(6)),
+            // 4 and 5 are below the cell and have it for their parent; 2 and 6 are kin and outside it.
+            ("(write 4 0 8)", Ok(0)),
+            ("(write 5 0 8)", Ok(0)),
+            ("(write 2 0 8)", Err(7)),
+            // For 4 and 5 that is a stranger's.
+            ("(write 1 0 8)", Ok(0)),
+            ("(read 4 0 8)", Err(5)),
+            ("(read 3 0 8)", Ok(0)),
+        ],
+        "(issued 6)\n(1 0 64 rw (2 0 8 ro) (3 0 8 rw cell) (6 0 8 ro raw))\n",
+    ),
+    (
+        "a cell inside a cell, of which a holder is under one",
+        BY_SOURCE,
+        &[
+            ROOT,
+            ("(borrow 1 0 8 rw cell)", Ok(2)),
+            ("(borrow 2 0 8 rw cell)", Ok(3)),
+            ("(borrow 2 0 8 rw)", Ok(4)),
+            ("(borrow 3 0 8 rw)", Ok(5)),
+            ("(borrow 3 0 8 rw)", Ok(6)),
+            ("(write 5 0 8)", Ok(0)),
+            ("(write 4 0 8)", Err(7)),
+            ("(write 2 0 8)", Ok(0)),
+            ("(read 6 0 8)", Err(5)),
+        ],
+        "(issued 6)\n(1 0 64 rw (2 0 8 rw cell (3 0 8 rw cell) (4 0 8 ro)))\n",
+    ),
+    (
+        "subtrees go along, whatever the sheet says of them",
+        BY_HOLDER,
+        &[
+            ROOT,
+            ("(borrow 1 0 8 rw)", Ok(2)),
+            ("(borrow 2 0 8 rw raw)", Ok(3)),
+            ("(borrow 1 0 8 rw raw)", Ok(4)),
+            ("(borrow 1 0 8 rw cell)", Ok(5)),
+            ("(read 1 0 8)", Ok(0)),
+            ("(read 3 0 8)", Err(5)),
+            ("(write 4 0 8)", Ok(0)),
+            ("(create 0 8 rw)", Ok(6)),
+            ("(read 5 0 8)", Err(5)),
+        ],
+        "(issued 6)\n(6 0 8 rw)\n",
+    ),
+    (
+        "a create is a stranger's write",
+        STRANGERS_WRITE,
+        &[
+            ROOT,
+            ("(borrow 1 0 8 rw cell)", Ok(2)),
+            ("(borrow 2 0 8 rw)", Ok(3)),
+            ("(create 0 64 rw)", Ok(4)),
+            ("(write 4 0 64)", Ok(0)),
+            ("(write 3 0 8)", Ok(0)),
+            ("(read 4 0 8)", Err(5)),
+            ("(create 0 8 rw)", Ok(5)),
+            ("(read 5 0 8)", Ok(0)),
+        ],
+        "(issued 5)\n(5 0 8 rw)\n",
     ),
 ];

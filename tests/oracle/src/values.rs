@@ -1,4 +1,4 @@
-//! The values of document 01 and of cards 1, 5 and 6: limits, rights, kinds, rows, tallies, events and
+//! The values of document 01 and of cards 1, 5, 6 and 7: limits, rights, kinds, rows, tallies, events and
 //! the numbers of refusals.
 
 use crate::span::Span;
@@ -19,7 +19,7 @@ pub const REFERENCE: u32 = 0;
 pub const RAW: u32 = 1;
 pub const CELL: u32 = 2;
 
-/// The number of a refusal, 1 to 13.
+/// The number of a refusal, 1 to 15.
 pub type Refused = u8;
 
 /// A row of a table, or of the history's.
