@@ -2,7 +2,7 @@
 
 use std::hint::black_box;
 
-use interface::{Interface, MAX_GROUP, Words};
+use interface::{Interface, MAX_GROUP, SHEET_PLACES, Words};
 
 use crate::shape::{Lent, READ_WRITE};
 use crate::timing::Batch;
@@ -171,6 +171,29 @@ pub fn read_event() -> Box<dyn Batch> {
     let mut names = [0; MAX_GROUP];
     repeated(BATCH_LINES, move |implementation, at| {
         implementation.read_line(0, &lines[at % lines.len()], &mut event, &mut names)
+    })
+}
+
+/// A sheet of every result.
+fn sheet() -> [u8; SHEET_PLACES] {
+    std::array::from_fn(|place| (place % 3) as u8)
+}
+
+pub fn write_sheet() -> Box<dyn Batch> {
+    let sheet = sheet();
+    let mut out = [0; 1_024];
+    repeated(BATCH_LINES / SHEET_PLACES, move |implementation, _| {
+        implementation.write_sheet(&sheet, &mut out)
+    })
+}
+
+/// Its text has a line for each combination.
+pub fn read_sheet() -> Box<dyn Batch> {
+    let mut found = sheet();
+    let mut text = [0; 1_024];
+    let length = interface::baseline().write_sheet(&found, &mut text) as usize;
+    repeated(BATCH_LINES / SHEET_PLACES, move |implementation, _| {
+        implementation.read_sheet(&text[..length], &mut found)
     })
 }
 

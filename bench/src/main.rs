@@ -89,9 +89,11 @@ fn write(case: Case) -> Box<dyn Batch> {
 }
 
 /// The calls whose time does not depend on a table.
-const ON_LINES: [LineMeasurement; 2] = [
+const ON_LINES: [LineMeasurement; 4] = [
     ("write_event", batch::write_event),
     ("read_event", batch::read_event),
+    ("write_sheet", batch::write_sheet),
+    ("read_sheet", batch::read_sheet),
 ];
 
 /// The shapes besides the two trees, all rows live.
