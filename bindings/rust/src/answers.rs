@@ -5,9 +5,11 @@ use core::fmt;
 
 use crate::Name;
 
-/// Why something was refused. Where several reasons apply, the first of these is given.
+/// Why something was refused. Where several reasons apply, the first of these is given. Later releases
+/// add reasons.
 #[derive(Clone, Copy, Debug, PartialEq, Eq, Hash)]
 #[repr(u8)]
+#[non_exhaustive]
 pub enum Refusal {
     /// The table is not in order, or has more than [`MAX_ROWS`](crate::MAX_ROWS) rows.
     Disordered = 1,
