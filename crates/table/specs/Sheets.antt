@@ -2,7 +2,6 @@
 -- 1 lower, anything else `end`. So every array of bytes is a sheet, and a byte that is no result takes all that one can.
 -- Assumes nothing.
 use Prim.Native.Nat.{ℕ, zero, suc, _+_, _*_}
-use mathlib.Core.Path.{_≡_}
 use mathlib.Core.List.{List, [], _∷_, _++_}
 use lib.ListN.{getD, set, replicate}
 use Rattle.model.specs.declared.Access.{Access}
@@ -82,7 +81,3 @@ bytesOf sheet = withConflicts (withConflicts (withConflicts (replicate 18 0) 0 (
 -- card 6's sheet in bytes
 abbrev pub bytes6 : List ℕ
 bytes6 = 1 ∷ 1 ∷ 1 ∷ 0 ∷ 2 ∷ 2 ∷ 0 ∷ 0 ∷ 0 ∷ 0 ∷ 0 ∷ 2 ∷ 1 ∷ 1 ∷ 1 ∷ 0 ∷ 2 ∷ 2 ∷ []
-
--- these bytes are the sheet that is lent
-pub record Taken (lent bytes : List ℕ) : Type 0 where
-  pub same : sheetIn bytes ≡ sheetLent lent

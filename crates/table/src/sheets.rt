@@ -11,7 +11,7 @@ ghost use mathlib.Core.Path.{_≡_};
 ghost use Prim.Native.Nat.{_≤_, _<_};
 ghost use lib.ListN.{length, getD};
 ghost use Rattle.model.specs.Strike.{resultOf};
-ghost use Rattle.table.specs.Sheets.{accessNumber, originNumber, holderNumber, placeOf, weight, withResults, withConflicts, bytesOf, bytes6, sheetIn, Taken};
+ghost use Rattle.table.specs.Sheets.{accessNumber, originNumber, holderNumber, placeOf, weight, withResults, withConflicts, bytesOf, bytes6, sheetIn, sheetLent};
 
 fn holder_number(kind: u32) -> usize
     ensures { λ r. ⌜ (r ≡ holderNumber kind) × (r ≤ 2) ⌝ }
@@ -120,7 +120,7 @@ fn byte_at(lent: &[u8], place: usize) -> u8
 
 // The sheet that is lent, card 6's where no byte is.
 pub fn sheet_lent(lent: &[u8]) -> SheetBytes
-    ensures { λ r. ⌜ Taken (now (lent .entry)) r ⌝ }
+    ensures { λ r. ⌜ sheetIn r ≡ sheetLent (now (lent .entry)) ⌝ }
 {
     let mut sheet = card6();
     if lent.len() == 0 {

@@ -8,7 +8,7 @@ use Rattle.kelzoud.proofs.kz_abi_run.Tie as tie
 
 returns : tie.Need-returns
 returns c =
-    let e = rw (c .before .before .before .before .before .before .sheet-lent .ensures .same) at (c .before .before .run .ensures) in
+    let e = rw (c .before .before .before .before .before .before .sheet-lent .ensures) at (c .before .before .run .ensures) in
     let p = ran-parts (c .before .before .run .result) _ _ e in
     (p .0, p .1, c .packed-run .ensures ∙ p .2)
 

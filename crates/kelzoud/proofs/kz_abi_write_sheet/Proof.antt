@@ -15,7 +15,7 @@ returns : tie.Need-returns
 unfolding writeSheet
 returns c =
     let bytes = c .before .before .before .before .before .before .sheet-lent in
-    let one = text-of-sheet (bytes .result) ∙ ap (λ (s : Sheet). sheetText (bytesOf s)) (bytes .ensures .same) in
+    let one = text-of-sheet (bytes .result) ∙ ap (λ (s : Sheet). sheetText (bytesOf s)) (bytes .ensures) in
     let e = rw one at (c .before .before .before .write-sheet .ensures) in
     (c .packed-written .ensures ∙ ap (λ (o : Outcome). packedResult (o .answer)) e, ap (λ (o : Outcome). o .buffer) e)
 

@@ -17,7 +17,7 @@ use Rattle.model.specs.declared.Origin.{Origin}
 use Rattle.model.specs.declared.Origin.the-variants.{Cell, Kin, Stranger}
 use Rattle.model.specs.Strike.{resultOf}
 use Rattle.model.specs.Sheet6.{sheet6}
-use Rattle.table.specs.Sheets.{effectIn, resultIn, sheetIn, sheetLent, holderNumber, placeOf, weight, withResults, withConflicts, bytesOf, bytes6, Taken}
+use Rattle.table.specs.Sheets.{effectIn, resultIn, sheetIn, sheetLent, holderNumber, placeOf, weight, withResults, withConflicts, bytesOf, bytes6}
 use Rattle.table.proofs.Laws.Prefix.{extend}
 
 -- a list that is filled up with one value has that one where the list has none
@@ -168,11 +168,11 @@ taking-more lent bytes i l t =
           (getD-set-same bytes i (getD lent i 2) 0 (omega (arith, t .long)));
     }
 
-pub taken-all : (lent bytes : List ℕ) → (length lent ≡ 0 → ⊥) → Taking lent bytes 18 → Taken lent bytes
+pub taken-all : (lent bytes : List ℕ) → (length lent ≡ 0 → ⊥) → Taking lent bytes 18 → sheetIn bytes ≡ sheetLent lent
 unfolding sheetLent
 taken-all [] bytes h t = absurd (h refl)
-taken-all (b ∷ lent) bytes h t = record { same = same-sheet bytes ((b ∷ lent) ++ replicate 18 2) (λ i l. t .each i l ∙ sym (filled (b ∷ lent) 18 i 2 l)) }
+taken-all (b ∷ lent) bytes h t = same-sheet bytes ((b ∷ lent) ++ replicate 18 2) (λ i l. t .each i l ∙ sym (filled (b ∷ lent) 18 i 2 l))
 
-pub taken-none : (lent : List ℕ) → length lent ≡ 0 → Taken lent bytes6
-taken-none [] h = record { same = bytes6-is ∙ sym none-lent }
+pub taken-none : (lent : List ℕ) → length lent ≡ 0 → sheetIn bytes6 ≡ sheetLent lent
+taken-none [] h = bytes6-is ∙ sym none-lent
 taken-none (b ∷ lent) h = absurd (omega arith)

@@ -1,11 +1,11 @@
 -- `table::sheets::sheet_lent` meets its contract: card 6's where no byte is lent, and otherwise byte by byte.
 -- Assumes nothing.
-use mathlib.Core.Path.{sym, ap, subst}
+use mathlib.Core.Path.{ap, subst, _∙_}
 use Prim.Native.Nat.{_-_, _≤_}
 use native.Mathlib.Omega.{arith}
 use lib.ListN.{length}
 use borrow.Author.Needs.{needs}
-use Rattle.table.specs.Sheets.{Taken}
+use Rattle.table.specs.Sheets.{sheetIn}
 use Rattle.table.proofs.Laws.Sheets.{Taking, taking-more, taken-all, taken-none}
 use Rattle.table.proofs.sheets.sheet_lent.Statement.{statement}
 use Rattle.table.proofs.sheets.sheet_lent.Tie as tie
@@ -17,7 +17,7 @@ abbrev μ-loop : tie.MeasureT-loop
 μ-loop lent sheet₀ i₀ sheet i = 18 - i
 
 returns : tie.Need-returns Inv-loop μ-loop
-returns c = subst (Taken (c .before .before .before .args .lent .now)) (sym (c .before .card6 .ensures)) (taken-none (c .before .before .before .args .lent .now) (c .if1 .taken))
+returns c = ap sheetIn (c .before .card6 .ensures) ∙ taken-none (c .before .before .before .args .lent .now) (c .if1 .taken)
 
 loop-holds : tie.Need-loop-holds Inv-loop μ-loop
 loop-holds c = (omega arith, record { long = ap length (c .before .card6 .ensures); each = λ j l. absurd (omega arith) })
