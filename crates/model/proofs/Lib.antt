@@ -23,4 +23,6 @@ mod Sheet6
 mod Together
 mod Demand3
 mod Given
+mod Lowered
+mod ReadRemoved
 pub mod Offered

@@ -14,7 +14,7 @@ use Rattle.model.specs.Effects.{issuedAfter}
 use Rattle.model.specs.History.{Note, Dropped, derivations, ends, lowers, hits, lives, writable, livesRw, view, notesOf, History, outcome, after, emptyHistory, historyAfter}
 use Rattle.model.proofs.Lists.{clash, unless, and-both, final-append}
 use Rattle.model.proofs.Notes.{Sound, floor, floor-below, lives-older, writable-older}
-use Rattle.model.proofs.Match.{Kept, kept-next, kept-first}
+use Rattle.model.proofs.Match.{count-raised, Kept, kept-next, kept-first}
 use Rattle.model.proofs.Allowed.{lives-given}
 
 -- names given out before some notes are below this bound
@@ -51,14 +51,6 @@ module _ (sheet : Sheet) where
     kept-final : (qs : List Request) (H : History) → Kept sheet n (H .count) (H .notes) → Kept sheet n (final (after sheet n) H qs .count) (final (after sheet n) H qs .notes)
     kept-final [] H k = k
     kept-final (q ∷ qs) H k = kept-final qs (after sheet n H q) (kept-after H q k)
-
-    count-raised : (i : ℕ) (q : Request) → i ≤ issuedAfter i q
-    count-raised i (Single (Create w s r)) = omega arith
-    count-raised i (Single (Borrow w u s r kind)) = omega arith
-    count-raised i (Single (Read u s)) = omega arith
-    count-raised i (Single (Write u s)) = omega arith
-    count-raised i (Single (Drop u)) = omega arith
-    count-raised i (Group names) = omega arith
 
     count-outcome : (H : History) (q : Request) (j : ℕ) → H .count ≤ outcome j H q .count
     count-outcome H q zero = count-raised (H .count) q

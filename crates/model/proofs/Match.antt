@@ -47,6 +47,15 @@ counted-issued (Single (Write u s)) t = refl
 counted-issued (Single (Drop u)) t = refl
 counted-issued (Group names) t = refl
 
+-- and never down
+pub count-raised : (i : ℕ) (q : Request) → i ≤ issuedAfter i q
+count-raised i (Single (Create w s r)) = omega arith
+count-raised i (Single (Borrow w u s r kind)) = omega arith
+count-raised i (Single (Read u s)) = omega arith
+count-raised i (Single (Write u s)) = omega arith
+count-raised i (Single (Drop u)) = omega arith
+count-raised i (Group names) = omega arith
+
 right-given : (r : ℕ) → isRight r ≡ true → cond (eqb r 2) 2 1 ≡ r
 right-given r h = go (test (eqb r 2))
   where

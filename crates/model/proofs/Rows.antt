@@ -42,9 +42,15 @@ unfolding lentTable
 lent-left n p rows = ap (λ l. l ++ replicate (n - length (filter p rows)) emptyRow) (sym (filter-reverse p rows))
 
 -- rows that are changed stay in their places
-pub lent-changed : (n : ℕ) (f : Cap → Cap) (rows : List Cap) → lentTable n (map f rows) ≡ map f (reverse rows) ++ replicate (n - length rows) emptyRow
+pub lent-changed : (f : Cap → Cap) → f emptyRow ≡ emptyRow → (n : ℕ) (rows : List Cap) → lentTable n (map f rows) ≡ map f (lentTable n rows)
 unfolding lentTable
-lent-changed n f rows = rw (length-map, ← map-reverse f rows)
+lent-changed f e n rows =
+    rw (length-map, ← map-reverse f rows)
+    (ap (λ l. map f (reverse rows) ++ l) (sym (zeros (n - length rows))) ∙ sym (map-append f (reverse rows) (replicate (n - length rows) emptyRow)))
+  where
+    zeros : (n : ℕ) → map f (replicate n emptyRow) ≡ replicate n emptyRow
+    zeros zero = refl
+    zeros (suc n) = ap₂ {C = List Cap} (λ x xs. x ∷ xs) e (zeros n)
 
 pub emptyRow-empty : (c : Cap) → isEmptyRow c ≡ true → c ≡ emptyRow
 unfolding isEmptyRow
@@ -99,15 +105,7 @@ module _ (t : List Cap) (a : liveRowsFirst t ≡ true) where
 
   -- a read: each row is changed in its place
   pub table-changed : (f : Cap → Cap) → f emptyRow ≡ emptyRow → lentTable (length t) (map f (liveRows t)) ≡ map f t
-  unfolding lentTable
-  table-changed f e = lent-changed (length t) f (liveRows t) ∙ ap (λ l. map f (reverse (liveRows t)) ++ l) (sym (zeros (length t - length (liveRows t)))) ∙ sym (map-append f (reverse (liveRows t)) (replicate (length t - length (liveRows t)) emptyRow)) ∙ ap (map f) whole
-    where
-      zeros : (n : ℕ) → map f (replicate n emptyRow) ≡ replicate n emptyRow
-      zeros zero = refl
-      zeros (suc n) = ap₂ {C = List Cap} (λ x xs. x ∷ xs) e (zeros n)
-
-      whole : reverse (liveRows t) ++ replicate (length t - length (liveRows t)) emptyRow ≡ t
-      whole = lent-live t a
+  table-changed f e = lent-changed f e (length t) (liveRows t) ∙ ap (map f) (lent-live t a)
 
   -- a write or a drop: the rows that are left close up
   pub table-left : (p : Cap → Bool) → lentTable (length t) (filter p (liveRows t)) ≡ filter p (reverse (liveRows t)) ++ replicate (length t - length (filter p (liveRows t))) emptyRow

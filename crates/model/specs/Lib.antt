@@ -15,4 +15,5 @@ pub mod Answers
 pub mod History
 pub mod Given
 pub mod Demand3
+pub mod ReadRemoved
 pub mod Traces

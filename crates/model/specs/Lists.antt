@@ -1,6 +1,6 @@
 -- Tests over lists; the first of a list of checks that holds; and machines that take events in turn.
 -- Assumes nothing.
-use Prim.Native.Nat.{ℕ}
+use Prim.Native.Nat.{ℕ, zero, suc}
 use mathlib.Core.Bool.{Bool, true, false, cond, _&&_, _||_}
 use mathlib.Core.List.{List, [], _∷_}
 
@@ -23,6 +23,12 @@ module _ {A : Type 0} where
   abbrev pub all : (A → Bool) → List A → Bool
   all p [] = true
   all p (x ∷ xs) = p x && all p xs
+
+  -- the list without its member at k
+  abbrev pub without : ℕ → List A → List A
+  without k [] = []
+  without zero (x ∷ xs) = xs
+  without (suc k) (x ∷ xs) = x ∷ without k xs
 
 -- of checks, each a number and a condition: the first number whose condition holds, or 0
 abbrev pub first : List (ℕ × Bool) → ℕ

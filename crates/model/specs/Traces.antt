@@ -1,5 +1,5 @@
 -- Document 01, "Traces to try", those with a star; "Eleven ways to be turned down", the examples that are events; cards 1, 2 and 4
--- to 7; and capcheck's example.
+-- to 8; and capcheck's example.
 -- One table, and one computed proof over it (proofs/Traces).
 -- Assumes nothing.
 use Prim.Native.Nat.{ℕ, zero, suc}
@@ -238,7 +238,7 @@ inRust =
 
 -- Card 7: by a sheet in which a stranger's write lowers references and ends cells, a read ends from beside a cell, and all else is kept: a
 -- create lowers a root with its subtree, and a read through a cell ends what is outside it
-abbrev mildSheet : Sheet
+abbrev pub mildSheet : Sheet
 mildSheet =
     record {
       reference = conflicts (results End Keep Keep) (results Keep Keep Lower);
@@ -246,13 +246,27 @@ mildSheet =
       cell = conflicts (results Keep Keep Keep) (results Keep Keep End);
     }
 
-abbrev mildly : List (Request × ℕ × ℕ) → List (ℕ × ℕ) → Trace
-mildly lines left = record { sheet = mildSheet; lent = initial 1024 (noCounts 0); lines = (create 0 64 RW, 0, 1) ∷ lines; left = left }
+abbrev mildly : ℕ → List (Request × ℕ × ℕ) → List (ℕ × ℕ) → Trace
+mildly rows lines left = record { sheet = mildSheet; lent = initial rows (noCounts 0); lines = (create 0 64 RW, 0, 1) ∷ lines; left = left }
 
 unfoldable pub sheets : List Trace
 sheets =
-    mildly ((borrow 1 0 8 RW, 0, 2) ∷ (borrowAs 2 1 8 8 RW, 0, 3) ∷ (create 4 8 RW, 0, 4) ∷ (write 1 0 8, 7, 0) ∷ []) ((1, ro) ∷ (2, ro) ∷ (4, RW) ∷ [])
-    ∷ mildly ((borrow 1 0 8 RW, 0, 2) ∷ (borrowAs 2 1 0 8 RW, 0, 3) ∷ (write 1 0 8, 0, 0) ∷ (read 3 0 8, 0, 0) ∷ []) ((1, RW) ∷ (3, RW) ∷ [])
+    mildly 1024 ((borrow 1 0 8 RW, 0, 2) ∷ (borrowAs 2 1 8 8 RW, 0, 3) ∷ (create 4 8 RW, 0, 4) ∷ (write 1 0 8, 7, 0) ∷ []) ((1, ro) ∷ (2, ro) ∷ (4, RW) ∷ [])
+    ∷ mildly 1024 ((borrow 1 0 8 RW, 0, 2) ∷ (borrowAs 2 1 0 8 RW, 0, 3) ∷ (write 1 0 8, 0, 0) ∷ (read 3 0 8, 0, 0) ∷ []) ((1, RW) ∷ (3, RW) ∷ [])
+    ∷ []
+
+-- Card 8, each with a read and then without it
+unfoldable pub thinned : List Trace
+thinned =
+    -- the read strikes 2, which is above 3, and not 4
+    created 1024 ((borrow 1 0 32 RW, 0, 2) ∷ (borrow 2 16 8 RW, 0, 3) ∷ (borrow 1 32 8 RW, 0, 4) ∷ (read 1 0 4, 0, 0) ∷ []) ((1, RW) ∷ (2, ro) ∷ (3, ro) ∷ (4, RW) ∷ [])
+    ∷ created 1024 ((borrow 1 0 32 RW, 0, 2) ∷ (borrow 2 16 8 RW, 0, 3) ∷ (borrow 1 32 8 RW, 0, 4) ∷ []) ((1, RW) ∷ (2, RW) ∷ (3, RW) ∷ (4, RW) ∷ [])
+    -- where some event is refused, a refusal may be hidden
+    ∷ created 1024 ((borrow 1 0 16 RW, 0, 2) ∷ (read 1 0 4, 0, 0) ∷ (write 2 0 8, 7, 0) ∷ []) ((1, RW) ∷ (2, ro) ∷ [])
+    ∷ created 1024 ((borrow 1 0 16 RW, 0, 2) ∷ (write 2 0 8, 0, 0) ∷ []) ((1, RW) ∷ (2, RW) ∷ [])
+    -- where a read ends, what was allowed may be refused
+    ∷ mildly 3 ((borrow 1 0 8 RW, 0, 2) ∷ (borrowAs 2 1 0 8 RW, 0, 3) ∷ (read 3 0 8, 0, 0) ∷ (create 64 8 RW, 0, 4) ∷ []) ((1, RW) ∷ (3, RW) ∷ (4, RW) ∷ [])
+    ∷ mildly 3 ((borrow 1 0 8 RW, 0, 2) ∷ (borrowAs 2 1 0 8 RW, 0, 3) ∷ (create 64 8 RW, 10, 0) ∷ []) ((1, RW) ∷ (2, RW) ∷ (3, RW) ∷ [])
     ∷ []
 
 -- "The bracket text": what capcheck is shown on
@@ -263,7 +277,7 @@ printed =
     ((1, RW) ∷ (2, ro) ∷ (3, RW) ∷ [])
 
 unfoldable pub traces : List Trace
-traces = starred ++ (refused ++ (written ++ (empty ++ (reused ++ (together ++ (kinds ++ (inRust ++ (sheets ++ (printed ∷ [])))))))))
+traces = starred ++ (refused ++ (written ++ (empty ++ (reused ++ (together ++ (kinds ++ (inRust ++ (sheets ++ (thinned ++ (printed ∷ []))))))))))
 
 -- ---- when a trace goes as it says
 

@@ -1,0 +1,276 @@
+-- Card 8: how far one read reaches. With the read, some rights are lowered; and rows of which some are lowered go on like the others, as
+-- long as every request is allowed of the lowered ones.
+-- Assumes nothing.
+use mathlib.Core.Path.{_≡_, refl, sym, ap, ap₂, _∙_}
+use mathlib.Core.Logic.{_⊎_, inl, inr}
+use mathlib.Core.Bool.{Bool, true, false, not, cond, _&&_, _||_}
+use mathlib.Core.List.{List, [], _∷_, _++_, map, map-map}
+use Prim.Native.Nat.{ℕ, zero, suc, _<_}
+use native.Mathlib.Omega.{arith}
+use lib.ListN.{length, getD, List·getD-map}
+use borrow.Author.Tests.{eqb-true, not-false}
+use Rattle.model.specs.declared.Name.{Name}
+use Rattle.model.specs.declared.Span.{Span}
+use Rattle.model.specs.declared.Cap.{Cap}
+use Rattle.model.specs.declared.Event.the-variants.{Create, Borrow, Read, Write, Drop}
+use Rattle.model.specs.declared.Access.the-variants.{Reading}
+use Rattle.model.specs.declared.Effect.{Effect}
+use Rattle.model.specs.declared.Effect.the-variants.{Keep, Lower, End}
+use Rattle.model.specs.declared.Origin.the-variants.{Cell, Kin, Stranger}
+use Rattle.model.specs.declared.Sheet.{Sheet}
+use Rattle.model.specs.declared.Tally.{Tally}
+use Rattle.model.specs.Lists.{any, all, without, answers, final}
+use Rattle.model.specs.Requests.{Request, Single, Group}
+use Rattle.model.specs.Values.{touches}
+use Rattle.model.specs.Derivation.{Derivation, ancestry, inSubtree, onAncestry}
+use Rattle.model.specs.Strike.{isLower, isEnd, resultOf, origin, strike, reached, struck}
+use Rattle.model.specs.Sheet6.{sheet6}
+use Rattle.model.specs.Table.{emptyRow, span, derivation, derivations, named, liveRows, isRight, inOrder}
+use Rattle.model.specs.Refusals.{viewOf, refusals, judge}
+use Rattle.model.specs.Effects.{lowered, revoke, afterAccess, rowsAfter}
+use Rattle.model.specs.Counts.{countUp, countAllowed}
+use Rattle.model.specs.Step.{Verdict, State, view, isAllowed, answer, after, initial, stateAfter}
+use Rattle.model.specs.History.{historyAfter}
+use Rattle.model.specs.History
+use Rattle.model.specs.Traces.{mildSheet}
+use Rattle.model.specs.ReadRemoved.{NoReadEnds, isStrike, livesIn, readStrikes, rightless, OnlyRights, ReadRemoved}
+use Rattle.model.proofs.Lists.{All-of, test, clash, unless, and-both, or-neither, all-append, final-append, answers-append, filter-all}
+use Rattle.model.proofs.Ancestries.{Falling, ancestry-zero, ancestry-above, ancestry-past}
+use Rattle.model.proofs.Notes.{taken-cong}
+use Rattle.model.proofs.Judged.{allowed}
+use Rattle.model.proofs.Match.{counted-issued, count-raised}
+use Rattle.model.proofs.Order.{rowsInOrder-falling, live-named, ordered, order-after}
+use Rattle.model.proofs.Lowered.{lower, allowed-lower, after-lower, rights-table, lowered-right}
+use Rattle.model.proofs.Rows.{table-changed}
+use Rattle.model.proofs.Demand3.{demand3}
+
+-- ---- two runs
+
+-- a read and another request count in either order alike
+counts-commute : (u : Name) (s : Span) (q : Request) (t : Tally) → countAllowed q (countAllowed (Single (Read u s)) t) ≡ countAllowed (Single (Read u s)) (countAllowed q t)
+counts-commute u s (Single (Create w v r)) t = refl
+counts-commute u s (Single (Borrow w x v r kind)) t = refl
+counts-commute u s (Single (Read x v)) t = refl
+counts-commute u s (Single (Write x v)) t = refl
+counts-commute u s (Single (Drop x)) t = refl
+counts-commute u s (Group names) t = refl
+
+module _ (u : Name) (s : Span) (hit : ℕ → Bool) where
+  -- The second has the table of the first, lowered where `hit` says, and one read more. No empty row is hit, and no name given out later.
+  record Below (h l : State) : Type 0 where
+    pub ordered-table : inOrder (h .table) (h .tally .issued) ≡ true
+    pub lower-table : l .table ≡ map (lower hit) (h .table)
+    pub one-read-more : l .tally ≡ countAllowed (Single (Read u s)) (h .tally)
+    pub zero-kept : hit 0 ≡ false
+    pub later-kept : (x : ℕ) → h .tally .issued < x → hit x ≡ false
+
+  module _ (sheet : Sheet) (h l : State) (b : Below h l) (q : Request) (z : judge (view l) q ≡ 0) where
+    same-issued : l .tally .issued ≡ h .tally .issued
+    same-issued = ap (λ t. t .issued) (b .one-read-more)
+
+    also-allowed : judge (view h) q ≡ 0
+    also-allowed = allowed-lower hit (h .table) (h .tally .issued) q (b .ordered-table) (ap₂ (λ t i. judge (viewOf t i) q) (sym (b .lower-table)) (sym same-issued) ∙ z)
+
+    same-answer : answer h q ≡ answer l q
+    unfolding answer
+    same-answer = rw (also-allowed, z, same-issued)
+
+    below-after : Below (after sheet h q) (after sheet l q)
+    unfolding after
+    below-after =
+        record {
+          ordered-table = order-after sheet h q (b .ordered-table);
+          lower-table = rw (also-allowed, z, b .lower-table, same-issued) (after-lower hit (h .table) (h .tally .issued) q (b .zero-kept) (b .later-kept (suc (h .tally .issued)) (omega arith)) sheet);
+          one-read-more = rw (also-allowed, z) (ap (countAllowed q) (b .one-read-more) ∙ counts-commute u s q (h .tally));
+          zero-kept = b .zero-kept;
+          later-kept = rw also-allowed (λ x later. b .later-kept x (omega (arith, counted-issued q (h .tally), count-raised (h .tally .issued) q)));
+        }
+
+  -- while the second allows every request, the first answers alike
+  alike : (sheet : Sheet) (qs : List Request) (h l : State) → Below h l → all isAllowed (answers (after sheet) answer l qs) ≡ true
+      → (answers (after sheet) answer h qs ≡ answers (after sheet) answer l qs) × Below (final (after sheet) h qs) (final (after sheet) l qs)
+  unfolding answer
+  alike sheet [] h l b a = (refl, b)
+  alike sheet (q ∷ qs) h l b a =
+      let p = and-both (isAllowed (answer l q)) (all isAllowed (answers (after sheet) answer (after sheet l q) qs)) a in
+      let z : judge (view l) q ≡ 0 = eqb-true (judge (view l) q) 0 (p .0) in
+      let r = alike sheet qs (after sheet h q) (after sheet l q) (below-after sheet h l b q z) (p .1) in
+      (ap₂ {C = List Verdict} (λ x xs. x ∷ xs) (same-answer sheet h l b q z) (r .0), r .1)
+
+-- ---- the read
+
+module _ (sheet : Sheet) (none-end : NoReadEnds sheet) (s : Span) (user : List Derivation) where
+  nothing-ends : (x : List Derivation) → reached sheet isEnd Reading s user x ≡ false
+  unfolding reached onAncestry strike
+  nothing-ends [] = refl
+  nothing-ends (d ∷ above) = rw (go (touches s (d .span) && not (inSubtree (d .name) user)) (resultOf sheet (d .kind) Reading (origin user d above)) (none-end (d .kind) (origin user d above))) (nothing-ends above)
+    where
+      go : (b : Bool) (e : Effect) → isEnd e ≡ false → isEnd (cond b e Keep) ≡ false
+      go true e h = h
+      go false e h = refl
+
+  -- a strike lowers
+  strikes-lower : (x : List Derivation) → reached sheet isStrike Reading s user x ≡ reached sheet isLower Reading s user x
+  unfolding reached onAncestry strike
+  strikes-lower [] = refl
+  strikes-lower (d ∷ above) = ap₂ (λ a b. a || b) (go (touches s (d .span) && not (inSubtree (d .name) user)) (resultOf sheet (d .kind) Reading (origin user d above)) (none-end (d .kind) (origin user d above))) (strikes-lower above)
+    where
+      go : (b : Bool) (e : Effect) → isEnd e ≡ false → isStrike (cond b e Keep) ≡ isLower (cond b e Keep)
+      go true Keep h = refl
+      go true Lower h = refl
+      go true End h = clash refl h
+      go false e h = refl
+
+-- a name that is not among the rows has no ancestry
+absent : (x : ℕ) (rows : List Cap) → any (named x) rows ≡ false → ancestry (derivations rows) x ≡ []
+unfolding ancestry
+absent x [] e = refl
+absent x (c ∷ rows) e = let p = or-neither (named x c) (any (named x) rows) e in ancestry-past (derivation c) (derivations rows) x (p .0) ∙ absent x rows (p .1)
+
+module _ (sheet : Sheet) (h : State) (u : Name) (s : Span) where
+  -- what has no ancestry is not struck
+  unstruck : (x : ℕ) → ancestry (derivations (liveRows (h .table))) x ≡ [] → readStrikes sheet h u s x ≡ false
+  unfolding struck reached onAncestry
+  unstruck x e = rw e
+
+  struck-lives : (x : ℕ) → readStrikes sheet h u s x ≡ true → livesIn h x ≡ true
+  struck-lives x t = go (test (livesIn h x))
+    where
+      go : (livesIn h x ≡ true) ⊎ (livesIn h x ≡ false) → livesIn h x ≡ true
+      go (inl e) = e
+      go (inr e) = clash t (unstruck x (absent x (liveRows (h .table)) e))
+
+  module _ (none-end : NoReadEnds sheet) (z : judge (view h) (Single (Read u s)) ≡ 0) where
+    in-order : inOrder (h .table) (h .tally .issued) ≡ true
+    unfolding refusals
+    in-order = not-false (inOrder (h .table) (h .tally .issued)) (allowed (view h) (Single (Read u s)) z 1)
+
+    falls : Falling (suc (h .tally .issued)) (derivations (liveRows (h .table)))
+    falls = rowsInOrder-falling (suc (h .tally .issued)) (liveRows (h .table)) (live-named (h .table)) (ordered (h .table) (h .tally .issued) in-order .rise)
+
+    read-lowers : (rows : List Cap) → rows ≡ liveRows (h .table) → afterAccess sheet Reading (u .0) s rows ≡ map (lower (readStrikes sheet h u s)) rows
+    unfolding afterAccess revoke struck
+    read-lowers rows e =
+        let user : List Derivation = ancestry (derivations (liveRows (h .table))) (u .0) in
+        rw e
+        (taken-cong _ _ (λ x. false) (readStrikes sheet h u s) (liveRows (h .table))
+        (All-of _ (λ c. (nothing-ends sheet none-end s user (ancestry (derivations (liveRows (h .table))) (c .name .0)), sym (strikes-lower sheet none-end s user (ancestry (derivations (liveRows (h .table))) (c .name .0))))) (liveRows (h .table)))
+        ∙ ap (map (lower (readStrikes sheet h u s))) (filter-all (λ c. true) (liveRows (h .table)) (All-of _ (λ c. refl) (liveRows (h .table)))))
+
+    below-read : Below u s (readStrikes sheet h u s) h (after sheet h (Single (Read u s)))
+    unfolding after rowsAfter
+    below-read =
+        let zero-unstruck = unstruck 0 (ancestry-zero (suc (h .tally .issued)) (derivations (liveRows (h .table))) falls) in
+        record {
+          ordered-table = in-order;
+          lower-table =
+              rw (z, read-lowers (liveRows (h .table)) refl)
+              (table-changed (h .table) (ordered (h .table) (h .tally .issued) in-order .rest-is-empty) (lower (readStrikes sheet h u s)) (ap (λ b. lowered b emptyRow) zero-unstruck));
+          one-read-more = rw z;
+          zero-kept = zero-unstruck;
+          later-kept = λ x later. unstruck x (ancestry-above (suc (h .tally .issued)) x (derivations (liveRows (h .table))) falls (omega arith));
+        }
+
+-- ---- card 8
+
+-- what is lent at the read; then, at the end, with the read and without it
+module _ (sheet : Sheet) (here : State) (u : Name) (s : Span) (l h : State) (b : Below u s (readStrikes sheet here u s) h l) where
+  abbrev strikes : ℕ → Bool
+  strikes = readStrikes sheet here u s
+
+  rights : OnlyRights sheet here u s l h
+  rights =
+      record {
+        only-rights = ap (map rightless) (b .lower-table) ∙ map-map rightless (lower strikes) (h .table);
+        rights-differ = differ;
+        exactly = b .lower-table;
+        one-read-more = b .one-read-more;
+        unless-full = λ few. let e : l .tally .reads ≡ countUp (h .tally .reads) = ap (λ t. t .reads) (b .one-read-more) in omega (arith);
+      }
+    where
+      differ : (k : ℕ) → let c : Cap = getD (l .table) k emptyRow in let d : Cap = getD (h .table) k emptyRow in
+          (d .right ≡ c .right) ⊎ ((livesIn here (d .name .0) ≡ true) × (strikes (d .name .0) ≡ true) × (d .right ≡ 2) × (c .right ≡ 1))
+      differ k = rw placed (go (lowered-right (strikes (d .name .0)) d known))
+        where
+          d : Cap
+          d = getD (h .table) k emptyRow
+
+          placed : getD (l .table) k emptyRow ≡ lower strikes d
+          placed =
+              ap (λ t. getD t k emptyRow) (b .lower-table)
+              ∙ ap (getD (map (lower strikes) (h .table)) k) (sym (ap (λ b. lowered b emptyRow) (b .zero-kept)))
+              ∙ List·getD-map (lower strikes) (h .table) k emptyRow
+
+          known : strikes (d .name .0) ≡ true → isRight (d .right) ≡ true
+          known t = rights-table (h .table) (h .tally .issued) (b .ordered-table) k
+              (ap not (unless (named 0 d) (λ e. clash t (ap strikes (sym (eqb-true 0 (d .name .0) e)) ∙ b .zero-kept))))
+
+          go : (d .right ≡ lower strikes d .right) ⊎ ((strikes (d .name .0) ≡ true) × (d .right ≡ 2) × (lower strikes d .right ≡ 1))
+              → (d .right ≡ lower strikes d .right) ⊎ ((livesIn here (d .name .0) ≡ true) × (strikes (d .name .0) ≡ true) × (d .right ≡ 2) × (lower strikes d .right ≡ 1))
+          go (inl e) = inl e
+          go (inr e) = inr (struck-lives sheet here u s (d .name .0) (e .0), e .0, e .1, e .2)
+
+-- the answers but for the one at a request
+answers-without : (sheet : Sheet) (before : List Request) (h : State) (q : Request) (later : List Request)
+    → without (length before) (answers (after sheet) answer h (before ++ (q ∷ later))) ≡ answers (after sheet) answer h before ++ answers (after sheet) answer (after sheet (final (after sheet) h before) q) later
+answers-without sheet [] h q later = refl
+answers-without sheet (p ∷ before) h q later = ap {B = List Verdict} (λ l. answer h p ∷ l) (answers-without sheet before (after sheet h p) q later)
+
+-- "if one read is removed from a trace whose every event is allowed"
+pub read-removed : (sheet : Sheet) → NoReadEnds sheet → (lent : State) (before : List Request) (u : Name) (s : Span) (later : List Request)
+    → all isAllowed (answers (after sheet) answer lent (before ++ (Single (Read u s) ∷ later))) ≡ true → ReadRemoved sheet lent before u s later
+unfolding answer
+read-removed sheet none-end lent before u s later a =
+    record {
+      all-allowed =
+          rw (answers-append (after sheet) answer lent before later, all-append isAllowed (answers (after sheet) answer lent before) (answers (after sheet) answer here later), p .0)
+          (ap (all isAllowed) (runs .0) ∙ q .1);
+      same-answers =
+          answers-append (after sheet) answer lent before later ∙ ap (λ l. answers (after sheet) answer lent before ++ l) (runs .0)
+          ∙ sym (answers-without sheet before lent (Single (Read u s)) later);
+      rights = rw (final-append (after sheet) lent before (Single (Read u s) ∷ later), final-append (after sheet) lent before later)
+          (rights sheet here u s (final (after sheet) (after sheet here (Single (Read u s))) later) (final (after sheet) here later) (runs .1));
+    }
+  where
+    here : State
+    here = final (after sheet) lent before
+
+    p : (all isAllowed (answers (after sheet) answer lent before) ≡ true) × (all isAllowed (answers (after sheet) answer here (Single (Read u s) ∷ later)) ≡ true)
+    p =
+        and-both (all isAllowed (answers (after sheet) answer lent before)) (all isAllowed (answers (after sheet) answer here (Single (Read u s) ∷ later)))
+        (rw (answers-append (after sheet) answer lent before (Single (Read u s) ∷ later), all-append isAllowed (answers (after sheet) answer lent before) (answers (after sheet) answer here (Single (Read u s) ∷ later))) at a)
+
+    q : (isAllowed (answer here (Single (Read u s))) ≡ true) × (all isAllowed (answers (after sheet) answer (after sheet here (Single (Read u s))) later) ≡ true)
+    q = and-both (isAllowed (answer here (Single (Read u s)))) (all isAllowed (answers (after sheet) answer (after sheet here (Single (Read u s))) later)) (p .1)
+
+    z : judge (view here) (Single (Read u s)) ≡ 0
+    z = eqb-true (judge (view here) (Single (Read u s))) 0 (q .0)
+
+    runs : (answers (after sheet) answer here later ≡ answers (after sheet) answer (after sheet here (Single (Read u s))) later)
+        × Below u s (readStrikes sheet here u s) (final (after sheet) here later) (final (after sheet) (after sheet here (Single (Read u s))) later)
+    runs = alike u s (readStrikes sheet here u s) sheet later here (after sheet here (Single (Read u s))) (below-read sheet here u s none-end z) (q .1)
+
+-- The history tells the same of a trace, which begins with n rows, all zeros: by demand 3 its table is the lent one.
+pub history-removed : (sheet : Sheet) → NoReadEnds sheet → (n : ℕ) (t : Tally) → t .issued ≡ 0 → (before : List Request) (u : Name) (s : Span) (later : List Request)
+    → all isAllowed (answers (after sheet) answer (initial n t) (before ++ (Single (Read u s) ∷ later))) ≡ true
+    → History.table sheet n (historyAfter sheet n (before ++ (Single (Read u s) ∷ later)) .notes)
+    ≡ map (λ c. lowered (readStrikes sheet (stateAfter sheet n t before) u s (c .name .0)) c) (History.table sheet n (historyAfter sheet n (before ++ later) .notes))
+history-removed sheet none-end n t z before u s later a =
+    sym (demand3 sheet n t z (before ++ (Single (Read u s) ∷ later)) .same-table)
+    ∙ read-removed sheet none-end (initial n t) before u s later a .rights .exactly
+    ∙ ap (map (λ c. lowered (readStrikes sheet (stateAfter sheet n t before) u s (c .name .0)) c)) (demand3 sheet n t z (before ++ later) .same-table)
+
+-- By card 6's sheet no read ends anything; by that of card 7's traces one does.
+pub no-read-ends : NoReadEnds sheet6
+no-read-ends zero Cell = refl
+no-read-ends zero Kin = refl
+no-read-ends zero Stranger = refl
+no-read-ends (suc zero) Cell = refl
+no-read-ends (suc zero) Kin = refl
+no-read-ends (suc zero) Stranger = refl
+no-read-ends (suc (suc kind)) Cell = refl
+no-read-ends (suc (suc kind)) Kin = refl
+no-read-ends (suc (suc kind)) Stranger = refl
+
+some-read-ends : NoReadEnds mildSheet → ⊥
+some-read-ends none-end = clash refl (none-end 0 Cell)

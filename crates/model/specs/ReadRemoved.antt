@@ -1,0 +1,84 @@
+-- Card 8, "how far one read reaches": what may change when one read is removed from a trace whose every event is allowed.
+-- Assumes nothing.
+use Prim.Native.Nat.{ℕ, suc, _<_}
+use mathlib.Core.Path.{_≡_}
+use mathlib.Core.Logic.{_⊎_}
+use mathlib.Core.Bool.{Bool, true, false}
+use mathlib.Core.List.{List, _∷_, _++_, map}
+use lib.ListN.{length, getD}
+use Rattle.model.specs.declared.Name.{Name}
+use Rattle.model.specs.declared.Span.{Span}
+use Rattle.model.specs.declared.Cap.{Cap}
+use Rattle.model.specs.declared.Event.the-variants.{Read}
+use Rattle.model.specs.declared.Access.the-variants.{Reading}
+use Rattle.model.specs.declared.Effect.{Effect}
+use Rattle.model.specs.declared.Effect.the-variants.{Keep, Lower, End}
+use Rattle.model.specs.declared.Origin.{Origin}
+use Rattle.model.specs.declared.Sheet.{Sheet}
+use Rattle.model.specs.Lists.{any, all, without, answers, final}
+use Rattle.model.specs.Requests.{Request, Single}
+use Rattle.model.specs.Strike.{isEnd, resultOf, struck}
+use Rattle.model.specs.Table.{row, emptyRow, derivation, derivations, named, liveRows}
+use Rattle.model.specs.Effects.{lowered}
+use Rattle.model.specs.Counts.{countAllowed}
+use Rattle.model.specs.Step.{State, isAllowed, answer, after}
+
+-- "a sheet in which no read ends anything"
+abbrev pub NoReadEnds : Sheet → Type 0
+NoReadEnds sheet = (kind : ℕ) (from : Origin) → isEnd (resultOf sheet kind Reading from) ≡ false
+
+-- "struck": the sheet does not say `keep`
+abbrev pub isStrike : Effect → Bool
+isStrike Keep = false
+isStrike Lower = true
+isStrike End = true
+
+-- "a capability alive"
+abbrev pub livesIn : State → ℕ → Bool
+livesIn h x = any (named x) (liveRows (h .table))
+
+-- "which the read struck, or which has a struck ancestor": the read of s through u, of the capability x
+abbrev pub readStrikes : Sheet → State → Name → Span → ℕ → Bool
+readStrikes sheet h u s x = struck sheet isStrike Reading (derivations (liveRows (h .table))) (u .0) s x
+
+-- a row but for its right
+abbrev pub rightless : Cap → Cap
+rightless c = row (derivation c) 0 (c .depth)
+
+-- What is lent at a read of s through u, at the end of a list of requests with that read, and at the end of the same list without it.
+module _ (sheet : Sheet) (atRead : State) (u : Name) (s : Span) (withRead withoutRead : State) where
+  -- the row at k in both, 0 names none
+  abbrev with : ℕ → Cap
+  with k = getD (withRead .table) k emptyRow
+
+  abbrev left : ℕ → Cap
+  left k = getD (withoutRead .table) k emptyRow
+
+  pub record OnlyRights : Type 0 where
+    -- "The final tables differ only in rights."
+    pub only-rights : map rightless (withRead .table) ≡ map rightless (withoutRead .table)
+    -- "A right differs only for a capability alive at that read which the read struck, or which has a struck ancestor, and there it is `rw`
+    -- in place of `ro`."
+    pub rights-differ : (k : ℕ) → (left k .right ≡ with k .right)
+        ⊎ ((livesIn atRead (left k .name .0) ≡ true) × (readStrikes sheet atRead u s (left k .name .0) ≡ true) × (left k .right ≡ 2) × (with k .right ≡ 1))
+    -- So it is exactly: with the read, every capability that it struck, or that has a struck ancestor, is `ro`, and the others are as without it.
+    pub exactly : withRead .table ≡ map (λ c. lowered (readStrikes sheet atRead u s (c .name .0)) c) (withoutRead .table)
+    -- With the read its tally has one read more, and all else of it is the same.
+    pub one-read-more : withRead .tally ≡ countAllowed (Single (Read u s)) (withoutRead .tally)
+    pub unless-full : withRead .tally .reads < 4294967295 → withRead .tally .reads ≡ suc (withoutRead .tally .reads)
+
+-- What is lent at first may be anything: a trace begins with `initial`. The requests before the read, the read, and those after it.
+module _ (sheet : Sheet) (lent : State) (before : List Request) (u : Name) (s : Span) (later : List Request) where
+  abbrev pub allOf : List Request
+  allOf = before ++ (Single (Read u s) ∷ later)
+
+  abbrev pub atRead : State
+  atRead = final (after sheet) lent before
+
+  pub record ReadRemoved : Type 0 where
+    -- "the remaining events are all allowed"
+    pub all-allowed : all isAllowed (answers (after sheet) answer lent (before ++ later)) ≡ true
+    -- "with the same names": they have the answers that they had
+    pub same-answers : answers (after sheet) answer lent (before ++ later) ≡ without (length before) (answers (after sheet) answer lent allOf)
+    -- "The final tables differ only in rights", and how
+    pub rights : OnlyRights sheet atRead u s (final (after sheet) lent allOf) (final (after sheet) lent (before ++ later))
