@@ -21,3 +21,4 @@ pub mod Fixed
 pub mod Guess
 pub mod Refused
 pub mod Examples
+pub mod SameButRights

@@ -2,3 +2,4 @@
 -- Assumes nothing.
 pub use Rattle.listing.proofs.Laws.Fits.{listing-fits}
 pub use Rattle.listing.proofs.Laws.Writing.{Writing, begin, finish, fits, piece}
+pub use Rattle.listing.proofs.Laws.SameButRights.{lowered-listing}

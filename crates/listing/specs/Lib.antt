@@ -10,3 +10,4 @@ pub mod WriteListing
 pub mod ReadInto
 pub mod Listable
 pub mod Refusals
+pub mod SameButRights

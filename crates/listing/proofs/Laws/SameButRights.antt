@@ -1,0 +1,126 @@
+-- Texts that are the same but for rights; and the listings of rows of which some are lowered to `ro` are.
+-- Assumes nothing.
+use mathlib.Core.Path.{_≡_, refl, ap}
+use mathlib.Core.Bool.{Bool, true, false, cond, not}
+use mathlib.Core.Logic.{_⊎_, inl, inr, ⊎-elim}
+use mathlib.Core.List.{List, [], _∷_, _++_, map, reverse-reverse}
+use Prim.Native.Nat.{ℕ, zero, suc}
+use native.Mathlib.Omega.{arith}
+use lib.Dec.{eqb}
+use lib.ListN.{length, getD}
+use Rattle.model.specs.declared.Cap.{Cap}
+use Rattle.model.specs.Lists.{consIf, filter}
+use Rattle.model.specs.Table.{named, liveRows}
+use Rattle.model.specs.Effects.{lowered}
+use Rattle.text.specs.Decimal.{decimal}
+use Rattle.text.specs.Event.{bytes, spaced, rightWord, kindWord}
+use Rattle.listing.specs.Listing.{pieces, form, children, roots, issuedLine, listed, listing}
+use Rattle.listing.specs.SameButRights.{SameButRights, done, byte, right}
+
+-- ---- texts
+
+pub same : (s : List ℕ) → SameButRights s s
+same [] = done
+same (b ∷ s) = byte b (same s)
+
+pub join : {s t s′ t′ : List ℕ} → SameButRights s t → SameButRights s′ t′ → SameButRights (s ++ s′) (t ++ t′)
+join done q = q
+join (byte b p) q = byte b (join p q)
+join (right p) q = right (join p q)
+
+-- no byte is more or less
+pub same-length : {s t : List ℕ} → SameButRights s t → length s ≡ length t
+same-length done = refl
+same-length (byte b p) = ap suc (same-length p)
+same-length (right p) = ap (λ (n : ℕ). suc (suc (suc n))) (same-length p)
+
+-- a byte that is another is the `o` of `ro`, where the second has the `w` of `rw`
+pub each-byte : {s t : List ℕ} → SameButRights s t → (i : ℕ) → (getD s i 0 ≡ getD t i 0) ⊎ ((getD s i 0 ≡ 111) × (getD t i 0 ≡ 119))
+each-byte done i = inl refl
+each-byte (byte b p) zero = inl refl
+each-byte (byte b p) (suc i) = each-byte p i
+each-byte (right p) zero = inl refl
+each-byte (right p) (suc zero) = inl refl
+each-byte (right p) (suc (suc zero)) = inr (refl, refl)
+each-byte (right p) (suc (suc (suc i))) = each-byte p i
+
+-- ---- examples
+
+-- a right that is lowered
+one-lowered : SameButRights (bytes "(issued 1)\n(1 0 8 ro)\n") (bytes "(issued 1)\n(1 0 8 rw)\n")
+one-lowered = join (same (bytes "(issued 1)\n(1 0 8")) (right (same (bytes ")\n")))
+
+-- one of two
+child-lowered : SameButRights (bytes "(issued 2)\n(1 0 8 rw (2 0 4 ro cell))\n") (bytes "(issued 2)\n(1 0 8 rw (2 0 4 rw cell))\n")
+child-lowered = join (same (bytes "(issued 2)\n(1 0 8 rw (2 0 4")) (right (same (bytes " cell))\n")))
+
+-- a right that is raised is another text
+none-raised : SameButRights (bytes "(1 0 8 rw)") (bytes "(1 0 8 ro)") → ⊥
+none-raised p = ⊎-elim (λ (e : 119 ≡ 111). omega arith) (λ e. let z = e .0 in omega arith) (each-byte p 8)
+
+-- ---- rows
+
+right-lowered : (h : Bool) (r : ℕ) → SameButRights (rightWord (cond h 1 r)) (rightWord r)
+right-lowered true r = go (eqb r 1)
+  where
+    go : (b : Bool) → SameButRights (bytes " ro") (cond b (bytes " ro") (bytes " rw"))
+    go true = same (bytes " ro")
+    go false = right done
+right-lowered false r = same (rightWord r)
+
+-- the live rows of a table, in its order
+abbrev living : List Cap → List Cap
+living table = filter (λ c. not (named 0 c)) table
+
+module _ (hit : ℕ → Bool) where
+  -- a row, with `ro` where its name is hit
+  abbrev low : Cap → Cap
+  low c = lowered (hit (c .name .0)) c
+
+  pieces-lowered : (c : Cap) → SameButRights (pieces (low c)) (pieces c)
+  unfolding pieces
+  pieces-lowered c =
+      join (same (decimal (c .name .0)))
+      (join (same (spaced (c .start .0 ∷ c .length ∷ []))) (join (right-lowered (hit (c .name .0)) (c .right)) (same (kindWord (c .kind)))))
+
+  form-lowered : (c : Cap) {inner inner′ : List ℕ} → SameButRights inner inner′ → SameButRights (form (low c) inner) (form c inner′)
+  unfolding form
+  form-lowered c p = byte 40 (join (pieces-lowered c) (join p (same (41 ∷ []))))
+
+  -- a lowered row has the name and the parent that it had, so it stands where it stood
+  children-lowered : (p : ℕ) (rows : List Cap) → SameButRights (children p (map low rows)) (children p rows)
+  unfolding children
+  children-lowered p [] = done
+  children-lowered p (c ∷ rows) = go (eqb (c .parent .0) p) (children-lowered (c .name .0) rows) (children-lowered p rows)
+    where
+      go : (b : Bool) → SameButRights (children (c .name .0) (map low rows)) (children (c .name .0) rows) → SameButRights (children p (map low rows)) (children p rows)
+          → SameButRights (cond b (32 ∷ (form (low c) (children (c .name .0) (map low rows)) ++ children p (map low rows))) (children p (map low rows)))
+          (cond b (32 ∷ (form c (children (c .name .0) rows) ++ children p rows)) (children p rows))
+      go true own others = byte 32 (join (form-lowered c own) others)
+      go false own others = others
+
+  roots-lowered : (rows : List Cap) → SameButRights (roots (map low rows)) (roots rows)
+  unfolding roots
+  roots-lowered [] = done
+  roots-lowered (c ∷ rows) = go (eqb (c .parent .0) 0) (roots-lowered rows)
+    where
+      go : (b : Bool) → SameButRights (roots (map low rows)) (roots rows)
+          → SameButRights (cond b (form (low c) (children (c .name .0) (map low rows)) ++ (10 ∷ roots (map low rows))) (roots (map low rows)))
+          (cond b (form c (children (c .name .0) rows) ++ (10 ∷ roots rows)) (roots rows))
+      go true others = join (form-lowered c (children-lowered (c .name .0) rows)) (byte 10 others)
+      go false others = others
+
+  -- a lowered row has the name that it had, so it is live where it was
+  living-lowered : (table : List Cap) → living (map low table) ≡ map low (living table)
+  living-lowered [] = refl
+  living-lowered (c ∷ table) = go (not (named 0 c)) (living-lowered table)
+    where
+      go : (b : Bool) → living (map low table) ≡ map low (living table) → consIf b (low c) (living (map low table)) ≡ map low (consIf b c (living table))
+      go true e = ap {B = List Cap} (λ r. low c ∷ r) e
+      go false e = e
+
+-- rows of which some are lowered to `ro` have the same listing but for their rights
+pub lowered-listing : (hit : ℕ → Bool) (table : List Cap) (issued : ℕ) → SameButRights (listing (map (λ c. lowered (hit (c .name .0)) c) table) issued) (listing table issued)
+unfolding liveRows listed
+lowered-listing hit table issued =
+    simp (reverse-reverse, living-lowered hit table) (join (same (issuedLine issued)) (roots-lowered hit (living table)))
