@@ -6,5 +6,7 @@ pub mod History
 pub mod Report
 pub mod Spellings
 pub mod Stops
+pub mod Allowed
+pub mod ReadRemoved
 pub mod Fits
 pub mod CheckExamples

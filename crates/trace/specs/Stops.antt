@@ -14,9 +14,13 @@ use Rattle.model.specs.Step.{State}
 use Rattle.text.specs.Line.{linesOf}
 use Rattle.trace.specs.Run.{Ran, run}
 
+-- lines put together to a text
+abbrev pub joined : List (List ℕ) → List ℕ
+joined = flatMap (λ (line : List ℕ). line)
+
 -- the first k lines of a text, all of it where it has fewer
 unfoldable pub firstLines : ℕ → List ℕ → List ℕ
-firstLines k text = flatMap (λ (line : List ℕ). line) (take k (linesOf text))
+firstLines k text = joined (take k (linesOf text))
 
 module _ (sheet : Sheet) where
   -- the run of the lines before the one of the number answered

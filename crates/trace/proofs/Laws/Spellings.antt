@@ -136,14 +136,14 @@ no-group : readGroup header ≡ refused 2
 unfolding readGroup guessNames namesFrom isGroup risesStrictly risesAbove spellGroup spaced decimal numeral numberFrom through classOf same
 no-group = refl
 
+pub header-misread : (k : Spelling) → readRequest k header ≡ refused 2
+header-misread k = rw (header-is-no-event k, no-group)
+
 no-header : (q : Request) → Spellable q → same (spellRequest (unnamed q)) header ≡ false
 no-header q sp = go (test (same (spellRequest (unnamed q)) header))
   where
-    refuses : readRequest Plain header ≡ refused 2
-    refuses = rw (header-is-no-event Plain, no-group)
-
     go : (same (spellRequest (unnamed q)) header ≡ true) ⊎ (same (spellRequest (unnamed q)) header ≡ false) → same (spellRequest (unnamed q)) header ≡ false
-    go (inl y) = absurd (let z : _≡_ {A = ℕ} 0 1 = cc (ap (readRequest Plain) (same-true (spellRequest (unnamed q)) header y), reads-back Plain (unnamed q) sp, refuses) in omega arith)
+    go (inl y) = absurd (let z : _≡_ {A = ℕ} 0 1 = cc (ap (readRequest Plain) (same-true (spellRequest (unnamed q)) header y), reads-back Plain (unnamed q) sp, header-misread Plain) in omega arith)
     go (inr n) = n
 
 first-line : (text line : List ℕ) (lines : List (List ℕ)) → linesOf text ≡ line ∷ lines → nextLine text ≡ line
@@ -207,7 +207,7 @@ same-verdicts sheet h qs sp {rest} {rest′} rests old = go (test (inOrder (h .t
 
 -- ---- what `capcheck` prints
 
-ran-text : (text : List ℕ) → length text ≤ 65536 → checkText text ≡ report (checked text)
+pub ran-text : (text : List ℕ) → length text ≤ 65536 → checkText text ≡ report (checked text)
 ran-text text l = sym (ran-report text (checked text) refl l)
 
 pub same-checks : (qs : List Request) → Spelled qs → {rest rest′ : List ℕ} → Rests rest rest′ → OldTrace (plainText qs ++ rest)

@@ -27,7 +27,7 @@ use Rattle.text.specs.declared.spelling.Spelling.the-variants.{Plain, Named}
 use Rattle.text.proofs.Offered.{refused-group-is-2}
 use Rattle.text.specs.Request.{orGroup, readRequest}
 use Rattle.trace.specs.Run.{header, Taken, Ran, takeRead, takeLine, runLines, runTrace, runFrom, lent, run}
-use Rattle.trace.specs.Stops.{firstLines, runBefore, LineZero, RefusedLine, Stops}
+use Rattle.trace.specs.Stops.{joined, firstLines, runBefore, LineZero, RefusedLine, Stops}
 use Rattle.trace.proofs.Laws.Turn.{line-order}
 use Rattle.trace.proofs.Laws.Order.{Ordered, turned, of-trace, refused-run, Behind, refused-trace}
 
@@ -40,11 +40,8 @@ lines-first zero [] = refl
 lines-first (suc k) [] = refl
 lines-first k (b ∷ s) = go (eqb (classOf b) newline) refl (linesOf s) (λ j. lines-first j s) k
   where
-    together : List (List ℕ) → List ℕ
-    together = flatMap (λ (line : List ℕ). line)
-
-    go : (t : Bool) → eqb (classOf b) newline ≡ t → (ls : List (List ℕ)) → ((j : ℕ) → linesOf (together (take j ls)) ≡ take j ls) → (k : ℕ)
-        → linesOf (together (take k (cond t ((b ∷ []) ∷ ls) (push b ls)))) ≡ take k (cond t ((b ∷ []) ∷ ls) (push b ls))
+    go : (t : Bool) → eqb (classOf b) newline ≡ t → (ls : List (List ℕ)) → ((j : ℕ) → linesOf (joined (take j ls)) ≡ take j ls) → (k : ℕ)
+        → linesOf (joined (take k (cond t ((b ∷ []) ∷ ls) (push b ls)))) ≡ take k (cond t ((b ∷ []) ∷ ls) (push b ls))
     go true is ls ih zero = refl
     go true is ls ih (suc k) = rw is (ap (λ (l : List (List ℕ)). (b ∷ []) ∷ l) (ih k))
     go false is [] ih zero = refl
@@ -61,7 +58,7 @@ first-examples = (refl, refl)
 -- ---- one line
 
 -- a line that is not read is refusal 2
-misread-2 : (k : Spelling) (l : List ℕ) (x : ℕ) → readRequest k l ≡ refused x → x ≡ 2
+pub misread-2 : (k : Spelling) (l : List ℕ) (x : ℕ) → readRequest k l ≡ refused x → x ≡ 2
 misread-2 k l x = go (readEvent k l) (readGroup l) refl
   where
     go : (e : Result Event) (g : Result (List ℕ)) → readGroup l ≡ g → orGroup l e ≡ refused x → x ≡ 2

@@ -1,0 +1,137 @@
+-- A run that is allowed goes by the requests that its lines read as, in either of the two spellings.
+-- Assumes nothing.
+use mathlib.Core.Path.{_≡_, refl, sym, ap, _∙_}
+use mathlib.Core.Logic.{_⊎_, inl, inr}
+use mathlib.Core.Bool.{Bool, true, false, cond, _&&_}
+use mathlib.Core.List.{List, [], _∷_, _++_}
+use Prim.Native.Nat.{ℕ, suc, _+_}
+use native.Mathlib.Nat.{add-zero}
+use native.Mathlib.Omega.{arith}
+use lib.Dec.{eqb}
+use lib.ListN.{length}
+use borrow.Author.Tests.{eq-eqb}
+use Rattle.model.specs.declared.Sheet.{Sheet}
+use Rattle.model.specs.Lists.{all, answers, final}
+use Rattle.model.specs.Requests.{Request}
+use Rattle.model.specs.Step.{State, isAllowed, answer, after}
+use Rattle.model.proofs.Offered.{test, clash, and-both}
+use Rattle.text.specs.Read.{same}
+use Rattle.text.specs.Result.{Result, value, refused}
+use Rattle.text.specs.Request.{readRequest}
+use Rattle.text.specs.declared.spelling.Spelling.{Spelling}
+use Rattle.text.specs.declared.spelling.Spelling.the-variants.{Plain, Named}
+use Rattle.text.proofs.Offered.{same-true, same-refl}
+use Rattle.trace.specs.Run.{header, Ran, Taken, Checker, takeRead, runLines, runTrace, lent}
+use Rattle.trace.proofs.Laws.Stops.{misread-2}
+use Rattle.trace.proofs.Laws.Spellings.{header-misread}
+
+-- ---- lines that are allowed
+
+-- a line reads as a request
+abbrev pub isRead : Result Request → Bool
+isRead (value q) = true
+isRead (refused r) = false
+
+abbrev pub allRead : Spelling → List (List ℕ) → Bool
+allRead k = all (λ (l : List ℕ). isRead (readRequest k l))
+
+-- the requests that lines read as
+abbrev pub consRead : Result Request → List Request → List Request
+consRead (value q) qs = q ∷ qs
+consRead (refused r) qs = qs
+
+unfoldable pub requests : Spelling → List (List ℕ) → List Request
+requests k [] = []
+requests k (l ∷ ls) = consRead (readRequest k l) (requests k ls)
+
+pub requests-append : (k : Spelling) (ls ms : List (List ℕ)) → requests k (ls ++ ms) ≡ requests k ls ++ requests k ms
+unfolding requests
+requests-append k [] ms = refl
+requests-append k (l ∷ ls) ms = go (readRequest k l) (requests-append k ls ms)
+  where
+    go : (r : Result Request) → requests k (ls ++ ms) ≡ requests k ls ++ requests k ms → consRead r (requests k (ls ++ ms)) ≡ consRead r (requests k ls) ++ requests k ms
+    go (value q) ih = ap (λ (qs : List Request). q ∷ qs) ih
+    go (refused r) ih = ih
+
+module _ (sheet : Sheet) where
+  abbrev pub AllAllowed : State → List Request → Type 0
+  AllAllowed h qs = all isAllowed (answers (after sheet) answer h qs) ≡ true
+
+  -- all lines read, and every request is allowed
+  abbrev pub Allowed : Spelling → State → List (List ℕ) → Type 0
+  Allowed k h ls = (allRead k ls ≡ true) × AllAllowed h (requests k ls)
+
+  -- what a run does behind a line that was taken
+  abbrev behind : Spelling → ℕ → List (List ℕ) → Taken State → Ran State
+  behind k before ls t = cond (eqb (t .refusal) 0) (runLines (lent sheet) k (before + 1) (t .state) ls) (record { refusal = t .refusal; number = before + 1; state = t .state })
+
+  -- so it is of lines whose run is allowed
+  lines-allowed : (k : Spelling) (before : ℕ) (h : State) (ls : List (List ℕ)) → runLines (lent sheet) k before h ls .refusal ≡ 0 → Allowed k h ls
+  unfolding runLines requests
+  lines-allowed k before h [] z = (refl, refl)
+  lines-allowed k before h (l ∷ ls) z = go (readRequest k l) refl (λ h. lines-allowed k (before + 1) h ls) z
+    where
+      go : (r : Result Request) → readRequest k l ≡ r → ((h : State) → runLines (lent sheet) k (before + 1) h ls .refusal ≡ 0 → Allowed k h ls) → behind k before ls (takeRead (lent sheet) h r) .refusal ≡ 0
+          → (isRead r && allRead k ls ≡ true) × AllAllowed h (consRead r (requests k ls))
+      go (value q) is ih z = on (test (eqb (answer h q .refusal) 0)) z
+        where
+          on : (eqb (answer h q .refusal) 0 ≡ true) ⊎ (eqb (answer h q .refusal) 0 ≡ false) → behind k before ls (takeRead (lent sheet) h (value q)) .refusal ≡ 0 → (allRead k ls ≡ true) × AllAllowed h (q ∷ requests k ls)
+          on (inl e) z = let r = ih (after sheet h q) (rw e at z) in (r .0, rw e (r .1))
+          on (inr e) z = clash (eq-eqb (answer h q .refusal) 0 (rw e at z)) e
+      go (refused x) is ih z = absurd (let no : _≡_ {A = ℕ} 2 0 = rw (misread-2 k l x is) at z in omega arith)
+
+  -- and such lines are allowed, and do what their requests do
+  pub allowed-lines : (k : Spelling) (before : ℕ) (h : State) (ls : List (List ℕ)) → Allowed k h ls
+      → runLines (lent sheet) k before h ls ≡ record { refusal = 0; number = before + length ls; state = final (after sheet) h (requests k ls) }
+  unfolding runLines requests
+  allowed-lines k before h [] a = λ i. record { refusal = 0; number = sym (add-zero before) i; state = h }
+  allowed-lines k before h (l ∷ ls) a = go (readRequest k l) (λ h. allowed-lines k (before + 1) h ls) a
+    where
+      go : (r : Result Request) → ((h : State) → Allowed k h ls → runLines (lent sheet) k (before + 1) h ls ≡ record { refusal = 0; number = before + 1 + length ls; state = final (after sheet) h (requests k ls) })
+          → (isRead r && allRead k ls ≡ true) × AllAllowed h (consRead r (requests k ls))
+          → behind k before ls (takeRead (lent sheet) h r) ≡ record { refusal = 0; number = before + suc (length ls); state = final (after sheet) h (consRead r (requests k ls)) }
+      go (value q) ih a =
+          let p = and-both (isAllowed (answer h q)) (all isAllowed (answers (after sheet) answer (after sheet h q) (requests k ls))) (a .1) in
+          rw (p .0) (ih (after sheet h q) (a .0, p .1) ∙ (λ i. record { refusal = 0; number = more i; state = final (after sheet) (after sheet h q) (requests k ls) }))
+        where
+          more : before + 1 + length ls ≡ before + suc (length ls)
+          more = omega arith
+      go (refused x) ih a = clash (a .0) refl
+
+-- ---- the two spellings
+
+-- what stands before the lines that are requests
+pub data Front : Spelling → List (List ℕ) → Type 0 where
+  none : Front Plain []
+  first : Front Named (header ∷ [])
+
+-- lines that all read are a trace behind it
+pub front-run : {k : Spelling} {p : List (List ℕ)} → Front k p → {S : Type 0} (c : Checker S) (h : S) (ls : List (List ℕ)) → allRead k ls ≡ true → runTrace c h (p ++ ls) ≡ runLines c k (length p) h ls
+unfolding runTrace
+front-run none c h [] a = refl
+front-run none c h (l ∷ ls) a = go (test (same l header))
+  where
+    go : (same l header ≡ true) ⊎ (same l header ≡ false) → cond (same l header) (runLines c Named 1 h ls) (runLines c Plain 0 h (l ∷ ls)) ≡ runLines c Plain 0 h (l ∷ ls)
+    go (inl e) =
+        let p = and-both (isRead (readRequest Plain l)) (allRead Plain ls) a in
+        clash (p .0) (ap (λ (m : List ℕ). isRead (readRequest Plain m)) (same-true l header e) ∙ ap isRead (header-misread Plain))
+    go (inr e) = rw e
+front-run first c h ls a = rw (same-refl header)
+
+-- a trace that is allowed
+pub record TraceOf (sheet : Sheet) (h : State) (ls : List (List ℕ)) : Type 0 where
+  pub spelling : Spelling
+  pub before : List (List ℕ)
+  pub lines : List (List ℕ)
+  pub front : Front spelling before
+  pub is : ls ≡ before ++ lines
+  pub allowed : Allowed sheet spelling h lines
+
+pub trace-of : (sheet : Sheet) (h : State) (ls : List (List ℕ)) → runTrace (lent sheet) h ls .refusal ≡ 0 → TraceOf sheet h ls
+unfolding runTrace
+trace-of sheet h [] z = record { spelling = Plain; before = []; lines = []; front = none; is = refl; allowed = lines-allowed sheet Plain 0 h [] z }
+trace-of sheet h (l ∷ ls) z = go (test (same l header)) z
+  where
+    go : (same l header ≡ true) ⊎ (same l header ≡ false) → cond (same l header) (runLines (lent sheet) Named 1 h ls) (runLines (lent sheet) Plain 0 h (l ∷ ls)) .refusal ≡ 0 → TraceOf sheet h (l ∷ ls)
+    go (inl e) z = record { spelling = Named; before = header ∷ []; lines = ls; front = first; is = ap (λ (m : List ℕ). m ∷ ls) (same-true l header e); allowed = lines-allowed sheet Named 1 h ls (rw e at z) }
+    go (inr e) z = record { spelling = Plain; before = []; lines = l ∷ ls; front = none; is = refl; allowed = lines-allowed sheet Plain 0 h (l ∷ ls) (rw e at z) }

@@ -1,0 +1,219 @@
+-- Card 8 for texts: an allowed run goes by the requests of its lines, so the theorem about lists of requests holds of it.
+-- Assumes nothing.
+use mathlib.Core.Path.{_≡_, refl, sym, ap, ap₂, _∙_}
+use mathlib.Core.Logic.{_⊎_, inl, inr}
+use mathlib.Core.Bool.{Bool, true, false, cond, _&&_}
+use mathlib.Core.List.{List, [], _∷_, _++_, flatMap, nil≢cons}
+use Prim.Native.Nat.{ℕ, zero, suc, _+_, _≤_}
+use native.Mathlib.Omega.{arith}
+use lib.Dec.{eqb}
+use lib.ListN.{length, getD, take, drop, length-append}
+use lib.Seq.{take-nil}
+use Rattle.model.specs.declared.Name.{Name}
+use Rattle.model.specs.declared.Span.{Span}
+use Rattle.model.specs.declared.Event.the-variants.{Read}
+use Rattle.model.specs.declared.Sheet.{Sheet}
+use Rattle.model.specs.declared.Tally.{Tally}
+use Rattle.model.specs.Lists.{all, without, answers, final}
+use Rattle.model.specs.Requests.{Request, Single}
+use Rattle.model.specs.Sheet6.{sheet6}
+use Rattle.model.specs.Step.{State, initial, isAllowed, answer, after}
+use Rattle.model.specs.Table.{inOrder}
+use Rattle.model.specs.ReadRemoved.{NoReadEnds, OnlyRights, readStrikes, ReadRemoved}
+use Rattle.model.proofs.Offered.{test, and-both, all-append, answers-append, read-removed, no-read-ends}
+use Rattle.text.specs.Class.{classOf, newline}
+use Rattle.text.specs.Line.{push, linesOf, partsOf}
+use Rattle.text.specs.Event.{bytes, spell, hasSpelling, InRange}
+use Rattle.text.specs.Result.{Result, value}
+use Rattle.text.specs.Request.{readRequest}
+use Rattle.text.specs.declared.spelling.Spelling.{Spelling}
+use Rattle.text.specs.declared.spelling.Spelling.the-variants.{Plain}
+use Rattle.text.proofs.Offered.{parts-together, spelling-reads-back}
+use Rattle.listing.specs.SameButRights.{SameButRights}
+use Rattle.listing.proofs.Offered.{lowered-listing}
+use Rattle.trace.specs.Run.{Ran, runTrace, runFrom, lent, run}
+use Rattle.trace.specs.Stops.{joined, firstLines}
+use Rattle.trace.specs.Check.{answerLine, noCounts}
+use Rattle.trace.specs.Spellings.{checked}
+use Rattle.trace.specs.ReadRemoved.{withoutLine, IsRead, listed, LineRemoved, ChecksRemoved}
+use Rattle.trace.proofs.Laws.Allowed.{isRead, allRead, consRead, requests, requests-append, AllAllowed, Allowed, allowed-lines, Front, none, first, front-run, TraceOf, trace-of}
+use Rattle.trace.proofs.Laws.Order.{refused-run}
+use Rattle.trace.proofs.Laws.Stops.{lines-first}
+use Rattle.trace.proofs.Laws.Spellings.{header-misread, ran-text}
+
+-- ---- the lines without one
+
+-- they are the lines of the text without that line
+lines-without : (k : ℕ) (text : List ℕ) → linesOf (withoutLine k text) ≡ without k (linesOf text)
+unfolding withoutLine partsOf push flatMap
+lines-without k [] = refl
+lines-without k (b ∷ s) = go (eqb (classOf b) newline) refl (linesOf s) (ap linesOf (parts-together newline s)) (λ j. lines-without j s) k
+  where
+    go : (t : Bool) → eqb (classOf b) newline ≡ t → (ls : List (List ℕ)) → linesOf (joined ls) ≡ ls → ((j : ℕ) → linesOf (joined (without j ls)) ≡ without j ls) → (k : ℕ)
+        → linesOf (joined (without k (cond t ((b ∷ []) ∷ ls) (push b ls)))) ≡ without k (cond t ((b ∷ []) ∷ ls) (push b ls))
+    go true is ls whole ih zero = whole
+    go true is ls whole ih (suc k) = rw is (ap (λ (l : List (List ℕ)). (b ∷ []) ∷ l) (ih k))
+    go false is [] whole ih zero = refl
+    go false is [] whole ih (suc k) = rw is
+    go false is (l ∷ ls) whole ih zero = ih zero
+    go false is (l ∷ ls) whole ih (suc k) = rw is (ap (push b) (ih (suc k)))
+
+without-examples : (withoutLine 1 (bytes "(create 0 64 rw)\n(read 1 0 8)\n(drop 1)\n") ≡ bytes "(create 0 64 rw)\n(drop 1)\n") × (withoutLine 1 (bytes "(drop 1)\n(drop") ≡ bytes "(drop 1)\n")
+unfolding withoutLine partsOf push classOf flatMap
+without-examples = (refl, refl)
+
+-- and no more bytes
+fewer-bytes : (k : ℕ) (text : List ℕ) → length (withoutLine k text) ≤ length text
+unfolding withoutLine flatMap
+fewer-bytes k text = omega (arith, go k (linesOf text), ap length (parts-together newline text))
+  where
+    go : (k : ℕ) (ls : List (List ℕ)) → length (joined (without k ls)) ≤ length (joined ls)
+    go k [] = omega arith
+    go zero (l ∷ ls) = simp length-append (omega arith)
+    go (suc k) (l ∷ ls) = simp length-append (omega (arith, go k ls))
+
+-- lines around one of them
+split : (k : ℕ) (ls : List (List ℕ)) (l : List ℕ) → (l ≡ [] → ⊥) → getD ls k [] ≡ l → ls ≡ take k ls ++ (l ∷ drop (suc k) ls)
+split k [] l some is = absurd (some (sym is))
+split zero (x ∷ ls) l some is = ap (λ (y : List ℕ). y ∷ ls) is
+split (suc k) (x ∷ ls) l some is = ap (λ (m : List (List ℕ)). x ∷ m) (split k ls l some is)
+
+without-is : (k : ℕ) (ls : List (List ℕ)) → without k ls ≡ take k ls ++ drop (suc k) ls
+without-is k [] = rw (take-nil {A = List ℕ} k)
+without-is zero (x ∷ ls) = refl
+without-is (suc k) (x ∷ ls) = ap (λ (m : List (List ℕ)). x ∷ m) (without-is k ls)
+
+-- ---- a line that is a read
+
+module _ (u : Name) (s : Span) (small : InRange (Read u s)) where
+  -- it reads in both spellings
+  read-reads : (k : Spelling) → readRequest k (spell (Read u s)) ≡ value (Single (Read u s))
+  unfolding hasSpelling
+  read-reads k = rw (spelling-reads-back k (Read u s) refl small)
+
+  read-some : spell (Read u s) ≡ [] → ⊥
+  unfolding spell
+  read-some e = nil≢cons (sym e)
+
+  -- it is among the lines behind the front
+  record At (k : ℕ) (before lines : List (List ℕ)) : Type 0 where
+    place : ℕ
+    earlier : take k (before ++ lines) ≡ before ++ take place lines
+    left : without k (before ++ lines) ≡ before ++ without place lines
+    here : getD lines place [] ≡ spell (Read u s)
+
+  at : {j : Spelling} {before : List (List ℕ)} → Front j before → (k : ℕ) (lines : List (List ℕ)) → getD (before ++ lines) k [] ≡ spell (Read u s) → At k before lines
+  at none k lines is = record { place = k; earlier = refl; left = refl; here = is }
+  at first zero lines is = absurd (let q : _≡_ {A = ℕ} 0 1 = cc (is, read-reads Plain, header-misread Plain) in omega arith)
+  at first (suc k) lines is = record { place = k; earlier = refl; left = refl; here = is }
+
+-- ---- card 8
+
+module _ (sheet : Sheet) (h : State) (k : ℕ) (text : List ℕ) (u : Name) (s : Span) (r : IsRead k text u s) (z : run sheet h text .refusal ≡ 0) where
+  in-order : inOrder (h .table) (h .tally .issued) ≡ true
+  in-order = go (test (inOrder (h .table) (h .tally .issued)))
+    where
+      go : (inOrder (h .table) (h .tally .issued) ≡ true) ⊎ (inOrder (h .table) (h .tally .issued) ≡ false) → inOrder (h .table) (h .tally .issued) ≡ true
+      go (inl o) = o
+      go (inr d) = absurd (let one = ap (λ (q : Ran State). q .refusal) (refused-run sheet h text d) in omega arith)
+
+  run-is : (t : List ℕ) → run sheet h t ≡ runTrace (lent sheet) h (linesOf t)
+  unfolding runFrom
+  run-is t = rw in-order
+
+  t : TraceOf sheet h (linesOf text)
+  t = trace-of sheet h (linesOf text) (ap (λ (q : Ran State). q .refusal) (sym (run-is text)) ∙ z)
+
+  w : At u s (r .small) k (t .before) (t .lines)
+  w = at u s (r .small) (t .front) k (t .lines) (ap (λ (ls : List (List ℕ)). getD ls k []) (sym (t .is)) ∙ r .line)
+
+  -- the lines before it and behind it
+  abbrev earlier : List (List ℕ)
+  earlier = take (w .place) (t .lines)
+
+  abbrev later : List (List ℕ)
+  later = drop (suc (w .place)) (t .lines)
+
+  abbrev asked : List (List ℕ) → List Request
+  asked = requests (t .spelling)
+
+  lines-are : t .lines ≡ earlier ++ (spell (Read u s) ∷ later)
+  lines-are = split (w .place) (t .lines) (spell (Read u s)) (read-some u s (r .small)) (w .here)
+
+  asked-are : asked (t .lines) ≡ asked earlier ++ (Single (Read u s) ∷ asked later)
+  unfolding requests
+  asked-are = ap asked lines-are ∙ requests-append (t .spelling) earlier (spell (Read u s) ∷ later) ∙ ap (λ (q : Result Request). asked earlier ++ consRead q (asked later)) (read-reads u s (r .small) (t .spelling))
+
+  all-read : (allRead (t .spelling) earlier ≡ true) × (allRead (t .spelling) (spell (Read u s) ∷ later) ≡ true)
+  all-read = and-both (allRead (t .spelling) earlier) (allRead (t .spelling) (spell (Read u s) ∷ later)) (sym (ap (allRead (t .spelling)) lines-are ∙ all-append _ earlier (spell (Read u s) ∷ later)) ∙ t .allowed .0)
+
+  -- a text of these lines
+  ran : (text : List ℕ) (lines : List (List ℕ)) → linesOf text ≡ t .before ++ lines → Allowed sheet (t .spelling) h lines
+      → run sheet h text ≡ record { refusal = 0; number = length (t .before) + length lines; state = final (after sheet) h (asked lines) }
+  ran text lines is a = run-is text ∙ ap (runTrace (lent sheet) h) is ∙ front-run (t .front) (lent sheet) h lines (a .0) ∙ allowed-lines sheet (t .spelling) (length (t .before)) h lines a
+
+  -- the requests of the three
+  with-read : AllAllowed sheet h (asked earlier ++ (Single (Read u s) ∷ asked later))
+  with-read = ap (λ (qs : List Request). all isAllowed (answers (after sheet) answer h qs)) (sym asked-are) ∙ t .allowed .1
+
+  before-read : AllAllowed sheet h (asked earlier)
+  before-read =
+      and-both (all isAllowed (answers (after sheet) answer h (asked earlier))) (all isAllowed (answers (after sheet) answer (final (after sheet) h (asked earlier)) (Single (Read u s) ∷ asked later)))
+      (sym (ap (all isAllowed) (answers-append (after sheet) answer h (asked earlier) (Single (Read u s) ∷ asked later)) ∙ all-append isAllowed (answers (after sheet) answer h (asked earlier)) _) ∙ with-read) .0
+
+  module _ (none-end : NoReadEnds sheet) where
+    removed : ReadRemoved sheet h (asked earlier) u s (asked later)
+    removed = read-removed sheet none-end h (asked earlier) u s (asked later) with-read
+
+    left-are : asked (earlier ++ later) ≡ asked earlier ++ asked later
+    left-are = requests-append (t .spelling) earlier later
+
+    left-allowed : Allowed sheet (t .spelling) h (earlier ++ later)
+    left-allowed = (
+      all-append _ earlier later ∙ ap₂ (λ (a b : Bool). a && b) (all-read .0) (and-both (isRead (readRequest (t .spelling) (spell (Read u s)))) (allRead (t .spelling) later) (all-read .1) .1),
+      ap (λ (qs : List Request). all isAllowed (answers (after sheet) answer h qs)) left-are ∙ removed .all-allowed,
+    )
+
+    ran-first : run sheet h (firstLines k text) .state ≡ final (after sheet) h (asked earlier)
+    ran-first = ap (λ (q : Ran State). q .state) (ran (firstLines k text) earlier (lines-first k text ∙ ap (take k) (t .is) ∙ w .earlier) (all-read .0, before-read))
+
+    ran-with : run sheet h text .state ≡ final (after sheet) h (asked earlier ++ (Single (Read u s) ∷ asked later))
+    ran-with = ap (λ (q : Ran State). q .state) (ran text (t .lines) (t .is) (t .allowed)) ∙ ap (final (after sheet) h) asked-are
+
+    ran-left : run sheet h (withoutLine k text) ≡ record { refusal = 0; number = length (t .before) + length (earlier ++ later); state = final (after sheet) h (asked (earlier ++ later)) }
+    ran-left = ran (withoutLine k text) (earlier ++ later) (lines-without k text ∙ ap (without k) (t .is) ∙ w .left ∙ ap (λ (ls : List (List ℕ)). t .before ++ ls) (without-is (w .place) (t .lines))) left-allowed
+
+    ran-without : run sheet h (withoutLine k text) .state ≡ final (after sheet) h (asked earlier ++ asked later)
+    ran-without = ap (λ (q : Ran State). q .state) ran-left ∙ ap (final (after sheet) h) left-are
+
+    rights : OnlyRights sheet (run sheet h (firstLines k text) .state) u s (run sheet h text .state) (run sheet h (withoutLine k text) .state)
+    rights = rw (ran-first, ran-with, ran-without) (removed .rights)
+
+    same-listing : SameButRights (listed (run sheet h text)) (listed (run sheet h (withoutLine k text)))
+    same-listing =
+        let without-read = run sheet h (withoutLine k text) .state in
+        let strikes = readStrikes sheet (run sheet h (firstLines k text) .state) u s in
+        rw (rights .exactly, ap (λ (y : Tally). y .issued) (rights .one-read-more)) (lowered-listing strikes (without-read .table) (without-read .tally .issued))
+
+    line-removed : LineRemoved sheet h k text u s
+    line-removed =
+        record {
+          allowed = ap (λ (q : Ran State). q .refusal) ran-left;
+          one-line-fewer = omega (arith, ap (λ (q : Ran State). q .number) (ran text (t .lines) (t .is) (t .allowed)), ap (λ (q : Ran State). q .number) ran-left, ap length lines-are, length-append earlier (spell (Read u s) ∷ later), length-append earlier later);
+          rights = rights;
+          same-listing = same-listing;
+        }
+
+-- "if one read is removed from a trace whose every event is allowed"
+pub read-line-removed : (sheet : Sheet) → NoReadEnds sheet → (h : State) (k : ℕ) (text : List ℕ) (u : Name) (s : Span) → IsRead k text u s → run sheet h text .refusal ≡ 0 → LineRemoved sheet h k text u s
+read-line-removed sheet none-end h k text u s r z = line-removed sheet h k text u s r z none-end
+
+-- what `capcheck` prints
+pub read-check-removed : (k : ℕ) (text : List ℕ) (u : Name) (s : Span) → IsRead k text u s → checked text .refusal ≡ 0 → length text ≤ 65536 → ChecksRemoved k text
+read-check-removed k text u s r z few =
+    let l = read-line-removed sheet6 no-read-ends (initial 1024 noCounts) k text u s r z in
+    record {
+      with-read = ran-text text few ∙ ap₂ (λ (x n : ℕ). answerLine x n ++ listed (checked text)) z (l .one-line-fewer);
+      without-read = ran-text (withoutLine k text) (omega (arith, fewer-bytes k text)) ∙ ap (λ (x : ℕ). answerLine x (checked (withoutLine k text) .number) ++ listed (checked (withoutLine k text))) (l .allowed);
+      same-listing = l .same-listing;
+    }

@@ -1,0 +1,47 @@
+-- Card 8: "Users thin long logs and ask us what that may change." A trace whose every line is allowed, in either of the two spellings, and the
+-- same without one line that is a read.
+-- Assumes nothing.
+use Prim.Native.Nat.{ℕ, suc}
+use mathlib.Core.Path.{_≡_}
+use mathlib.Core.List.{List, [], _++_}
+use lib.ListN.{getD}
+use Rattle.model.specs.declared.Name.{Name}
+use Rattle.model.specs.declared.Span.{Span}
+use Rattle.model.specs.declared.Event.the-variants.{Read}
+use Rattle.model.specs.declared.Sheet.{Sheet}
+use Rattle.model.specs.Lists.{without}
+use Rattle.model.specs.Step.{State}
+use Rattle.model.specs.ReadRemoved.{OnlyRights}
+use Rattle.text.specs.Line.{linesOf}
+use Rattle.text.specs.Event.{spell, InRange}
+use Rattle.listing.specs.Listing.{listing}
+use Rattle.listing.specs.SameButRights.{SameButRights}
+use Rattle.trace.specs.Run.{Ran, run}
+use Rattle.trace.specs.Stops.{joined, firstLines}
+use Rattle.trace.specs.Check.{answerLine, checkText}
+use Rattle.trace.specs.Spellings.{checked}
+
+-- the text without the line behind its first k
+unfoldable pub withoutLine : ℕ → List ℕ → List ℕ
+withoutLine k text = joined (without k (linesOf text))
+
+-- that line is the read of s through u, which both spellings write alike; its numbers are of 32 bits, as all of the code
+pub record IsRead (k : ℕ) (text : List ℕ) (u : Name) (s : Span) : Type 0 where
+  pub line : getD (linesOf text) k [] ≡ spell (Read u s)
+  pub small : InRange (Read u s)
+
+abbrev pub listed : Ran State → List ℕ
+listed r = listing (r .state .table) (r .state .tally .issued)
+
+-- by a sheet and on what is lent, the run of the text, and that without the line
+pub record LineRemoved (sheet : Sheet) (h : State) (k : ℕ) (text : List ℕ) (u : Name) (s : Span) : Type 0 where
+  pub allowed : run sheet h (withoutLine k text) .refusal ≡ 0
+  pub one-line-fewer : run sheet h text .number ≡ suc (run sheet h (withoutLine k text) .number)
+  pub rights : OnlyRights sheet (run sheet h (firstLines k text) .state) u s (run sheet h text .state) (run sheet h (withoutLine k text) .state)
+  pub same-listing : SameButRights (listed (run sheet h text)) (listed (run sheet h (withoutLine k text)))
+
+-- what `capcheck` prints of the two, the first not `(long)`: one line fewer, and the same listing but for rights
+pub record ChecksRemoved (k : ℕ) (text : List ℕ) : Type 0 where
+  pub with-read : checkText text ≡ answerLine 0 (suc (checked (withoutLine k text) .number)) ++ listed (checked text)
+  pub without-read : checkText (withoutLine k text) ≡ answerLine 0 (checked (withoutLine k text) .number) ++ listed (checked (withoutLine k text))
+  pub same-listing : SameButRights (listed (checked text)) (listed (checked (withoutLine k text)))
