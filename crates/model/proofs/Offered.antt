@@ -7,7 +7,7 @@ pub use Rattle.model.proofs.Counted.{tallied}
 pub use Rattle.model.proofs.Given.{given-in-order}
 pub use Rattle.model.proofs.OneTable.{one-table}
 pub use Rattle.model.proofs.Lost.{never-lives-again, never-rw-again}
-pub use Rattle.model.proofs.ReadRemoved.{read-removed, history-removed, no-read-ends}
+pub use Rattle.model.proofs.ReadRemoved.{read-removed, reads-removed, history-removed, no-read-ends}
 pub use Rattle.model.proofs.Traces.{traces-hold}
 pub use Rattle.model.proofs.Sheet6.{words, words-access, references-alone, references-access}
 -- ---- laws

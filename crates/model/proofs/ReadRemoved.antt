@@ -5,8 +5,9 @@ use mathlib.Core.Path.{_≡_, refl, sym, ap, ap₂, _∙_}
 use mathlib.Core.Logic.{_⊎_, inl, inr}
 use mathlib.Core.Bool.{Bool, true, false, not, cond, _&&_, _||_}
 use mathlib.Core.List.{List, [], _∷_, _++_, map, map-map}
-use Prim.Native.Nat.{ℕ, zero, suc, _<_}
+use Prim.Native.Nat.{ℕ, zero, suc, _≤_, _<_}
 use native.Mathlib.Omega.{arith}
+use lib.Dec.{eqb, ltb}
 use lib.ListN.{length, getD, List·getD-map}
 use borrow.Author.Tests.{eqb-true, not-false}
 use Rattle.model.specs.declared.Name.{Name}
@@ -19,13 +20,13 @@ use Rattle.model.specs.declared.Effect.the-variants.{Keep, Lower, End}
 use Rattle.model.specs.declared.Origin.the-variants.{Cell, Kin, Stranger}
 use Rattle.model.specs.declared.Sheet.{Sheet}
 use Rattle.model.specs.declared.Tally.{Tally}
-use Rattle.model.specs.Lists.{any, all, without, answers, final}
+use Rattle.model.specs.Lists.{consIf, any, all, without, answers, final}
 use Rattle.model.specs.Requests.{Request, Single, Group}
 use Rattle.model.specs.Values.{touches}
 use Rattle.model.specs.Derivation.{Derivation, ancestry, inSubtree, onAncestry}
 use Rattle.model.specs.Strike.{isLower, isEnd, resultOf, origin, strike, reached, struck}
 use Rattle.model.specs.Sheet6.{sheet6}
-use Rattle.model.specs.Table.{emptyRow, span, derivation, derivations, named, liveRows, isRight, inOrder}
+use Rattle.model.specs.Table.{row, emptyRow, span, derivation, derivations, named, liveRows, isRight, inOrder}
 use Rattle.model.specs.Refusals.{viewOf, refusals, judge}
 use Rattle.model.specs.Effects.{lowered, revoke, afterAccess, rowsAfter}
 use Rattle.model.specs.Counts.{countUp, countAllowed}
@@ -33,7 +34,7 @@ use Rattle.model.specs.Step.{Verdict, State, view, isAllowed, answer, af
 use Rattle.model.specs.History.{historyAfter}
 use Rattle.model.specs.History
 use Rattle.model.specs.Traces.{mildSheet}
-use Rattle.model.specs.ReadRemoved.{NoReadEnds, isStrike, livesIn, readStrikes, rightless, OnlyRights, ReadRemoved}
+use Rattle.model.specs.ReadRemoved.{NoReadEnds, isStrike, livesIn, readStrikes, rightless, OnlyRights, ReadRemoved, Thinner, whole, one-fewer, namesGiven, ReadsRemoved}
 use Rattle.model.proofs.Lists.{All-of, test, clash, unless, and-both, or-neither, all-append, final-append, answers-append, filter-all}
 use Rattle.model.proofs.Ancestries.{Falling, ancestry-zero, ancestry-above, ancestry-past}
 use Rattle.model.proofs.Notes.{taken-cong}
@@ -210,6 +211,10 @@ module _ (sheet : Sheet) (here : State) (u : Name) (s : Span) (l h : State) (b :
           go (inl e) = inl e
           go (inr e) = inr (struck-lives sheet here u s (d .name .0) (e .0), e .0, e .1, e .2)
 
+-- a row has its right, and nothing else that `rightless` leaves out
+right-alone : (a b : Cap) → rightless a ≡ rightless b → a .right ≡ b .right → a ≡ b
+right-alone a b same right = λ i. row (derivation (same i)) (right i) (same i .depth)
+
 -- the answers but for the one at a request
 answers-without : (sheet : Sheet) (before : List Request) (h : State) (q : Request) (later : List Request)
     → without (length before) (answers (after sheet) answer h (before ++ (q ∷ later))) ≡ answers (after sheet) answer h before ++ answers (after sheet) answer (after sheet (final (after sheet) h before) q) later
@@ -249,6 +254,37 @@ read-removed sheet none-end lent before u s later a =
     runs : (answers (after sheet) answer here later ≡ answers (after sheet) answer (after sheet here (Single (Read u s))) later)
         × Below u s (readStrikes sheet here u s) (final (after sheet) here later) (final (after sheet) (after sheet here (Single (Read u s))) later)
     runs = alike u s (readStrikes sheet here u s) sheet later here (after sheet here (Single (Read u s))) (below-read sheet here u s none-end z) (q .1)
+
+-- ---- several reads
+
+-- a read gives no name
+read-unnamed : (sheet : Sheet) (before : List Request) (h : State) (u : Name) (s : Span) (later : List Request)
+    → namesGiven (without (length before) (answers (after sheet) answer h (before ++ (Single (Read u s) ∷ later)))) ≡ namesGiven (answers (after sheet) answer h (before ++ (Single (Read u s) ∷ later)))
+unfolding answer
+read-unnamed sheet [] h u s later = rw (none-named (eqb (judge (view h) (Single (Read u s))) 0))
+  where
+    none-named : (b : Bool) → cond {A = ℕ} b 0 0 ≡ 0
+    none-named true = refl
+    none-named false = refl
+read-unnamed sheet (q ∷ before) h u s later = ap (λ l. consIf (ltb 0 (answer h q .name)) (answer h q .name) l) (read-unnamed sheet before (after sheet h q) u s later)
+
+pub reads-removed : (sheet : Sheet) → NoReadEnds sheet → (lent : State) {qs thinner : List Request} → Thinner qs thinner → all isAllowed (answers (after sheet) answer lent qs) ≡ true → ReadsRemoved sheet lent qs thinner
+reads-removed sheet none-end lent (whole qs) a = record { all-allowed = a; same-names = refl; only-rights = refl; none-lower = λ k. omega arith }
+reads-removed sheet none-end lent (one-fewer before u s later t) a =
+    let more = reads-removed sheet none-end lent t a in
+    let one = read-removed sheet none-end lent before u s later (more .all-allowed) in
+    record {
+      all-allowed = one .all-allowed;
+      same-names = ap namesGiven (one .same-answers) ∙ read-unnamed sheet before lent u s later ∙ more .same-names;
+      only-rights = more .only-rights ∙ one .rights .only-rights;
+      none-lower = λ k. omega (arith, more .none-lower k, no-lower (one .rights .rights-differ k));
+    }
+  where
+    no-lower : {A B : Type 0} {c d : ℕ} → (d ≡ c) ⊎ (A × B × (d ≡ 2) × (c ≡ 1)) → c ≤ d
+    no-lower (inl e) = omega arith
+    no-lower (inr e) = omega (arith, e .2, e .3)
+
+-- ---- the history
 
 -- The history tells the same of a trace, which begins with n rows, all zeros: by demand 3 its table is the lent one.
 pub history-removed : (sheet : Sheet) → NoReadEnds sheet → (n : ℕ) (t : Tally) → t .issued ≡ 0 → (before : List Request) (u : Name) (s : Span) (later : List Request)

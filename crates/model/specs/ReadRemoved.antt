@@ -1,10 +1,11 @@
 -- Card 8, "how far one read reaches": what may change when one read is removed from a trace whose every event is allowed.
 -- Assumes nothing.
-use Prim.Native.Nat.{ℕ, suc, _<_}
+use Prim.Native.Nat.{ℕ, suc, _≤_, _<_}
 use mathlib.Core.Path.{_≡_}
 use mathlib.Core.Logic.{_⊎_}
 use mathlib.Core.Bool.{Bool, true, false}
 use mathlib.Core.List.{List, _∷_, _++_, map}
+use lib.Dec.{ltb}
 use lib.ListN.{length, getD}
 use Rattle.model.specs.declared.Name.{Name}
 use Rattle.model.specs.declared.Span.{Span}
@@ -15,13 +16,13 @@ use Rattle.model.specs.declared.Effect.{Effect}
 use Rattle.model.specs.declared.Effect.the-variants.{Keep, Lower, End}
 use Rattle.model.specs.declared.Origin.{Origin}
 use Rattle.model.specs.declared.Sheet.{Sheet}
-use Rattle.model.specs.Lists.{any, all, without, answers, final}
+use Rattle.model.specs.Lists.{filter, any, all, without, answers, final}
 use Rattle.model.specs.Requests.{Request, Single}
 use Rattle.model.specs.Strike.{isEnd, resultOf, struck}
 use Rattle.model.specs.Table.{row, emptyRow, derivation, derivations, named, liveRows}
 use Rattle.model.specs.Effects.{lowered}
 use Rattle.model.specs.Counts.{countAllowed}
-use Rattle.model.specs.Step.{State, isAllowed, answer, after}
+use Rattle.model.specs.Step.{Verdict, State, isAllowed, answer, after}
 
 -- "a sheet in which no read ends anything"
 abbrev pub NoReadEnds : Sheet → Type 0
@@ -47,7 +48,7 @@ rightless c = row (derivation c) 0 (c .depth)
 
 -- What is lent at a read of s through u, at the end of a list of requests with that read, and at the end of the same list without it.
 module _ (sheet : Sheet) (atRead : State) (u : Name) (s : Span) (withRead withoutRead : State) where
-  -- the row at k in both, 0 names none
+  -- the row at k of each table
   abbrev with : ℕ → Cap
   with k = getD (withRead .table) k emptyRow
 
@@ -82,3 +83,21 @@ module _ (sheet : Sheet) (lent : State) (before : List Request) (u : Name) (s : 
     pub same-answers : answers (after sheet) answer lent (before ++ later) ≡ without (length before) (answers (after sheet) answer lent allOf)
     -- "The final tables differ only in rights", and how
     pub rights : OnlyRights sheet atRead u s (final (after sheet) lent allOf) (final (after sheet) lent (before ++ later))
+
+-- ---- several reads
+
+-- What is left is again a trace whose every event is allowed: so any reads may go, one after the other.
+pub data Thinner : List Request → List Request → Type 0 where
+  whole : (qs : List Request) → Thinner qs qs
+  one-fewer : {qs : List Request} (before : List Request) (u : Name) (s : Span) (later : List Request) → Thinner qs (before ++ (Single (Read u s) ∷ later)) → Thinner qs (before ++ later)
+
+-- the names that answers give
+abbrev pub namesGiven : List Verdict → List ℕ
+namesGiven vs = filter (λ x. ltb 0 x) (map (λ v. v .name) vs)
+
+pub record ReadsRemoved (sheet : Sheet) (lent : State) (qs thinner : List Request) : Type 0 where
+  pub all-allowed : all isAllowed (answers (after sheet) answer lent thinner) ≡ true
+  pub same-names : namesGiven (answers (after sheet) answer lent thinner) ≡ namesGiven (answers (after sheet) answer lent qs)
+  pub only-rights : map rightless (final (after sheet) lent qs .table) ≡ map rightless (final (after sheet) lent thinner .table)
+  -- no right is lower without them
+  pub none-lower : (k : ℕ) → getD (final (after sheet) lent qs .table) k emptyRow .right ≤ getD (final (after sheet) lent thinner .table) k emptyRow .right
