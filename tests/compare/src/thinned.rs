@@ -1,5 +1,5 @@
-//! Card 8: how far one read reaches. Lists whose every request is allowed, each beside the same list without
-//! one of its reads, in calls and in texts.
+//! Card 8: how far one read reaches. Lists whose every request is allowed, each beside the same list
+//! without one of its reads, in calls and in texts.
 
 use std::collections::BTreeSet;
 use std::fmt::{self, Display, Formatter};
@@ -543,8 +543,8 @@ fn differ_in_more(with: &Lent, without: &Lent) -> bool {
     rows(with) != rows(without)
 }
 
-/// By sheets in which reads end, more can change: then what is compared above must fail. It does, and lists
-/// come to a full table.
+/// By sheets in which reads end, more can change: then what is compared above must fail. It does, and some
+/// lists come to a full table.
 fn that_end(random: &mut Random, subject: Subject) -> Result<String, String> {
     let lists = 3_000;
     let [mut reads, mut more, mut full] = [0; 3];
@@ -578,8 +578,8 @@ fn that_end(random: &mut Random, subject: Subject) -> Result<String, String> {
     }
 }
 
-/// In a list with refusals a read that is taken out can hide one, and then more than rights changes. The first
-/// answer that differs is to a refusal 7.
+/// In a list with refusals a read that is taken out can hide one, and then more than rights can change. The
+/// first answer that differs is a refusal 7 in the whole list.
 fn before_refusals(random: &mut Random, subject: Subject) -> Result<String, String> {
     let lists = 3_000;
     let [mut reads, mut hidden, mut more] = [0; 3];

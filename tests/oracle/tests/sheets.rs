@@ -173,8 +173,8 @@ fn no_other_line_is_a_rule() {
     );
 }
 
-/// Card 8: of what lives at a read, what the sheet does not keep is struck, and nothing that is not touched,
-/// nor the user or what stands above it.
+/// Card 8: of what a read touches, what the sheet does not keep is struck, and never the user or what
+/// stands above it.
 #[test]
 fn what_a_read_strikes() {
     let mut rows = vec![Row::default(); ROWS];
