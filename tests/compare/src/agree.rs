@@ -51,11 +51,11 @@ impl LentSheet {
 /// A lent sheet, or none. Without one the oracle goes by the sentences of card 6.
 pub type By<'a> = Option<&'a LentSheet>;
 
-fn bytes_of<'a>(by: By<'a>) -> &'a [u8] {
+pub fn bytes_of<'a>(by: By<'a>) -> &'a [u8] {
     by.map_or(&[], |lent| &lent.bytes)
 }
 
-fn sheet_of<'a>(by: By<'a>) -> Option<&'a Sheet> {
+pub fn sheet_of<'a>(by: By<'a>) -> Option<&'a Sheet> {
     by.map(|lent| &lent.sheet)
 }
 
@@ -152,6 +152,33 @@ pub struct Found {
     tally: interface::Tally,
 }
 
+impl Found {
+    /// The same as the oracle has it.
+    pub fn lent(&self) -> Lent {
+        let interface::Tally {
+            issued,
+            creates,
+            borrows,
+            reads,
+            writes,
+            drops,
+            refused,
+        } = self.tally;
+        Lent {
+            rows: self.table.iter().map(row_of).collect(),
+            tally: Tally {
+                issued,
+                creates,
+                borrows,
+                reads,
+                writes,
+                drops,
+                refused,
+            },
+        }
+    }
+}
+
 /// Whether a call left what it should.
 fn same_lent(expected: &Lent, found: &Found) -> Agreed {
     for (at, (row, cap)) in expected.rows.iter().zip(&found.table).enumerate() {
@@ -171,7 +198,7 @@ const GUARD_ROW: Cap = Cap {
     kind: 6,
 };
 
-fn cap_of(row: &Row) -> Cap {
+pub fn cap_of(row: &Row) -> Cap {
     Cap {
         name: row.name,
         parent: row.parent,
@@ -180,6 +207,18 @@ fn cap_of(row: &Row) -> Cap {
         right: row.right,
         depth: row.depth,
         kind: row.kind,
+    }
+}
+
+fn row_of(cap: &Cap) -> Row {
+    Row {
+        name: cap.name,
+        parent: cap.parent,
+        start: cap.start,
+        length: cap.length,
+        right: cap.right,
+        depth: cap.depth,
+        kind: cap.kind,
     }
 }
 
@@ -196,7 +235,7 @@ fn interface_tally(tally: Tally) -> interface::Tally {
 }
 
 /// Calls with a copy of what is lent; gives the answer and the copy as the call left it.
-fn lend(
+pub fn lend(
     lent: &Lent,
     call: impl FnOnce(&mut [Cap], &mut interface::Tally) -> u64,
 ) -> Result<(u64, Found), String> {

@@ -22,6 +22,7 @@ mod sheet_texts;
 mod sheets;
 mod spellings;
 mod strikes;
+mod thinned;
 mod together;
 
 use std::env;
@@ -88,6 +89,7 @@ fn main() -> ExitCode {
     kinds::groups(&mut report, subject);
     sheets::groups(&mut report, subject);
     sheet_texts::groups(&mut report, subject);
+    thinned::groups(&mut report, subject);
     report.met("every answer of an event was met", agree::every_answer_met);
     report.met(
         "every answer of the history was met",

@@ -31,15 +31,26 @@ impl Report {
     /// Runs one group on random numbers of its own, so that a group's cases depend on the seed and
     /// its name alone.
     pub fn group(&mut self, name: &str, check: impl FnOnce(&mut Random) -> Checked) {
+        self.group_saying(name, |random| {
+            check(random).map(|cases| format!("{cases} cases"))
+        });
+    }
+
+    /// The same with words of its own for what it went through.
+    pub fn group_saying(
+        &mut self,
+        name: &str,
+        check: impl FnOnce(&mut Random) -> Result<String, String>,
+    ) {
         if !name.contains(&self.wanted) {
             return;
         }
         let by_name = |seed: u64, byte| seed.wrapping_mul(31).wrapping_add(u64::from(byte));
         let mut random = Random::new(name.bytes().fold(self.seed, by_name));
         match check(&mut random) {
-            Ok(cases) => {
+            Ok(went_through) => {
                 self.passed += 1;
-                println!("ok      {name}: {cases} cases");
+                println!("ok      {name}: {went_through}");
             }
             Err(failure) => {
                 self.failed += 1;

@@ -168,7 +168,7 @@ fn count_strike(by: &LentSheet, event: Event, combination: Combination, outcome:
 const ENDS: [u8; 8] = [2, 3, 4, 16, 128, 129, 254, 255];
 
 /// The bytes of a lent sheet: mostly 18 results, at times other numbers or another count.
-fn sheet(random: &mut Random) -> LentSheet {
+pub fn sheet(random: &mut Random) -> LentSheet {
     // Where most are the end, little lives on.
     let weights = random.pick(&[
         [1, 1, 1],
@@ -202,8 +202,16 @@ fn result(random: &mut Random, weights: [u64; 3]) -> u8 {
     }
 }
 
+/// The few addresses that requests are made over.
+pub fn area(random: &mut Random) -> Span {
+    Span {
+        start: random.pick(&[0, 0, 4_096, u32::MAX - 7]),
+        length: 8,
+    }
+}
+
 /// A request on what is lent, over few addresses.
-fn request(random: &mut Random, lent: &Lent, area: Span, spelling: Spelling) -> Request {
+pub fn request(random: &mut Random, lent: &Lent, area: Span, spelling: Spelling) -> Request {
     let live = oracle::live_rows(&lent.rows);
     if random.one_in(24) {
         return Request::Group(match random.one_in(4) {
@@ -285,17 +293,14 @@ fn oracle_answer(by: &LentSheet, lent: &mut Lent, request: &Request) -> Result<u
 }
 
 /// Requests made one after the other on what the last left by the sheet, most of them allowed.
-fn requests(
+pub fn requests(
     random: &mut Random,
     by: &LentSheet,
     mut lent: Lent,
     count: usize,
     spelling: Spelling,
 ) -> Vec<Request> {
-    let area = Span {
-        start: random.pick(&[0, 0, 4_096, u32::MAX - 7]),
-        length: 8,
-    };
+    let area = area(random);
     let mut requests = Vec::with_capacity(count);
     for _ in 0..count {
         let mut next = request(random, &lent, area, spelling);
@@ -391,7 +396,7 @@ fn table(random: &mut Random) -> Lent {
 }
 
 /// Requests as words, and the list in which the names of groups stand.
-fn words_of(requests: &[Request]) -> (Vec<Words>, Vec<u32>) {
+pub fn words_of(requests: &[Request]) -> (Vec<Words>, Vec<u32>) {
     let mut names = Vec::new();
     let mut events = Vec::with_capacity(requests.len());
     for request in requests {
@@ -510,7 +515,7 @@ fn by_hand(subject: Subject, text: &str, steps: &[traces::Step], listing: &str) 
 }
 
 /// Card 6's sheet, as it can be lent: by no byte, or by its bytes and others behind them.
-fn card_6_sheets() -> [LentSheet; 3] {
+pub fn card_6_sheets() -> [LentSheet; 3] {
     let [none, bytes] = [Vec::new(), LentSheet::of(&[]).sheet.bytes()];
     let more = [&bytes[..], &[0, 1, 2]].concat();
     [none, bytes, more].map(|bytes| LentSheet::of(&bytes))

@@ -97,7 +97,7 @@ fn find(rows: &[Row], name: u32) -> Option<&Row> {
 }
 
 /// The name, its parent, and so on up to its root.
-fn path(live: &[Row], name: u32) -> Vec<&Row> {
+pub fn path(live: &[Row], name: u32) -> Vec<&Row> {
     let above = |row: &&Row| find(live, row.parent);
     std::iter::successors(find(live, name), above).collect()
 }

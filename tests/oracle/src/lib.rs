@@ -1,4 +1,4 @@
-//! A second checker, written from document 01 and cards 1, 2 and 4 to 7 alone and for clarity alone.
+//! A second checker, written from document 01 and cards 1, 2 and 4 to 8 alone and for clarity alone.
 //!
 //! It shares no code and no plan with what it judges: the history derives everything from its notes
 //! each time it is asked, the rows of a lent table are searched from end to end, and text is taken
@@ -18,7 +18,7 @@ pub use history::History;
 pub use lines::{Spelling, drop_line, event_line, read_drop_line, read_event_line};
 pub use sheet::{Access, CARD_6, Combination, Outcome, Sheet, Source, combinations, write_sheet};
 pub use span::Span;
-pub use table::{apply, apply_by, in_order, live_rows, strikes};
+pub use table::{apply, apply_by, in_order, live_rows, strikes, struck_by_a_read};
 pub use text::{
     HEADER, Run, check, listing, read_listing, run, run_by, write_drop, write_event, write_listing,
 };

@@ -342,6 +342,22 @@ pub fn strikes(live: &[Row], event: Event) -> Vec<(u32, Combination)> {
         .collect()
 }
 
+/// Card 8: the names that a read strikes, which are those of its touched that the sheet does not keep.
+/// Without a sheet card 6's sentence says which they are.
+pub fn struck_by_a_read(
+    sheet: Option<&Sheet>,
+    live: &[Row],
+    user: u32,
+    span: Span,
+) -> BTreeSet<u32> {
+    let Some(sheet) = sheet else {
+        return struck_by_read(live, user, span);
+    };
+    let touched = strikes(live, Event::Read { name: user, span }).into_iter();
+    let struck = touched.filter(|(_, one)| sheet.outcome(*one) != Outcome::Keep);
+    struck.map(|(name, _)| name).collect()
+}
+
 /// '`cell` when it is in the subtree of a cell the holder is not under, else `kin` when in the subtree of
 /// the holder's parent, else `stranger`.' The subtrees are those of cells that the user is in.
 fn source(live: &[Row], around_user: &[BTreeSet<u32>], user: u32, holder: &Row) -> Source {

@@ -3,8 +3,9 @@
 
 use oracle::traces::{KINDS, SHEETS, Step};
 use oracle::{
-    Access, CARD_6, CELL, Event, History, Outcome, RAW, REFERENCE, Row, Sheet, Source, Spelling,
-    Tally, apply_by, combinations, listing, read_event_line, write_sheet,
+    Access, CARD_6, CELL, Event, History, Outcome, RAW, REFERENCE, Row, Sheet, Source, Span,
+    Spelling, Tally, apply_by, combinations, listing, read_event_line, struck_by_a_read,
+    write_sheet,
 };
 
 const ROWS: usize = 8;
@@ -170,4 +171,45 @@ fn no_other_line_is_a_rule() {
         Sheet::read(b"(rule (holder raw) (access write) (from k\xffn) keep)\n"),
         Err(2)
     );
+}
+
+/// Card 8: of what a read touches, what the sheet does not keep is struck, and never the user or what
+/// stands above it.
+#[test]
+fn what_a_read_strikes() {
+    let mut rows = vec![Row::default(); ROWS];
+    let mut tally = Tally::default();
+    for line in [
+        "(create 0 16 rw)",
+        "(borrow 1 0 8 rw)",
+        "(borrow 2 4 4 rw)",
+        "(borrow 1 0 8 rw raw)",
+        "(borrow 1 0 8 ro cell)",
+        "(borrow 1 8 8 rw)",
+    ] {
+        assert!(apply_by(None, &mut rows, &mut tally, event(line)).is_ok());
+    }
+    let live = &rows[..6];
+    let struck = |sheet: Option<&Sheet>, user, start, length| {
+        let span = Span { start, length };
+        let names = struck_by_a_read(sheet, live, user, span);
+        names.into_iter().collect::<Vec<u32>>()
+    };
+    let card_6 = Sheet::lent(&[]);
+    for sheet in [None, Some(&card_6)] {
+        assert_eq!(struck(sheet, 1, 0, 4), [2, 5]);
+        assert_eq!(struck(sheet, 3, 4, 4), [5]);
+        assert_eq!(struck(sheet, 6, 8, 8), []);
+        assert_eq!(struck(sheet, 1, 0, 16), [2, 3, 5, 6]);
+        assert_eq!(struck(sheet, 1, 4, 0), []);
+    }
+    let [keeps, ends] = [0, 2].map(|result| Sheet::lent(&[result; 18]));
+    assert_eq!(struck(Some(&keeps), 1, 0, 16), []);
+    assert_eq!(struck(Some(&ends), 1, 0, 4), [2, 4, 5]);
+    // Only a read by kin takes from a raw one; 5 is a cell, so that its read is not by kin.
+    let mut of_kin = [0; 18];
+    of_kin[7] = 1;
+    let of_kin = Sheet::lent(&of_kin);
+    assert_eq!(struck(Some(&of_kin), 3, 4, 4), [4]);
+    assert_eq!(struck(Some(&of_kin), 5, 4, 4), []);
 }
