@@ -49,6 +49,15 @@ kinds =
     ∷ ("(create 0 8 rw)\n(borrow 1 0 8 rw)\n(borrow 1 0 8 rw cell)\n(write 3 0 8)\n(write 2 0 8)\n", "(allowed 5)\n(issued 3)\n(1 0 8 rw (2 0 8 rw))\n")
     ∷ []
 
-printed : all (λ e. same (checkText (bytes (e .0))) (bytes (e .1))) (examples ++ kinds) ≡ true
-unfolding examples kinds ancestry onAncestry origin strike reached struck liveRows lentTable lookup isEmptyRow liveRowsFirst rowFitsParent parentInOrder rowInOrder rowsInOrder inOrder refusals judge revoke afterAccess rowsAfter answer after risesAbove risesStrictly isGroup standings rowsWithout spellGroup namesFrom guessNames readGroup classOf through push partsOf numeral decimal numberFrom spaced spell hasSpelling writesName same guess readEvent pieces form children roots listed runLines runTrace runFrom answerLine checkText
+-- card 8: those of 'Thinning a log' there, two with a read and then without it
+thinned : List (String × String)
+thinned =
+    ("(create 0 16 rw)\n(borrow 1 0 8 rw)\n(borrow 2 4 4 rw)\n(borrow 1 8 8 rw)\n(read 1 0 4)\n(borrow 4 8 4 rw)\n(write 5 8 4)\n", "(allowed 7)\n(issued 5)\n(1 0 16 rw (2 0 8 ro (3 4 4 ro)) (4 8 8 rw (5 8 4 rw)))\n")
+    ∷ ("(create 0 16 rw)\n(borrow 1 0 8 rw)\n(borrow 2 4 4 rw)\n(borrow 1 8 8 rw)\n(borrow 4 8 4 rw)\n(write 5 8 4)\n", "(allowed 6)\n(issued 5)\n(1 0 16 rw (2 0 8 rw (3 4 4 rw)) (4 8 8 rw (5 8 4 rw)))\n")
+    ∷ ("(create 0 8 rw)\n(borrow 1 0 8 rw)\n(borrow 1 0 8 rw)\n(read 1 0 8)\n(write 2 0 8)\n", "(refused 7 5)\n(issued 3)\n(1 0 8 rw (2 0 8 ro) (3 0 8 ro))\n")
+    ∷ ("(create 0 8 rw)\n(borrow 1 0 8 rw)\n(borrow 1 0 8 rw)\n(write 2 0 8)\n", "(allowed 4)\n(issued 3)\n(1 0 8 rw (2 0 8 rw))\n")
+    ∷ []
+
+printed : all (λ e. same (checkText (bytes (e .0))) (bytes (e .1))) (examples ++ (kinds ++ thinned)) ≡ true
+unfolding examples kinds thinned ancestry onAncestry origin strike reached struck liveRows lentTable lookup isEmptyRow liveRowsFirst rowFitsParent parentInOrder rowInOrder rowsInOrder inOrder refusals judge revoke afterAccess rowsAfter answer after risesAbove risesStrictly isGroup standings rowsWithout spellGroup namesFrom guessNames readGroup classOf through push partsOf numeral decimal numberFrom spaced spell hasSpelling writesName same guess readEvent pieces form children roots listed runLines runTrace runFrom answerLine checkText
 printed = refl
