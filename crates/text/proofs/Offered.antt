@@ -7,7 +7,7 @@ pub use Rattle.text.proofs.Laws.GroupLine.{group-is-line, group-is-no-e
 pub use Rattle.text.proofs.Laws.Line.{part-inside, part-longer, part-some, part-then, parts-end, parts-next, parts-together, through-le}
 pub use Rattle.text.proofs.Laws.Number.{Stops, digit-class, digit-small, number-of-small}
 pub use Rattle.text.proofs.Laws.OneLine.{Ends, header-is-no-event, spell-is-line}
-pub use Rattle.text.proofs.Laws.OneSpelling.{spelling-reads-back}
+pub use Rattle.text.proofs.Laws.OneSpelling.{read-is-spelling, spelling-reads-back}
 pub use Rattle.text.proofs.Laws.Put.{put-length, put-next, put-two, sets-first}
 pub use Rattle.text.proofs.Laws.Range.{kind-short, right-length}
 pub use Rattle.text.proofs.Laws.Read.{same-is, same-refl, same-true}

@@ -11,6 +11,7 @@ use lib.ListN.{length, getD, take, drop, length-append}
 use lib.Seq.{take-nil}
 use Rattle.model.specs.declared.Name.{Name}
 use Rattle.model.specs.declared.Span.{Span}
+use Rattle.model.specs.declared.Event.{Event}
 use Rattle.model.specs.declared.Event.the-variants.{Read}
 use Rattle.model.specs.declared.Sheet.{Sheet}
 use Rattle.model.specs.declared.Tally.{Tally}
@@ -24,11 +25,13 @@ use Rattle.model.proofs.Offered.{test, and-both, all-append, answers-append, re
 use Rattle.text.specs.Class.{classOf, newline}
 use Rattle.text.specs.Line.{push, linesOf, partsOf}
 use Rattle.text.specs.Event.{bytes, spell, hasSpelling, InRange}
-use Rattle.text.specs.Result.{Result, value}
-use Rattle.text.specs.Request.{readRequest}
+use Rattle.text.specs.Group.{readGroup}
+use Rattle.text.specs.Read.{readEvent}
+use Rattle.text.specs.Result.{Result, value, refused}
+use Rattle.text.specs.Request.{groupOf, orGroup, readRequest}
 use Rattle.text.specs.declared.spelling.Spelling.{Spelling}
 use Rattle.text.specs.declared.spelling.Spelling.the-variants.{Plain}
-use Rattle.text.proofs.Offered.{parts-together, spelling-reads-back}
+use Rattle.text.proofs.Offered.{parts-together, read-is-spelling, spelling-reads-back}
 use Rattle.listing.specs.SameButRights.{SameButRights}
 use Rattle.listing.proofs.Offered.{lowered-listing}
 use Rattle.trace.specs.Run.{Ran, runTrace, runFrom, lent, run}
@@ -106,6 +109,24 @@ module _ (u : Name) (s : Span) (small : InRange (Read u s)) where
   at none k lines is = record { place = k; earlier = refl; left = refl; here = is }
   at first zero lines is = absurd (let q : _≡_ {A = ℕ} 0 1 = cc (is, read-reads Plain, header-misread Plain) in omega arith)
   at first (suc k) lines is = record { place = k; earlier = refl; left = refl; here = is }
+
+-- every line that reads as a read, in either spelling, is the spelling of it
+pub is-read : (j : Spelling) (k : ℕ) (text : List ℕ) (u : Name) (s : Span) → readRequest j (getD (linesOf text) k []) ≡ value (Single (Read u s)) → IsRead k text u s
+is-read j k text u s = go (readEvent j line) refl
+  where
+    line : List ℕ
+    line = getD (linesOf text) k []
+
+    no-group : (g : Result (List ℕ)) → groupOf g ≡ value (Single (Read u s)) → ⊥
+    no-group (value names) z = let q : _≡_ {A = ℕ} 0 1 = cc in omega arith
+    no-group (refused x) z = let q : _≡_ {A = ℕ} 0 1 = cc in omega arith
+
+    go : (r : Result Event) → readEvent j line ≡ r → orGroup line r ≡ value (Single (Read u s)) → IsRead k text u s
+    go (value e) is z =
+        let same : e ≡ Read u s = cc in
+        let spelled = read-is-spelling j line (Read u s) (is ∙ ap value same) in
+        record { line = spelled .2; small = spelled .1 }
+    go (refused x) is z = absurd (no-group (readGroup line) z)
 
 -- ---- card 8
 
