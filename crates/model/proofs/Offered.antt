@@ -15,7 +15,8 @@ pub use Rattle.model.proofs.Ancestries.{Falling, ancestry-here, ancestr
 pub use Rattle.model.proofs.Frame.{disordered-keeps, refused-table, refused-tally}
 pub use Rattle.model.proofs.Judged.{access-fits, allowed, length-live, ordered-not-1}
 pub use Rattle.model.proofs.Lent.{Named, length-lent, live-lent}
-pub use Rattle.model.proofs.Lists.{All, All-append, All-map, All-reverse, All-sub, All-zip, all-append, and-both, answers-append, clash, final-append, first-none, length-filter, listed, or-neither, test, unless}
+pub use Rattle.model.proofs.Lists.{All, All-append, All-map, All-reverse, All-sub, All-zip, all-append, and-both, answers-append, clash, final-append, first-none, length-filter, listed, map-reverse, or-neither, test, unless}
+pub use Rattle.model.proofs.Lowered.{lower, live-lower}
 pub use Rattle.model.proofs.Match.{Match, at-first, match-after, same-answer as match-answer}
 pub use Rattle.model.proofs.Named.{issued-allowed, same-after, same-answer}
 pub use Rattle.model.proofs.Order.{Ordered, Rises, access-inOrder, access-named, group-step, live-named, liveRowsFirst-lent, order-after, order-fresh, ordered, parentInOrder-rowFitsParent, place, right-positive, risen, rises, rowsInOrder-falling, rowsInOrder-wider, steps}

@@ -34,7 +34,8 @@ use Rattle.model.specs.Step.{Verdict, State, view, isAllowed, answer, af
 use Rattle.model.specs.History.{historyAfter}
 use Rattle.model.specs.History
 use Rattle.model.specs.Traces.{mildSheet}
-use Rattle.model.specs.ReadRemoved.{NoReadEnds, isStrike, livesIn, readStrikes, rightless, OnlyRights, ReadRemoved, Thinner, whole, one-fewer, namesGiven, ReadsRemoved}
+use Rattle.model.specs.Given.{namesIn, given}
+use Rattle.model.specs.ReadRemoved.{NoReadEnds, isStrike, livesIn, readStrikes, rightless, OnlyRights, ReadRemoved, Thinner, whole, one-fewer, ReadsRemoved}
 use Rattle.model.proofs.Lists.{All-of, test, clash, unless, and-both, or-neither, all-append, final-append, answers-append, filter-all}
 use Rattle.model.proofs.Ancestries.{Falling, ancestry-zero, ancestry-above, ancestry-past}
 use Rattle.model.proofs.Notes.{taken-cong}
@@ -259,8 +260,8 @@ read-removed sheet none-end lent before u s later a =
 
 -- a read gives no name
 read-unnamed : (sheet : Sheet) (before : List Request) (h : State) (u : Name) (s : Span) (later : List Request)
-    → namesGiven (without (length before) (answers (after sheet) answer h (before ++ (Single (Read u s) ∷ later)))) ≡ namesGiven (answers (after sheet) answer h (before ++ (Single (Read u s) ∷ later)))
-unfolding answer
+    → namesIn (without (length before) (answers (after sheet) answer h (before ++ (Single (Read u s) ∷ later)))) ≡ given sheet h (before ++ (Single (Read u s) ∷ later))
+unfolding answer given
 read-unnamed sheet [] h u s later = rw (none-named (eqb (judge (view h) (Single (Read u s))) 0))
   where
     none-named : (b : Bool) → cond {A = ℕ} b 0 0 ≡ 0
@@ -269,13 +270,14 @@ read-unnamed sheet [] h u s later = rw (none-named (eqb (judge (view h) (Single 
 read-unnamed sheet (q ∷ before) h u s later = ap (λ l. consIf (ltb 0 (answer h q .name)) (answer h q .name) l) (read-unnamed sheet before (after sheet h q) u s later)
 
 pub reads-removed : (sheet : Sheet) → NoReadEnds sheet → (lent : State) {qs thinner : List Request} → Thinner qs thinner → all isAllowed (answers (after sheet) answer lent qs) ≡ true → ReadsRemoved sheet lent qs thinner
+unfolding given
 reads-removed sheet none-end lent (whole qs) a = record { all-allowed = a; same-names = refl; only-rights = refl; none-lower = λ k. omega arith }
 reads-removed sheet none-end lent (one-fewer before u s later t) a =
     let more = reads-removed sheet none-end lent t a in
     let one = read-removed sheet none-end lent before u s later (more .all-allowed) in
     record {
       all-allowed = one .all-allowed;
-      same-names = ap namesGiven (one .same-answers) ∙ read-unnamed sheet before lent u s later ∙ more .same-names;
+      same-names = ap namesIn (one .same-answers) ∙ read-unnamed sheet before lent u s later ∙ more .same-names;
       only-rights = more .only-rights ∙ one .rights .only-rights;
       none-lower = λ k. omega (arith, more .none-lower k, no-lower (one .rights .rights-differ k));
     }

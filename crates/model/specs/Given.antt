@@ -9,12 +9,15 @@ use lib.ListN.{length}
 use Rattle.model.specs.declared.Sheet.{Sheet}
 use Rattle.model.specs.Lists.{filter, all, answers, final}
 use Rattle.model.specs.Requests.{Request, risesAbove}
-use Rattle.model.specs.Step.{State, answer, after}
+use Rattle.model.specs.Step.{Verdict, State, answer, after}
 
--- the names given out by a list of requests: those among the answers that are not 0, which "stands for no parent" and is the name of every
--- answer without one
+-- the names among answers: those that are not 0, which "stands for no parent" and is the name of every answer without one
+abbrev pub namesIn : List Verdict → List ℕ
+namesIn answers = filter (λ x. ltb 0 x) (map (λ v. v .name) answers)
+
+-- the names given out by a list of requests
 unfoldable pub given : Sheet → State → List Request → List ℕ
-given sheet h qs = filter (λ x. ltb 0 x) (map (λ v. v .name) (answers (after sheet) answer h qs))
+given sheet h qs = namesIn (answers (after sheet) answer h qs)
 
 -- x and the numbers after it, n in all
 unfoldable pub countFrom : ℕ → ℕ → List ℕ

@@ -1,4 +1,4 @@
--- Tests over lists; the first of a list of checks that holds; and machines that take events in turn.
+-- Tests over lists, and a list without one member; the first of a list of checks that holds; and machines that take events in turn.
 -- Assumes nothing.
 use Prim.Native.Nat.{ℕ, zero, suc}
 use mathlib.Core.Bool.{Bool, true, false, cond, _&&_, _||_}

@@ -5,7 +5,6 @@ use mathlib.Core.Path.{_≡_}
 use mathlib.Core.Logic.{_⊎_}
 use mathlib.Core.Bool.{Bool, true, false}
 use mathlib.Core.List.{List, _∷_, _++_, map}
-use lib.Dec.{ltb}
 use lib.ListN.{length, getD}
 use Rattle.model.specs.declared.Name.{Name}
 use Rattle.model.specs.declared.Span.{Span}
@@ -16,13 +15,14 @@ use Rattle.model.specs.declared.Effect.{Effect}
 use Rattle.model.specs.declared.Effect.the-variants.{Keep, Lower, End}
 use Rattle.model.specs.declared.Origin.{Origin}
 use Rattle.model.specs.declared.Sheet.{Sheet}
-use Rattle.model.specs.Lists.{filter, any, all, without, answers, final}
+use Rattle.model.specs.Lists.{any, all, without, answers, final}
 use Rattle.model.specs.Requests.{Request, Single}
 use Rattle.model.specs.Strike.{isEnd, resultOf, struck}
 use Rattle.model.specs.Table.{row, emptyRow, derivation, derivations, named, liveRows}
 use Rattle.model.specs.Effects.{lowered}
 use Rattle.model.specs.Counts.{countAllowed}
-use Rattle.model.specs.Step.{Verdict, State, isAllowed, answer, after}
+use Rattle.model.specs.Step.{State, isAllowed, answer, after}
+use Rattle.model.specs.Given.{given}
 
 -- "a sheet in which no read ends anything"
 abbrev pub NoReadEnds : Sheet → Type 0
@@ -86,18 +86,15 @@ module _ (sheet : Sheet) (lent : State) (before : List Request) (u : Name) (s : 
 
 -- ---- several reads
 
--- What is left is again a trace whose every event is allowed: so any reads may go, one after the other.
+-- The second list is the first without some of its reads. What is left without one is again a trace whose every event is allowed: so they
+-- may go one after the other.
 pub data Thinner : List Request → List Request → Type 0 where
   whole : (qs : List Request) → Thinner qs qs
   one-fewer : {qs : List Request} (before : List Request) (u : Name) (s : Span) (later : List Request) → Thinner qs (before ++ (Single (Read u s) ∷ later)) → Thinner qs (before ++ later)
 
--- the names that answers give
-abbrev pub namesGiven : List Verdict → List ℕ
-namesGiven vs = filter (λ x. ltb 0 x) (map (λ v. v .name) vs)
-
 pub record ReadsRemoved (sheet : Sheet) (lent : State) (qs thinner : List Request) : Type 0 where
   pub all-allowed : all isAllowed (answers (after sheet) answer lent thinner) ≡ true
-  pub same-names : namesGiven (answers (after sheet) answer lent thinner) ≡ namesGiven (answers (after sheet) answer lent qs)
+  pub same-names : given sheet lent thinner ≡ given sheet lent qs
   pub only-rights : map rightless (final (after sheet) lent qs .table) ≡ map rightless (final (after sheet) lent thinner .table)
   -- no right is lower without them
   pub none-lower : (k : ℕ) → getD (final (after sheet) lent qs .table) k emptyRow .right ≤ getD (final (after sheet) lent thinner .table) k emptyRow .right

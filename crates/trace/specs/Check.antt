@@ -19,8 +19,11 @@ answerLine refusal number =
     cond (eqb refusal 0) (line "(allowed" (number ∷ []) (bytes ")\n")) (line "(refused" (refusal ∷ number ∷ []) (bytes ")\n"))
 
 -- ", then the listing"
+abbrev pub listingOf : Ran State → List ℕ
+listingOf r = listing (r .state .table) (r .state .tally .issued)
+
 abbrev pub report : Ran State → List ℕ
-report r = answerLine (r .refusal) (r .number) ++ listing (r .state .table) (r .state .tally .issued)
+report r = answerLine (r .refusal) (r .number) ++ listingOf r
 
 abbrev pub noCounts : Tally
 noCounts = tally 0 0 0 0 0 0 0

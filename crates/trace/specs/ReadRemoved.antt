@@ -14,11 +14,10 @@ use Rattle.model.specs.Step.{State}
 use Rattle.model.specs.ReadRemoved.{OnlyRights}
 use Rattle.text.specs.Line.{linesOf}
 use Rattle.text.specs.Event.{spell, InRange}
-use Rattle.listing.specs.Listing.{listing}
 use Rattle.listing.specs.SameButRights.{SameButRights}
-use Rattle.trace.specs.Run.{Ran, run}
+use Rattle.trace.specs.Run.{run}
 use Rattle.trace.specs.Stops.{joined, firstLines}
-use Rattle.trace.specs.Check.{answerLine, checkText}
+use Rattle.trace.specs.Check.{answerLine, listingOf, checkText}
 use Rattle.trace.specs.Spellings.{checked}
 
 -- the text without the line behind its first k
@@ -30,18 +29,15 @@ pub record IsRead (k : ℕ) (text : List ℕ) (u : Name) (s : Span) : Type 0 whe
   pub line : getD (linesOf text) k [] ≡ spell (Read u s)
   pub small : InRange (Read u s)
 
-abbrev pub listed : Ran State → List ℕ
-listed r = listing (r .state .table) (r .state .tally .issued)
-
 -- by a sheet and on what is lent, the run of the text, and that without the line
 pub record LineRemoved (sheet : Sheet) (h : State) (k : ℕ) (text : List ℕ) (u : Name) (s : Span) : Type 0 where
   pub allowed : run sheet h (withoutLine k text) .refusal ≡ 0
   pub one-line-fewer : run sheet h text .number ≡ suc (run sheet h (withoutLine k text) .number)
   pub rights : OnlyRights sheet (run sheet h (firstLines k text) .state) u s (run sheet h text .state) (run sheet h (withoutLine k text) .state)
-  pub same-listing : SameButRights (listed (run sheet h text)) (listed (run sheet h (withoutLine k text)))
+  pub same-listing : SameButRights (listingOf (run sheet h text)) (listingOf (run sheet h (withoutLine k text)))
 
 -- what `capcheck` prints of the two, the first not `(long)`: one line fewer, and the same listing but for rights
 pub record ChecksRemoved (k : ℕ) (text : List ℕ) : Type 0 where
-  pub with-read : checkText text ≡ answerLine 0 (suc (checked (withoutLine k text) .number)) ++ listed (checked text)
-  pub without-read : checkText (withoutLine k text) ≡ answerLine 0 (checked (withoutLine k text) .number) ++ listed (checked (withoutLine k text))
-  pub same-listing : SameButRights (listed (checked text)) (listed (checked (withoutLine k text)))
+  pub with-read : checkText text ≡ answerLine 0 (suc (checked (withoutLine k text) .number)) ++ listingOf (checked text)
+  pub without-read : checkText (withoutLine k text) ≡ answerLine 0 (checked (withoutLine k text) .number) ++ listingOf (checked (withoutLine k text))
+  pub same-listing : SameButRights (listingOf (checked text)) (listingOf (checked (withoutLine k text)))

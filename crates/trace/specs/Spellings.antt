@@ -18,10 +18,9 @@ use Rattle.text.specs.Read.{same}
 use Rattle.text.specs.Result.{refused}
 use Rattle.text.specs.declared.spelling.Spelling.{Spelling}
 use Rattle.text.specs.declared.spelling.Spelling.the-variants.{Plain, Named}
-use Rattle.listing.specs.Listing.{listing}
 use Rattle.text.specs.Request.{readRequest}
 use Rattle.trace.specs.Run.{header, Ran, run}
-use Rattle.trace.specs.Check.{answerLine, report, noCounts, checkText}
+use Rattle.trace.specs.Check.{answerLine, listingOf, report, noCounts, checkText}
 
 -- the line of an event, or of names dropped together, and the lines of several
 unfoldable pub spellRequest : Request → List ℕ
@@ -83,5 +82,4 @@ checked = run sheet6 (initial 1024 noCounts)
 pub record SameChecks (plain named : List ℕ) : Type 0 where
   pub plain-report : checkText plain ≡ report (checked plain)
   pub named-report : checkText named
-      ≡ answerLine (checked plain .refusal) (oneHigher (checked plain .refusal) (checked plain .number))
-      ++ listing (checked plain .state .table) (checked plain .state .tally .issued)
+      ≡ answerLine (checked plain .refusal) (oneHigher (checked plain .refusal) (checked plain .number)) ++ listingOf (checked plain)

@@ -155,26 +155,9 @@ pub struct Found {
 impl Found {
     /// The same as the oracle has it.
     pub fn lent(&self) -> Lent {
-        let interface::Tally {
-            issued,
-            creates,
-            borrows,
-            reads,
-            writes,
-            drops,
-            refused,
-        } = self.tally;
         Lent {
             rows: self.table.iter().map(row_of).collect(),
-            tally: Tally {
-                issued,
-                creates,
-                borrows,
-                reads,
-                writes,
-                drops,
-                refused,
-            },
+            tally: oracle_tally(self.tally),
         }
     }
 }
@@ -224,6 +207,18 @@ fn row_of(cap: &Cap) -> Row {
 
 fn interface_tally(tally: Tally) -> interface::Tally {
     interface::Tally {
+        issued: tally.issued,
+        creates: tally.creates,
+        borrows: tally.borrows,
+        reads: tally.reads,
+        writes: tally.writes,
+        drops: tally.drops,
+        refused: tally.refused,
+    }
+}
+
+fn oracle_tally(tally: interface::Tally) -> Tally {
+    Tally {
         issued: tally.issued,
         creates: tally.creates,
         borrows: tally.borrows,

@@ -215,7 +215,7 @@ fn read(start: Start, before: &Lent, event: Event) -> Read {
     let live = oracle::live_rows(&before.rows).to_vec();
     let span = agree::span_of(event);
     let sheet = agree::sheet_of(start.by);
-    let struck = oracle::struck_by_a_read(sheet, &live, event.name, span);
+    let struck = oracle::read_strikes(sheet, &live, event.name, span);
     let is_struck = |row: &&Row| struck.contains(&row.name);
     let is_reached = |row: &&Row| path(&live, row.name).iter().any(is_struck);
     let reached = live.iter().filter(is_reached).map(|row| row.name).collect();

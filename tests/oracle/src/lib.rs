@@ -18,7 +18,7 @@ pub use history::History;
 pub use lines::{Spelling, drop_line, event_line, read_drop_line, read_event_line};
 pub use sheet::{Access, CARD_6, Combination, Outcome, Sheet, Source, combinations, write_sheet};
 pub use span::Span;
-pub use table::{apply, apply_by, in_order, live_rows, strikes, struck_by_a_read};
+pub use table::{apply, apply_by, in_order, live_rows, read_strikes, strikes};
 pub use text::{
     HEADER, Run, check, listing, read_listing, run, run_by, write_drop, write_event, write_listing,
 };

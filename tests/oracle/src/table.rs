@@ -344,12 +344,7 @@ pub fn strikes(live: &[Row], event: Event) -> Vec<(u32, Combination)> {
 
 /// Card 8: the names that a read strikes, which are those of its touched that the sheet does not keep.
 /// Without a sheet card 6's sentence says which they are.
-pub fn struck_by_a_read(
-    sheet: Option<&Sheet>,
-    live: &[Row],
-    user: u32,
-    span: Span,
-) -> BTreeSet<u32> {
+pub fn read_strikes(sheet: Option<&Sheet>, live: &[Row], user: u32, span: Span) -> BTreeSet<u32> {
     let Some(sheet) = sheet else {
         return struck_by_read(live, user, span);
     };

@@ -4,8 +4,7 @@
 use oracle::traces::{KINDS, SHEETS, Step};
 use oracle::{
     Access, CARD_6, CELL, Event, History, Outcome, RAW, REFERENCE, Row, Sheet, Source, Span,
-    Spelling, Tally, apply_by, combinations, listing, read_event_line, struck_by_a_read,
-    write_sheet,
+    Spelling, Tally, apply_by, combinations, listing, read_event_line, read_strikes, write_sheet,
 };
 
 const ROWS: usize = 8;
@@ -192,7 +191,7 @@ fn what_a_read_strikes() {
     let live = &rows[..6];
     let struck = |sheet: Option<&Sheet>, user, start, length| {
         let span = Span { start, length };
-        let names = struck_by_a_read(sheet, live, user, span);
+        let names = read_strikes(sheet, live, user, span);
         names.into_iter().collect::<Vec<u32>>()
     };
     let card_6 = Sheet::lent(&[]);

@@ -1,17 +1,17 @@
 -- Texts that are the same but for rights; and the listings of rows of which some are lowered to `ro` are.
 -- Assumes nothing.
 use mathlib.Core.Path.{_≡_, refl, ap}
-use mathlib.Core.Bool.{Bool, true, false, cond, not}
+use mathlib.Core.Bool.{Bool, true, false, cond}
 use mathlib.Core.Logic.{_⊎_, inl, inr, ⊎-elim}
-use mathlib.Core.List.{List, [], _∷_, _++_, map, reverse-reverse}
+use mathlib.Core.List.{List, [], _∷_, _++_, map, reverse}
 use Prim.Native.Nat.{ℕ, zero, suc}
 use native.Mathlib.Omega.{arith}
 use lib.Dec.{eqb}
 use lib.ListN.{length, getD}
 use Rattle.model.specs.declared.Cap.{Cap}
-use Rattle.model.specs.Lists.{consIf, filter}
-use Rattle.model.specs.Table.{named, liveRows}
+use Rattle.model.specs.Table.{liveRows}
 use Rattle.model.specs.Effects.{lowered}
+use Rattle.model.proofs.Offered.{lower, live-lower, map-reverse}
 use Rattle.text.specs.Decimal.{decimal}
 use Rattle.text.specs.Event.{bytes, spaced, rightWord, kindWord}
 use Rattle.listing.specs.Listing.{pieces, form, children, roots, issuedLine, listed, listing}
@@ -68,59 +68,42 @@ right-lowered true r = go (eqb r 1)
     go false = right done
 right-lowered false r = same (rightWord r)
 
--- the live rows of a table, in its order
-abbrev living : List Cap → List Cap
-living table = filter (λ c. not (named 0 c)) table
-
 module _ (hit : ℕ → Bool) where
-  -- a row, with `ro` where its name is hit
-  abbrev low : Cap → Cap
-  low c = lowered (hit (c .name .0)) c
-
-  pieces-lowered : (c : Cap) → SameButRights (pieces (low c)) (pieces c)
+  pieces-lowered : (c : Cap) → SameButRights (pieces (lower hit c)) (pieces c)
   unfolding pieces
   pieces-lowered c =
       join (same (decimal (c .name .0)))
       (join (same (spaced (c .start .0 ∷ c .length ∷ []))) (join (right-lowered (hit (c .name .0)) (c .right)) (same (kindWord (c .kind)))))
 
-  form-lowered : (c : Cap) {inner inner′ : List ℕ} → SameButRights inner inner′ → SameButRights (form (low c) inner) (form c inner′)
+  form-lowered : (c : Cap) {inner inner′ : List ℕ} → SameButRights inner inner′ → SameButRights (form (lower hit c) inner) (form c inner′)
   unfolding form
   form-lowered c p = byte 40 (join (pieces-lowered c) (join p (same (41 ∷ []))))
 
   -- a lowered row has the name and the parent that it had, so it stands where it stood
-  children-lowered : (p : ℕ) (rows : List Cap) → SameButRights (children p (map low rows)) (children p rows)
+  children-lowered : (p : ℕ) (rows : List Cap) → SameButRights (children p (map (lower hit) rows)) (children p rows)
   unfolding children
   children-lowered p [] = done
   children-lowered p (c ∷ rows) = go (eqb (c .parent .0) p) (children-lowered (c .name .0) rows) (children-lowered p rows)
     where
-      go : (b : Bool) → SameButRights (children (c .name .0) (map low rows)) (children (c .name .0) rows) → SameButRights (children p (map low rows)) (children p rows)
-          → SameButRights (cond b (32 ∷ (form (low c) (children (c .name .0) (map low rows)) ++ children p (map low rows))) (children p (map low rows)))
+      go : (b : Bool) → SameButRights (children (c .name .0) (map (lower hit) rows)) (children (c .name .0) rows) → SameButRights (children p (map (lower hit) rows)) (children p rows)
+          → SameButRights (cond b (32 ∷ (form (lower hit c) (children (c .name .0) (map (lower hit) rows)) ++ children p (map (lower hit) rows))) (children p (map (lower hit) rows)))
           (cond b (32 ∷ (form c (children (c .name .0) rows) ++ children p rows)) (children p rows))
       go true own others = byte 32 (join (form-lowered c own) others)
       go false own others = others
 
-  roots-lowered : (rows : List Cap) → SameButRights (roots (map low rows)) (roots rows)
+  roots-lowered : (rows : List Cap) → SameButRights (roots (map (lower hit) rows)) (roots rows)
   unfolding roots
   roots-lowered [] = done
   roots-lowered (c ∷ rows) = go (eqb (c .parent .0) 0) (roots-lowered rows)
     where
-      go : (b : Bool) → SameButRights (roots (map low rows)) (roots rows)
-          → SameButRights (cond b (form (low c) (children (c .name .0) (map low rows)) ++ (10 ∷ roots (map low rows))) (roots (map low rows)))
+      go : (b : Bool) → SameButRights (roots (map (lower hit) rows)) (roots rows)
+          → SameButRights (cond b (form (lower hit c) (children (c .name .0) (map (lower hit) rows)) ++ (10 ∷ roots (map (lower hit) rows))) (roots (map (lower hit) rows)))
           (cond b (form c (children (c .name .0) rows) ++ (10 ∷ roots rows)) (roots rows))
       go true others = join (form-lowered c (children-lowered (c .name .0) rows)) (byte 10 others)
       go false others = others
 
-  -- a lowered row has the name that it had, so it is live where it was
-  living-lowered : (table : List Cap) → living (map low table) ≡ map low (living table)
-  living-lowered [] = refl
-  living-lowered (c ∷ table) = go (not (named 0 c)) (living-lowered table)
-    where
-      go : (b : Bool) → living (map low table) ≡ map low (living table) → consIf b (low c) (living (map low table)) ≡ map low (consIf b c (living table))
-      go true e = ap {B = List Cap} (λ r. low c ∷ r) e
-      go false e = e
-
 -- rows of which some are lowered to `ro` have the same listing but for their rights
 pub lowered-listing : (hit : ℕ → Bool) (table : List Cap) (issued : ℕ) → SameButRights (listing (map (λ c. lowered (hit (c .name .0)) c) table) issued) (listing table issued)
-unfolding liveRows listed
+unfolding listed
 lowered-listing hit table issued =
-    simp (reverse-reverse, living-lowered hit table) (join (same (issuedLine issued)) (roots-lowered hit (living table)))
+    rw (live-lower hit table, ← map-reverse (lower hit) (liveRows table)) (join (same (issuedLine issued)) (roots-lowered hit (reverse (liveRows table))))

@@ -28,28 +28,28 @@ use Rattle.trace.proofs.Laws.Spellings.{header-misread}
 -- ---- lines that are allowed
 
 -- a line reads as a request
-abbrev pub isRead : Result Request → Bool
-isRead (value q) = true
-isRead (refused r) = false
+abbrev pub isRequest : Result Request → Bool
+isRequest (value q) = true
+isRequest (refused r) = false
 
-abbrev pub allRead : Spelling → List (List ℕ) → Bool
-allRead k = all (λ (l : List ℕ). isRead (readRequest k l))
+abbrev pub allRequests : Spelling → List (List ℕ) → Bool
+allRequests k = all (λ (l : List ℕ). isRequest (readRequest k l))
 
 -- the requests that lines read as
-abbrev pub consRead : Result Request → List Request → List Request
-consRead (value q) qs = q ∷ qs
-consRead (refused r) qs = qs
+abbrev pub consRequest : Result Request → List Request → List Request
+consRequest (value q) qs = q ∷ qs
+consRequest (refused r) qs = qs
 
 unfoldable pub requests : Spelling → List (List ℕ) → List Request
 requests k [] = []
-requests k (l ∷ ls) = consRead (readRequest k l) (requests k ls)
+requests k (l ∷ ls) = consRequest (readRequest k l) (requests k ls)
 
 pub requests-append : (k : Spelling) (ls ms : List (List ℕ)) → requests k (ls ++ ms) ≡ requests k ls ++ requests k ms
 unfolding requests
 requests-append k [] ms = refl
 requests-append k (l ∷ ls) ms = go (readRequest k l) (requests-append k ls ms)
   where
-    go : (r : Result Request) → requests k (ls ++ ms) ≡ requests k ls ++ requests k ms → consRead r (requests k (ls ++ ms)) ≡ consRead r (requests k ls) ++ requests k ms
+    go : (r : Result Request) → requests k (ls ++ ms) ≡ requests k ls ++ requests k ms → consRequest r (requests k (ls ++ ms)) ≡ consRequest r (requests k ls) ++ requests k ms
     go (value q) ih = ap (λ (qs : List Request). q ∷ qs) ih
     go (refused r) ih = ih
 
@@ -59,7 +59,7 @@ module _ (sheet : Sheet) where
 
   -- all lines read, and every request is allowed
   abbrev pub Allowed : Spelling → State → List (List ℕ) → Type 0
-  Allowed k h ls = (allRead k ls ≡ true) × AllAllowed h (requests k ls)
+  Allowed k h ls = (allRequests k ls ≡ true) × AllAllowed h (requests k ls)
 
   -- what a run does behind a line that was taken
   abbrev behind : Spelling → ℕ → List (List ℕ) → Taken State → Ran State
@@ -72,10 +72,10 @@ module _ (sheet : Sheet) where
   lines-allowed k before h (l ∷ ls) z = go (readRequest k l) refl (λ h. lines-allowed k (before + 1) h ls) z
     where
       go : (r : Result Request) → readRequest k l ≡ r → ((h : State) → runLines (lent sheet) k (before + 1) h ls .refusal ≡ 0 → Allowed k h ls) → behind k before ls (takeRead (lent sheet) h r) .refusal ≡ 0
-          → (isRead r && allRead k ls ≡ true) × AllAllowed h (consRead r (requests k ls))
+          → (isRequest r && allRequests k ls ≡ true) × AllAllowed h (consRequest r (requests k ls))
       go (value q) is ih z = on (test (eqb (answer h q .refusal) 0)) z
         where
-          on : (eqb (answer h q .refusal) 0 ≡ true) ⊎ (eqb (answer h q .refusal) 0 ≡ false) → behind k before ls (takeRead (lent sheet) h (value q)) .refusal ≡ 0 → (allRead k ls ≡ true) × AllAllowed h (q ∷ requests k ls)
+          on : (eqb (answer h q .refusal) 0 ≡ true) ⊎ (eqb (answer h q .refusal) 0 ≡ false) → behind k before ls (takeRead (lent sheet) h (value q)) .refusal ≡ 0 → (allRequests k ls ≡ true) × AllAllowed h (q ∷ requests k ls)
           on (inl e) z = let r = ih (after sheet h q) (rw e at z) in (r .0, rw e (r .1))
           on (inr e) z = clash (eq-eqb (answer h q .refusal) 0 (rw e at z)) e
       go (refused x) is ih z = absurd (let no : _≡_ {A = ℕ} 2 0 = rw (misread-2 k l x is) at z in omega arith)
@@ -88,8 +88,8 @@ module _ (sheet : Sheet) where
   allowed-lines k before h (l ∷ ls) a = go (readRequest k l) (λ h. allowed-lines k (before + 1) h ls) a
     where
       go : (r : Result Request) → ((h : State) → Allowed k h ls → runLines (lent sheet) k (before + 1) h ls ≡ record { refusal = 0; number = before + 1 + length ls; state = final (after sheet) h (requests k ls) })
-          → (isRead r && allRead k ls ≡ true) × AllAllowed h (consRead r (requests k ls))
-          → behind k before ls (takeRead (lent sheet) h r) ≡ record { refusal = 0; number = before + suc (length ls); state = final (after sheet) h (consRead r (requests k ls)) }
+          → (isRequest r && allRequests k ls ≡ true) × AllAllowed h (consRequest r (requests k ls))
+          → behind k before ls (takeRead (lent sheet) h r) ≡ record { refusal = 0; number = before + suc (length ls); state = final (after sheet) h (consRequest r (requests k ls)) }
       go (value q) ih a =
           let p = and-both (isAllowed (answer h q)) (all isAllowed (answers (after sheet) answer (after sheet h q) (requests k ls))) (a .1) in
           rw (p .0) (ih (after sheet h q) (a .0, p .1) ∙ (λ i. record { refusal = 0; number = more i; state = final (after sheet) (after sheet h q) (requests k ls) }))
@@ -106,15 +106,15 @@ pub data Front : Spelling → List (List ℕ) → Type 0 where
   first : Front Named (header ∷ [])
 
 -- lines that all read are a trace behind it
-pub front-run : {k : Spelling} {p : List (List ℕ)} → Front k p → {S : Type 0} (c : Checker S) (h : S) (ls : List (List ℕ)) → allRead k ls ≡ true → runTrace c h (p ++ ls) ≡ runLines c k (length p) h ls
+pub front-run : {k : Spelling} {p : List (List ℕ)} → Front k p → {S : Type 0} (c : Checker S) (h : S) (ls : List (List ℕ)) → allRequests k ls ≡ true → runTrace c h (p ++ ls) ≡ runLines c k (length p) h ls
 unfolding runTrace
 front-run none c h [] a = refl
 front-run none c h (l ∷ ls) a = go (test (same l header))
   where
     go : (same l header ≡ true) ⊎ (same l header ≡ false) → cond (same l header) (runLines c Named 1 h ls) (runLines c Plain 0 h (l ∷ ls)) ≡ runLines c Plain 0 h (l ∷ ls)
     go (inl e) =
-        let p = and-both (isRead (readRequest Plain l)) (allRead Plain ls) a in
-        clash (p .0) (ap (λ (m : List ℕ). isRead (readRequest Plain m)) (same-true l header e) ∙ ap isRead (header-misread Plain))
+        let p = and-both (isRequest (readRequest Plain l)) (allRequests Plain ls) a in
+        clash (p .0) (ap (λ (m : List ℕ). isRequest (readRequest Plain m)) (same-true l header e) ∙ ap isRequest (header-misread Plain))
     go (inr e) = rw e
 front-run first c h ls a = rw (same-refl header)
 

@@ -4,11 +4,12 @@ use mathlib.Core.Path.{_≡_, refl, sym, ap, ap₂, _∙_}
 use mathlib.Core.Logic.{_⊎_, inl, inr}
 use mathlib.Core.Bool.{Bool, true, false, cond, _&&_}
 use mathlib.Core.List.{List, [], _∷_, _++_, flatMap, nil≢cons}
-use Prim.Native.Nat.{ℕ, zero, suc, _+_, _≤_}
+use Prim.Native.Nat.{ℕ, zero, suc, _+_, _≤_, _<_}
 use native.Mathlib.Omega.{arith}
-use lib.Dec.{eqb}
-use lib.ListN.{length, getD, take, drop, length-append}
-use lib.Seq.{take-nil}
+use lib.Dec.{eqb, ltb}
+use lib.ListN.{length, getD, take, drop, length-append, List·getD-eq-default}
+use lib.Seq.{take-nil, split-at}
+use borrow.Author.Tests.{ltb-true, ltb-false}
 use Rattle.model.specs.declared.Name.{Name}
 use Rattle.model.specs.declared.Span.{Span}
 use Rattle.model.specs.declared.Event.{Event}
@@ -36,10 +37,10 @@ use Rattle.listing.specs.SameButRights.{SameButRights}
 use Rattle.listing.proofs.Offered.{lowered-listing}
 use Rattle.trace.specs.Run.{Ran, runTrace, runFrom, lent, run}
 use Rattle.trace.specs.Stops.{joined, firstLines}
-use Rattle.trace.specs.Check.{answerLine, noCounts}
+use Rattle.trace.specs.Check.{answerLine, listingOf, noCounts}
 use Rattle.trace.specs.Spellings.{checked}
-use Rattle.trace.specs.ReadRemoved.{withoutLine, IsRead, listed, LineRemoved, ChecksRemoved}
-use Rattle.trace.proofs.Laws.Allowed.{isRead, allRead, consRead, requests, requests-append, AllAllowed, Allowed, allowed-lines, Front, none, first, front-run, TraceOf, trace-of}
+use Rattle.trace.specs.ReadRemoved.{withoutLine, IsRead, LineRemoved, ChecksRemoved}
+use Rattle.trace.proofs.Laws.Allowed.{isRequest, allRequests, consRequest, requests, requests-append, AllAllowed, Allowed, allowed-lines, Front, none, first, front-run, TraceOf, trace-of}
 use Rattle.trace.proofs.Laws.Order.{refused-run}
 use Rattle.trace.proofs.Laws.Stops.{lines-first}
 use Rattle.trace.proofs.Laws.Spellings.{header-misread, ran-text}
@@ -74,12 +75,6 @@ fewer-bytes k text = omega (arith, go k (linesOf text), ap length (parts-togethe
     go k [] = omega arith
     go zero (l ∷ ls) = simp length-append (omega arith)
     go (suc k) (l ∷ ls) = simp length-append (omega (arith, go k ls))
-
--- lines around one of them
-split : (k : ℕ) (ls : List (List ℕ)) (l : List ℕ) → (l ≡ [] → ⊥) → getD ls k [] ≡ l → ls ≡ take k ls ++ (l ∷ drop (suc k) ls)
-split k [] l some is = absurd (some (sym is))
-split zero (x ∷ ls) l some is = ap (λ (y : List ℕ). y ∷ ls) is
-split (suc k) (x ∷ ls) l some is = ap (λ (m : List (List ℕ)). x ∷ m) (split k ls l some is)
 
 without-is : (k : ℕ) (ls : List (List ℕ)) → without k ls ≡ take k ls ++ drop (suc k) ls
 without-is k [] = rw (take-nil {A = List ℕ} k)
@@ -159,14 +154,21 @@ module _ (sheet : Sheet) (h : State) (k : ℕ) (text : List ℕ) (u : Name) (s :
   asked = requests (t .spelling)
 
   lines-are : t .lines ≡ earlier ++ (spell (Read u s) ∷ later)
-  lines-are = split (w .place) (t .lines) (spell (Read u s)) (read-some u s (r .small)) (w .here)
+  lines-are = split-at (t .lines) (w .place) [] inside ∙ ap (λ (l : List ℕ). earlier ++ (l ∷ later)) (w .here)
+    where
+      inside : w .place < length (t .lines)
+      inside = go (test (ltb (w .place) (length (t .lines))))
+        where
+          go : (ltb (w .place) (length (t .lines)) ≡ true) ⊎ (ltb (w .place) (length (t .lines)) ≡ false) → w .place < length (t .lines)
+          go (inl y) = ltb-true (w .place) (length (t .lines)) y
+          go (inr n) = absurd (read-some u s (r .small) (sym (w .here) ∙ List·getD-eq-default (t .lines) [] (ltb-false (w .place) (length (t .lines)) n)))
 
   asked-are : asked (t .lines) ≡ asked earlier ++ (Single (Read u s) ∷ asked later)
   unfolding requests
-  asked-are = ap asked lines-are ∙ requests-append (t .spelling) earlier (spell (Read u s) ∷ later) ∙ ap (λ (q : Result Request). asked earlier ++ consRead q (asked later)) (read-reads u s (r .small) (t .spelling))
+  asked-are = ap asked lines-are ∙ requests-append (t .spelling) earlier (spell (Read u s) ∷ later) ∙ ap (λ (q : Result Request). asked earlier ++ consRequest q (asked later)) (read-reads u s (r .small) (t .spelling))
 
-  all-read : (allRead (t .spelling) earlier ≡ true) × (allRead (t .spelling) (spell (Read u s) ∷ later) ≡ true)
-  all-read = and-both (allRead (t .spelling) earlier) (allRead (t .spelling) (spell (Read u s) ∷ later)) (sym (ap (allRead (t .spelling)) lines-are ∙ all-append _ earlier (spell (Read u s) ∷ later)) ∙ t .allowed .0)
+  all-requests : (allRequests (t .spelling) earlier ≡ true) × (allRequests (t .spelling) (spell (Read u s) ∷ later) ≡ true)
+  all-requests = and-both (allRequests (t .spelling) earlier) (allRequests (t .spelling) (spell (Read u s) ∷ later)) (sym (ap (allRequests (t .spelling)) lines-are ∙ all-append _ earlier (spell (Read u s) ∷ later)) ∙ t .allowed .0)
 
   -- a text of these lines
   ran : (text : List ℕ) (lines : List (List ℕ)) → linesOf text ≡ t .before ++ lines → Allowed sheet (t .spelling) h lines
@@ -191,12 +193,12 @@ module _ (sheet : Sheet) (h : State) (k : ℕ) (text : List ℕ) (u : Name) (s :
 
     left-allowed : Allowed sheet (t .spelling) h (earlier ++ later)
     left-allowed = (
-      all-append _ earlier later ∙ ap₂ (λ (a b : Bool). a && b) (all-read .0) (and-both (isRead (readRequest (t .spelling) (spell (Read u s)))) (allRead (t .spelling) later) (all-read .1) .1),
+      all-append _ earlier later ∙ ap₂ (λ (a b : Bool). a && b) (all-requests .0) (and-both (isRequest (readRequest (t .spelling) (spell (Read u s)))) (allRequests (t .spelling) later) (all-requests .1) .1),
       ap (λ (qs : List Request). all isAllowed (answers (after sheet) answer h qs)) left-are ∙ removed .all-allowed,
     )
 
     ran-first : run sheet h (firstLines k text) .state ≡ final (after sheet) h (asked earlier)
-    ran-first = ap (λ (q : Ran State). q .state) (ran (firstLines k text) earlier (lines-first k text ∙ ap (take k) (t .is) ∙ w .earlier) (all-read .0, before-read))
+    ran-first = ap (λ (q : Ran State). q .state) (ran (firstLines k text) earlier (lines-first k text ∙ ap (take k) (t .is) ∙ w .earlier) (all-requests .0, before-read))
 
     ran-with : run sheet h text .state ≡ final (after sheet) h (asked earlier ++ (Single (Read u s) ∷ asked later))
     ran-with = ap (λ (q : Ran State). q .state) (ran text (t .lines) (t .is) (t .allowed)) ∙ ap (final (after sheet) h) asked-are
@@ -210,7 +212,7 @@ module _ (sheet : Sheet) (h : State) (k : ℕ) (text : List ℕ) (u : Name) (s :
     rights : OnlyRights sheet (run sheet h (firstLines k text) .state) u s (run sheet h text .state) (run sheet h (withoutLine k text) .state)
     rights = rw (ran-first, ran-with, ran-without) (removed .rights)
 
-    same-listing : SameButRights (listed (run sheet h text)) (listed (run sheet h (withoutLine k text)))
+    same-listing : SameButRights (listingOf (run sheet h text)) (listingOf (run sheet h (withoutLine k text)))
     same-listing =
         let without-read = run sheet h (withoutLine k text) .state in
         let strikes = readStrikes sheet (run sheet h (firstLines k text) .state) u s in
@@ -234,7 +236,7 @@ pub read-check-removed : (k : ℕ) (text : List ℕ) (u : Name) (s : Span) → I
 read-check-removed k text u s r z few =
     let l = read-line-removed sheet6 no-read-ends (initial 1024 noCounts) k text u s r z in
     record {
-      with-read = ran-text text few ∙ ap₂ (λ (x n : ℕ). answerLine x n ++ listed (checked text)) z (l .one-line-fewer);
-      without-read = ran-text (withoutLine k text) (omega (arith, fewer-bytes k text)) ∙ ap (λ (x : ℕ). answerLine x (checked (withoutLine k text) .number) ++ listed (checked (withoutLine k text))) (l .allowed);
+      with-read = ran-text text few ∙ ap₂ (λ (x n : ℕ). answerLine x n ++ listingOf (checked text)) z (l .one-line-fewer);
+      without-read = ran-text (withoutLine k text) (omega (arith, fewer-bytes k text)) ∙ ap (λ (x : ℕ). answerLine x (checked (withoutLine k text) .number) ++ listingOf (checked (withoutLine k text))) (l .allowed);
       same-listing = l .same-listing;
     }
