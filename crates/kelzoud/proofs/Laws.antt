@@ -15,9 +15,9 @@ use Rattle.trace.specs.Run.{Ran, ranOf}
 use Rattle.kelzoud.specs.Interface.{packedRan, packedRun}
 
 -- what a run answers and leaves, taken apart
-pub ran-parts : (a : RunAnswer) (h : State) (x : Ran State) → ranOf a h ≡ x → (h .table ≡ x .state .table) × (h .tally ≡ x .state .tally) × (packedRun a ≡ packedRan x)
-ran-parts (Allowed k) h x e = (ap (λ (r : Ran State). r .state .table) e, ap (λ (r : Ran State). r .state .tally) e, ap packedRan e)
-ran-parts (Refused r k) h x e = (ap (λ (r : Ran State). r .state .table) e, ap (λ (r : Ran State). r .state .tally) e, ap packedRan e)
+pub ran-parts : (a : RunAnswer) (h : State) (x : Ran State) → ranOf a h ≡ x → (h ≡ x .state) × (packedRun a ≡ packedRan x)
+ran-parts (Allowed k) h x e = (ap (λ (r : Ran State). r .state) e, ap packedRan e)
+ran-parts (Refused r k) h x e = (ap (λ (r : Ran State). r .state) e, ap packedRan e)
 
 -- the names that a line reads as
 pub record Counted (line : List ℕ) (n : ℕ) : Type 0 where

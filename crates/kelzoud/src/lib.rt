@@ -23,7 +23,7 @@ ghost use mathlib.Core.Path.{_≡_};
 ghost use mathlib.Core.Bool.{true};
 ghost use Rattle.kelzoud_events.specs.Interface.{packed, requestIn};
 ghost use Rattle.kelzoud.specs.Interface.{packedResult, packedRead, packedRan, spellingIn, eventAfter, groupAfter};
-ghost use Rattle.listing.specs.ReadInto.{answerInto, stateInto};
+ghost use Rattle.listing.specs.ReadInto.{target, answerInto, targetInto};
 ghost use Rattle.listing.specs.WriteListing.{listingWritten, listingStored};
 ghost use Rattle.sheet.specs.ReadSheet.{judgeText, sheetInto};
 ghost use Rattle.sheet.specs.WriteSheet.{writeSheet};
@@ -38,20 +38,22 @@ ghost use Rattle.trace.specs.Run;
 mod answers;
 mod requests;
 
-// A run of a text on the table and the tally that are lent, by the sheet that is lent, card 6's where no byte of one is.
+// A run of a text on the table, the bits and the tally that are lent, by the sheet that is lent, card 6's where no byte of one is.
 #[no_mangle]
 pub extern "C" fn kz_abi_run(
     table: &mut [Row],
+    bits: &mut [u8],
     tally: &mut [u32; 7],
     sheet: &[u8],
     text: &[u8],
 ) -> u64
-    ensures { λ r. ⌜ (rowsIn (now (table .exit)) ≡ Run.run (sheetLent (now (sheet .entry))) (lent (now (table .entry)) (now (tally .entry))) (now (text .entry)) .state .table)
-        × (tallyIn (now (tally .exit)) ≡ Run.run (sheetLent (now (sheet .entry))) (lent (now (table .entry)) (now (tally .entry))) (now (text .entry)) .state .tally)
-        × (r ≡ packedRan (Run.run (sheetLent (now (sheet .entry))) (lent (now (table .entry)) (now (tally .entry))) (now (text .entry)))) ⌝ }
+    ensures { λ r. ⌜ (rowsIn (now (table .exit)) ≡ Run.run (sheetLent (now (sheet .entry))) (lent (now (table .entry)) (now (bits .entry)) (now (tally .entry))) (now (text .entry)) .state .memory .table)
+        × (now (bits .exit) ≡ Run.run (sheetLent (now (sheet .entry))) (lent (now (table .entry)) (now (bits .entry)) (now (tally .entry))) (now (text .entry)) .state .memory .bits)
+        × (tallyIn (now (tally .exit)) ≡ Run.run (sheetLent (now (sheet .entry))) (lent (now (table .entry)) (now (bits .entry)) (now (tally .entry))) (now (text .entry)) .state .tally)
+        × (r ≡ packedRan (Run.run (sheetLent (now (sheet .entry))) (lent (now (table .entry)) (now (bits .entry)) (now (tally .entry))) (now (text .entry)))) ⌝ }
 {
     let bytes = sheet_lent(sheet);
-    let answer = run(table, tally, &bytes, text);
+    let answer = run(table, bits, tally, &bytes, text);
     packed_run(answer)
 }
 
@@ -97,9 +99,9 @@ pub extern "C" fn kz_abi_write_listing(table: &[Row], issued: u32, out: &mut [u8
 // Reads a listing into the table and the tally that are lent.
 #[no_mangle]
 pub extern "C" fn kz_abi_read_listing(table: &mut [Row], tally: &mut [u32; 7], text: &[u8]) -> u64
-    ensures { λ r. ⌜ (rowsIn (now (table .exit)) ≡ stateInto (now (text .entry)) (lent (now (table .entry)) (now (tally .entry))) .table)
-        × (tallyIn (now (tally .exit)) ≡ stateInto (now (text .entry)) (lent (now (table .entry)) (now (tally .entry))) .tally)
-        × (r ≡ packedRead (answerInto (now (text .entry)) (lent (now (table .entry)) (now (tally .entry))))) ⌝ }
+    ensures { λ r. ⌜ (rowsIn (now (table .exit)) ≡ targetInto (now (text .entry)) (target (now (table .entry)) (now (tally .entry))) .table)
+        × (tallyIn (now (tally .exit)) ≡ targetInto (now (text .entry)) (target (now (table .entry)) (now (tally .entry))) .tally)
+        × (r ≡ packedRead (answerInto (now (text .entry)) (target (now (table .entry)) (now (tally .entry))))) ⌝ }
 {
     let answer = read_listing(text, table, tally);
     packed_listing(answer)

@@ -48,7 +48,7 @@ fn spelling_of(event: Event) -> Spelling
 {
     match event {
         Event::Create(new, _, _) => spelling_with(new),
-        Event::Borrow(new, _, _, _, _) => spelling_with(new),
+        Event::Borrow(new, _, _, _) => spelling_with(new),
         Event::Read(_, _) => Spelling::Plain,
         Event::Write(_, _) => Spelling::Plain,
         Event::Drop(_) => Spelling::Plain,

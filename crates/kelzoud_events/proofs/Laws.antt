@@ -1,7 +1,7 @@
--- The numbers of answers: no refusal's is above 15, and a refusal and a value that are packed into one number are found again in it. And the
+-- The numbers of answers: no refusal's is above 16, and a refusal and a value that are packed into one number are found again in it. And the
 -- words of a request stand for it.
 -- Assumes nothing.
-use mathlib.Core.Path.{_≡_, refl, ap, _∙_}
+use mathlib.Core.Path.{_≡_, refl, sym, ap, ap₂, _∙_}
 use mathlib.Core.List.{List, _++_}
 use Prim.Native.Nat.{ℕ, _+_, _*_, _/_, _%_, _<_, _≤_}
 use native.Mathlib.Nat.{min-eq-left, min-eq-right, div-eq-of-lt, mod-eq-of-lt, mul-add-div-right, mul-add-mod-self-right, add-zero}
@@ -9,16 +9,18 @@ use native.Mathlib.Omega.{arith}
 use lib.ListN.{length, length-append}
 use lib.Seq.{take-append-seam}
 use borrow.Author.Tests.{lt-ltb, le-leb}
+use Rattle.model.specs.declared.Terms.{Terms}
+use Rattle.model.specs.declared.NewName.{NewName}
 use Rattle.model.specs.declared.NewName.the-variants.{Unwritten, Written}
 use Rattle.model.specs.declared.Event.{Event}
 use Rattle.model.specs.declared.Event.the-variants.{Create, Borrow, Read, Write, Drop}
 use Rattle.model.specs.Requests.{Single, Group}
 use Rattle.model.specs.declared.Refusal.{Refusal}
-use Rattle.model.specs.declared.Refusal.the-variants.{Disordered, Misspelt, IllegalSpan, Unissued, Ended, OutsideSpan, ReadOnly, TooDeep, NamesSpent, TableFull, BufferTooShort, Misnamed, Misgrouped, GivenTwice, NotGiven}
+use Rattle.model.specs.declared.Refusal.the-variants.{Disordered, Misspelt, IllegalSpan, Unissued, Ended, OutsideSpan, ReadOnly, TooDeep, NamesSpent, TableFull, BufferTooShort, Misnamed, Misgrouped, GivenTwice, NotGiven, NotWritten}
 use Rattle.model.specs.Answers.{number}
-use Rattle.kelzoud_events.specs.Interface.{packed, eventWith, eventIn, askedIn, part, requestIn, wordsOf}
+use Rattle.kelzoud_events.specs.Interface.{packed, rootTerms, childTerms, eventWith, rightIn, kindIn, freshIn, newIn, eventIn, askedIn, part, requestIn, namedOf, writtenOf, wordsOf}
 
-pub number-small : (r : Refusal) → number r ≤ 15
+pub number-small : (r : Refusal) → number r ≤ 16
 number-small Disordered = omega arith
 number-small Misspelt = omega arith
 number-small IllegalSpan = omega arith
@@ -34,6 +36,7 @@ number-small Misnamed = omega arith
 number-small Misgrouped = omega arith
 number-small GivenTwice = omega arith
 number-small NotGiven = omega arith
+number-small NotWritten = omega arith
 
 -- ---- a refusal and a value in one number
 
@@ -72,20 +75,29 @@ packed-large k n h = rw (min-eq-right h)
 
 -- ---- the words of a request stand for it
 
--- a right and a kind are bytes
-abbrev pub BytesFit : Event → Type 0
-BytesFit (Create w s r) = r < 256
-BytesFit (Borrow w n s r kind) = (r < 256) × (kind < 256)
-BytesFit (Read n s) = Unit {0}
-BytesFit (Write n s) = Unit {0}
-BytesFit (Drop n) = Unit {0}
+new-back : (w : NewName) → newIn (namedOf w) (writtenOf w) ≡ w
+new-back Unwritten = refl
+new-back (Written x) = refl
 
-pub event-back : (e : Event) (names : List ℕ) → BytesFit e → requestIn (wordsOf (Single e)) names ≡ Single e
+-- what a create and a borrow give is in their words: bytes, with no kind of a create, and no mark of a borrow
+abbrev pub InWords : Event → Type 0
+InWords (Create w s r) = (r .right < 256) × (r .kind ≡ 0) × (r .fresh < 256)
+InWords (Borrow w n s r) = (r .right < 256) × (r .kind < 256) × (r .fresh ≡ 0)
+InWords (Read n s) = Unit {0}
+InWords (Write n s) = Unit {0}
+InWords (Drop n) = Unit {0}
+
+module _ (r : Terms) (h : r .right < 256) where
+  root-back : r .kind ≡ 0 → r .fresh < 256 → rootTerms (record { right = rightIn (r .right); kind = 0; fresh = freshIn (r .fresh) }) ≡ r
+  root-back k f = rw (lt-ltb (r .right) 256 h, lt-ltb (r .fresh) 256 f) (ap (λ (x : ℕ). record { right = r .right; kind = x; fresh = r .fresh }) (sym k))
+
+  child-back : r .kind < 256 → r .fresh ≡ 0 → childTerms (record { right = rightIn (r .right); kind = kindIn (r .kind); fresh = 0 }) ≡ r
+  child-back k f = rw (lt-ltb (r .right) 256 h, lt-ltb (r .kind) 256 k) (ap (λ (x : ℕ). record { right = r .right; kind = r .kind; fresh = x }) (sym f))
+
+pub event-back : (e : Event) (names : List ℕ) → InWords e → requestIn (wordsOf (Single e)) names ≡ Single e
 unfolding wordsOf askedIn eventIn eventWith
-event-back (Create Unwritten s r) names h = rw (lt-ltb r 256 h)
-event-back (Create (Written x) s r) names h = rw (lt-ltb r 256 h)
-event-back (Borrow Unwritten n s r kind) names h = rw (lt-ltb r 256 (h .0), lt-ltb kind 256 (h .1))
-event-back (Borrow (Written x) n s r kind) names h = rw (lt-ltb r 256 (h .0), lt-ltb kind 256 (h .1))
+event-back (Create w s r) names h = ap₂ (λ (x : NewName) (t : Terms). Single (Create x s t)) (new-back w) (root-back r (h .0) (h .1) (h .2))
+event-back (Borrow w n s r) names h = ap₂ (λ (x : NewName) (t : Terms). Single (Borrow x n s t)) (new-back w) (child-back r (h .0) (h .1) (h .2))
 event-back (Read n s) names h = refl
 event-back (Write n s) names h = refl
 event-back (Drop n) names h = refl

@@ -1,7 +1,7 @@
--- Requests in turn: one more, and all of them on a table out of order.
+-- Requests in turn: one more, and all of them on what is refused as it is lent.
 -- Assumes nothing.
 use mathlib.Core.Path.{_≡_, refl, sym, ap, ap₂, _∙_}
-use mathlib.Core.Bool.{false}
+use mathlib.Core.Bool.{true}
 use mathlib.Core.List.{List, [], _∷_, _++_, map, map-append}
 use Prim.Native.Nat.{ℕ, suc, _+_, _≤_, _<_}
 use native.Mathlib.Numerals.{add-one}
@@ -10,17 +10,16 @@ use lib.ListN.{length, getD, set, drop, replicate, length-map, length-replicate,
 use lib.Seq.{take-suc, drop-cons, set-at, append-snoc, length-take-le}
 use Rattle.model.specs.Requests.{Request}
 use Rattle.model.specs.Lists.{final, answers}
-use Rattle.model.specs.Table.{inOrder}
-use Rattle.model.specs.Refusals.{refusals, judge}
+use Rattle.model.specs.Refusals.{unfit, refusals, judge}
 use Rattle.model.specs.declared.Sheet.{Sheet}
-use Rattle.model.specs.Step.{State, after, answer}
+use Rattle.model.specs.Step.{State, view, after, answer}
 use Rattle.model.proofs.Offered.{final-append, answers-append}
 use Rattle.table.specs.Words.{rowsIn}
 use Rattle.table.specs.Lent.{tallyIn, lent}
 use Rattle.kelzoud_events.specs.Interface.{answerWords, requestIn}
 use Rattle.kelzoud_events.specs.Batch.{requestsIn, afterFirst, answersFirst, Ran}
 
--- the answer that refuses a table out of order
+-- refusal 1
 abbrev pub one : List ℕ
 one = 1 ∷ 0 ∷ []
 
@@ -69,8 +68,8 @@ module _ (names : List ℕ) where
           ∙ map-append answerWords (answers (after sheet) answer h (requestsIn ws names i)) (answer (afterFirst sheet h ws names i) q ∷ [])
           ∙ ap (λ (x : List ℕ). A ++ (x ∷ [])) (ap (λ (x : State). answerWords (answer x q)) (sym (r .state)) ∙ sym b)
 
--- on a table out of order
-module _ (sheet : Sheet) (h : State) (d : inOrder (h .table) (h .tally .issued) ≡ false) where
+-- on a table out of order, or with another number of bytes
+module _ (sheet : Sheet) (h : State) (d : unfit (view h) ≡ true) where
   unchanged : (q : Request) → (after sheet h q ≡ h) × (answerWords (answer h q) ≡ one)
   unfolding judge refusals after answer
   unchanged q = (rw d, rw d)
@@ -92,8 +91,10 @@ pub refused-more : (i : ℕ) (out out₁ : List (List ℕ)) → i < length out �
 refused-more i out out₁ l q = put (replicate i one) out out₁ i one (length-replicate {A = List ℕ} i one) l q ∙ ap (λ (x : List (List ℕ)). x ++ drop (i + 1) out) (replicate-append-replicate {A = List ℕ} i 1 one)
 
 -- what a batch leaves, part by part
-abbrev pub Left : Sheet → State → List (List ℕ) → List ℕ → ℕ → List (List ℕ) → List (List ℕ) → List ℕ → List (List ℕ) → Type 0
-Left sheet h ws names m out ws′ w′ out′ = (rowsIn ws′ ≡ afterFirst sheet h ws names m .table) × (tallyIn w′ ≡ afterFirst sheet h ws names m .tally) × (out′ ≡ answersFirst sheet h ws names m out)
+abbrev pub Left : Sheet → State → List (List ℕ) → List ℕ → ℕ → List (List ℕ) → List (List ℕ) → List ℕ → List ℕ → List (List ℕ) → Type 0
+Left sheet h events names m out ws′ bs′ w′ out′ =
+    (rowsIn ws′ ≡ afterFirst sheet h events names m .memory .table) × (bs′ ≡ afterFirst sheet h events names m .memory .bits) × (tallyIn w′ ≡ afterFirst sheet h events names m .tally) × (out′ ≡ answersFirst sheet h events names m out)
 
-pub left : (sheet : Sheet) (h : State) (ws : List (List ℕ)) (names : List ℕ) (m : ℕ) (out ws′ : List (List ℕ)) (w′ : List ℕ) (out′ : List (List ℕ)) → Ran sheet h ws names m out (lent ws′ w′) out′ → Left sheet h ws names m out ws′ w′ out′
-left sheet h ws names m out ws′ w′ out′ r = (ap (λ (x : State). x .table) (r .state), ap (λ (x : State). x .tally) (r .state), r .said)
+pub left : (sheet : Sheet) (h : State) (events : List (List ℕ)) (names : List ℕ) (m : ℕ) (out ws′ : List (List ℕ)) (bs′ w′ : List ℕ) (out′ : List (List ℕ)) → Ran sheet h events names m out (lent ws′ bs′ w′) out′
+    → Left sheet h events names m out ws′ bs′ w′ out′
+left sheet h events names m out ws′ bs′ w′ out′ r = (ap (λ (x : State). x .memory .table) (r .state), ap (λ (x : State). x .memory .bits) (r .state), ap (λ (x : State). x .tally) (r .state), r .said)

@@ -1,4 +1,4 @@
--- A batch: the events that are lent, in turn, on the table and the tally that are lent.
+-- A batch: the events that are lent, in turn, on the table, the bits and the tally that are lent.
 -- Assumes nothing.
 use Prim.Native.Nat.{ℕ, min}
 use mathlib.Core.Path.{_≡_}

@@ -1,5 +1,5 @@
--- Events and answers as the numbers that pass between this library and C. An event is eight words of 32 bits: its kind, name, start, length and
--- right, whether its new name is written out, that name, and the kind of capability that a borrow makes.
+-- Events and answers as the numbers that pass between this library and C. An event is nine words of 32 bits: its kind, name, start, length and
+-- right, whether its new name is written out, that name, the kind of capability that a borrow makes, and whether what a create makes is marked.
 -- Assumes nothing.
 use Prim.Native.Nat.{ℕ, _+_, _*_, min}
 use mathlib.Core.Bool.{cond}
@@ -8,6 +8,7 @@ use lib.Dec.{eqb, leb, ltb}
 use lib.ListN.{length, getD, take, drop}
 use Rattle.model.specs.declared.Name.{Name}
 use Rattle.model.specs.declared.Span.{Span}
+use Rattle.model.specs.declared.Terms.{Terms}
 use Rattle.model.specs.declared.NewName.{NewName}
 use Rattle.model.specs.declared.NewName.the-variants.{Unwritten, Written}
 use Rattle.model.specs.declared.Event.{Event}
@@ -39,16 +40,26 @@ nameOf n = record { 0 = n }
 abbrev pub spanOf : ℕ → ℕ → Span
 spanOf start length = record { start = record { 0 = start }; length = length }
 
+-- of what is given, what a create has: it makes references; and what a borrow has: its mark is its parent's
+abbrev pub rootTerms : Terms → Terms
+rootTerms given = record { right = given .right; kind = 0; fresh = given .fresh }
+
+abbrev pub childTerms : Terms → Terms
+childTerms given = record { right = given .right; kind = given .kind; fresh = 0 }
+
+abbrev pub noTerms : Terms
+noTerms = record { right = 0; kind = 0; fresh = 0 }
+
 -- "An event is one of five kinds": create, borrow, read, write and drop are 1 to 5. The values that a kind lacks are not looked at.
 -- Another kind stands for an event that is refused 2 in itself, a create whose right is 0.
-unfoldable pub eventWith : NewName → ℕ → ℕ → ℕ → ℕ → ℕ → ℕ → Event
-eventWith new kind name start length right capKind =
-    cond (eqb kind 1) (Create new (spanOf start length) right)
-    (cond (eqb kind 2) (Borrow new (nameOf name) (spanOf start length) right capKind)
+unfoldable pub eventWith : NewName → ℕ → ℕ → ℕ → ℕ → Terms → Event
+eventWith new kind name start length given =
+    cond (eqb kind 1) (Create new (spanOf start length) (rootTerms given))
+    (cond (eqb kind 2) (Borrow new (nameOf name) (spanOf start length) (childTerms given))
     (cond (eqb kind 3) (Read (nameOf name) (spanOf start length))
     (cond (eqb kind 4) (Write (nameOf name) (spanOf start length))
     (cond (eqb kind 5) (Drop (nameOf name))
-    (Create new (spanOf start length) 0)))))
+    (Create new (spanOf start length) noTerms)))))
 
 -- a right above 255 is no right, as 0 is none
 abbrev pub rightIn : ℕ → ℕ
@@ -58,13 +69,21 @@ rightIn right = cond (ltb right 256) right 0
 abbrev pub kindIn : ℕ → ℕ
 kindIn kind = cond (ltb kind 256) kind 3
 
+-- a mark above 255 is none, as 2 is none
+abbrev pub freshIn : ℕ → ℕ
+freshIn fresh = cond (ltb fresh 256) fresh 2
+
 -- the new name is written out where `named` is not 0
 abbrev pub newIn : ℕ → ℕ → NewName
 newIn named written = cond (eqb named 0) Unwritten (Written (nameOf written))
 
+-- what its words give
+abbrev pub termsIn : List ℕ → Terms
+termsIn w = record { right = rightIn (getD w 4 0); kind = kindIn (getD w 7 0); fresh = freshIn (getD w 8 0) }
+
 -- the event that its words are
 unfoldable pub eventIn : List ℕ → Event
-eventIn w = eventWith (newIn (getD w 5 0) (getD w 6 0)) (getD w 0 0) (getD w 1 0) (getD w 2 0) (getD w 3 0) (rightIn (getD w 4 0)) (kindIn (getD w 7 0))
+eventIn w = eventWith (newIn (getD w 5 0) (getD w 6 0)) (getD w 0 0) (getD w 1 0) (getD w 2 0) (getD w 3 0) (termsIn w)
 
 -- kind 6 asks that names are dropped together
 unfoldable pub askedIn : List ℕ → Asked
@@ -94,13 +113,13 @@ writtenOf (Written x) = x .0
 
 -- the words of so many names dropped together, which are the first in a list of their own
 abbrev pub groupWords : ℕ → List ℕ
-groupWords count = 6 ∷ 0 ∷ 0 ∷ count ∷ 0 ∷ 0 ∷ 0 ∷ 0 ∷ []
+groupWords count = 6 ∷ 0 ∷ 0 ∷ count ∷ 0 ∷ 0 ∷ 0 ∷ 0 ∷ 0 ∷ []
 
 -- the words of a request, with 0 where its kind has no such value
 unfoldable pub wordsOf : Request → List ℕ
-wordsOf (Single (Create w s r)) = 1 ∷ 0 ∷ s .start .0 ∷ s .length ∷ r ∷ namedOf w ∷ writtenOf w ∷ 0 ∷ []
-wordsOf (Single (Borrow w n s r kind)) = 2 ∷ n .0 ∷ s .start .0 ∷ s .length ∷ r ∷ namedOf w ∷ writtenOf w ∷ kind ∷ []
-wordsOf (Single (Read n s)) = 3 ∷ n .0 ∷ s .start .0 ∷ s .length ∷ 0 ∷ 0 ∷ 0 ∷ 0 ∷ []
-wordsOf (Single (Write n s)) = 4 ∷ n .0 ∷ s .start .0 ∷ s .length ∷ 0 ∷ 0 ∷ 0 ∷ 0 ∷ []
-wordsOf (Single (Drop n)) = 5 ∷ n .0 ∷ 0 ∷ 0 ∷ 0 ∷ 0 ∷ 0 ∷ 0 ∷ []
+wordsOf (Single (Create w s r)) = 1 ∷ 0 ∷ s .start .0 ∷ s .length ∷ r .right ∷ namedOf w ∷ writtenOf w ∷ 0 ∷ r .fresh ∷ []
+wordsOf (Single (Borrow w n s r)) = 2 ∷ n .0 ∷ s .start .0 ∷ s .length ∷ r .right ∷ namedOf w ∷ writtenOf w ∷ r .kind ∷ 0 ∷ []
+wordsOf (Single (Read n s)) = 3 ∷ n .0 ∷ s .start .0 ∷ s .length ∷ 0 ∷ 0 ∷ 0 ∷ 0 ∷ 0 ∷ []
+wordsOf (Single (Write n s)) = 4 ∷ n .0 ∷ s .start .0 ∷ s .length ∷ 0 ∷ 0 ∷ 0 ∷ 0 ∷ 0 ∷ []
+wordsOf (Single (Drop n)) = 5 ∷ n .0 ∷ 0 ∷ 0 ∷ 0 ∷ 0 ∷ 0 ∷ 0 ∷ 0 ∷ []
 wordsOf (Group names) = groupWords (length names)

@@ -14,7 +14,7 @@ fn least(a: u64, b: u64) -> u64
 }
 
 pub fn pack(number: u64, value: u64) -> u64
-    requires { ⌜ number ≤ 15 ⌝ }
+    requires { ⌜ number ≤ 16 ⌝ }
     ensures { λ r. ⌜ r ≡ packed number value ⌝ }
 {
     number * 4294967296 + least(value, 4294967295)

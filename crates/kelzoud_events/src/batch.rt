@@ -20,7 +20,7 @@ ghost use Rattle.model.specs.Answers.{verdictOf};
 ghost use Rattle.table.specs.Words.{rowsIn};
 ghost use Rattle.table.specs.Sheets.{sheetIn};
 ghost use Rattle.table.specs.Lent.{tallyIn, lent};
-ghost use Rattle.table.specs.Known.{Known};
+ghost use Rattle.table.specs.Known.{Known, Sized};
 ghost use Rattle.rules.specs.Steps.{lends};
 ghost use Rattle.kelzoud_events.specs.Interface.{answerWords};
 ghost use Rattle.kelzoud_events.specs.Batch.{taken, afterAll, answersAll, Ran};
@@ -52,6 +52,7 @@ fn take_turns(
     table: &mut [Row],
     live: usize,
     places: &mut [u16; 1024],
+    bits: &mut [u8],
     t: Tally,
     sheet: &SheetBytes,
     events: &[Words],
@@ -59,8 +60,8 @@ fn take_turns(
     m: usize,
     answers: &mut [[u32; 2]],
 ) -> Tally
-    requires { ⌜ Known (now table) live (t .issued) (now places) × (m ≤ length (now events)) × (m ≤ length (now answers)) ⌝ }
-    ensures { λ r. ⌜ Ran (sheetIn (now (sheet .entry))) (lends (rowsIn (now (table .entry))) t) (now (events .entry)) (now (names .entry)) m (now (answers .entry)) (lends (rowsIn (now (table .exit))) r) (now (answers .exit)) ⌝ }
+    requires { ⌜ Known (now table) live (t .issued) (now places) × Sized (now bits) × (m ≤ length (now events)) × (m ≤ length (now answers)) ⌝ }
+    ensures { λ r. ⌜ Ran (sheetIn (now (sheet .entry))) (lends (rowsIn (now (table .entry))) (now (bits .entry)) t) (now (events .entry)) (now (names .entry)) m (now (answers .entry)) (lends (rowsIn (now (table .exit))) (now (bits .exit)) r) (now (answers .exit)) ⌝ }
 {
     let mut tally = t;
     let mut alive = live;
@@ -69,7 +70,7 @@ fn take_turns(
         let words = words_at(events, i);
         let asked = asked_in(words);
         let part = names_in(words, names);
-        let p = take(table, alive, places, tally, sheet, asked, part);
+        let p = take(table, alive, places, bits, tally, sheet, asked, part);
         let outcome = p.outcome;
         let after = outcome.tally;
         let answer = outcome.answer;
@@ -93,21 +94,20 @@ fn refuse_all(answers: &mut [[u32; 2]], m: usize)
     }
 }
 
-// As many events as there are answers for, on the table and the tally that are lent, by a sheet; the answer is how many.
-pub fn apply_all(
+// The first m events on any table, with as many bits as there are to be: on a table out of order each is refusal 1.
+fn apply_sized(
     table: &mut [Row],
+    bits: &mut [u8],
     tally: &mut [u32; 7],
     sheet: &SheetBytes,
     events: &[Words],
     names: &[u32],
+    m: usize,
     answers: &mut [[u32; 2]],
-) -> usize
-    ensures { λ r. ⌜ (rowsIn (now (table .exit)) ≡ afterAll (sheetIn (now (sheet .entry))) (lent (now (table .entry)) (now (tally .entry))) (now (events .entry)) (now (names .entry)) (now (answers .entry)) .table)
-        × (tallyIn (now (tally .exit)) ≡ afterAll (sheetIn (now (sheet .entry))) (lent (now (table .entry)) (now (tally .entry))) (now (events .entry)) (now (names .entry)) (now (answers .entry)) .tally)
-        × (now (answers .exit) ≡ answersAll (sheetIn (now (sheet .entry))) (lent (now (table .entry)) (now (tally .entry))) (now (events .entry)) (now (names .entry)) (now (answers .entry)))
-        × (r ≡ taken (now (events .entry)) (now (answers .entry))) ⌝ }
+)
+    requires { ⌜ Sized (now bits) × (m ≤ length (now events)) × (m ≤ length (now answers)) ⌝ }
+    ensures { λ _. ⌜ Ran (sheetIn (now (sheet .entry))) (lent (now (table .entry)) (now (bits .entry)) (now (tally .entry))) (now (events .entry)) (now (names .entry)) m (now (answers .entry)) (lent (now (table .exit)) (now (bits .exit)) (now (tally .exit))) (now (answers .exit)) ⌝ }
 {
-    let m = fewer(events.len(), answers.len());
     let t = tally_at(tally);
     let mut places = [0u16; 1024];
     let found = look_at(table, t.issued, &mut places);
@@ -117,6 +117,7 @@ pub fn apply_all(
                 table,
                 live,
                 &mut places,
+                bits,
                 t,
                 sheet,
                 events,
@@ -125,11 +126,32 @@ pub fn apply_all(
                 answers,
             );
             set_tally(tally, after);
-            m
         }
-        Look::Disordered => {
-            refuse_all(answers, m);
-            m
-        }
+        Look::Disordered => refuse_all(answers, m),
     }
+}
+
+// As many events as there are answers for, on the table, the bits and the tally that are lent, by a sheet; the answer is how many.
+pub fn apply_all(
+    table: &mut [Row],
+    bits: &mut [u8],
+    tally: &mut [u32; 7],
+    sheet: &SheetBytes,
+    events: &[Words],
+    names: &[u32],
+    answers: &mut [[u32; 2]],
+) -> usize
+    ensures { λ r. ⌜ (rowsIn (now (table .exit)) ≡ afterAll (sheetIn (now (sheet .entry))) (lent (now (table .entry)) (now (bits .entry)) (now (tally .entry))) (now (events .entry)) (now (names .entry)) (now (answers .entry)) .memory .table)
+        × (now (bits .exit) ≡ afterAll (sheetIn (now (sheet .entry))) (lent (now (table .entry)) (now (bits .entry)) (now (tally .entry))) (now (events .entry)) (now (names .entry)) (now (answers .entry)) .memory .bits)
+        × (tallyIn (now (tally .exit)) ≡ afterAll (sheetIn (now (sheet .entry))) (lent (now (table .entry)) (now (bits .entry)) (now (tally .entry))) (now (events .entry)) (now (names .entry)) (now (answers .entry)) .tally)
+        × (now (answers .exit) ≡ answersAll (sheetIn (now (sheet .entry))) (lent (now (table .entry)) (now (bits .entry)) (now (tally .entry))) (now (events .entry)) (now (names .entry)) (now (answers .entry)))
+        × (r ≡ taken (now (events .entry)) (now (answers .entry))) ⌝ }
+{
+    let m = fewer(events.len(), answers.len());
+    if bits.len() != 8192 {
+        refuse_all(answers, m);
+        return m;
+    }
+    apply_sized(table, bits, tally, sheet, events, names, m, answers);
+    m
 }

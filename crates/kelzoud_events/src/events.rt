@@ -5,12 +5,13 @@ use model::Event;
 use model::Name;
 use model::NewName;
 use model::Span;
+use model::Terms;
 ghost use mathlib.Core.Path.{_≡_};
 ghost use Rattle.model.specs.Requests.{Single};
-ghost use Rattle.kelzoud_events.specs.Interface.{eventWith, rightIn, kindIn, newIn, eventIn, askedIn, part, namesIn, namedOf, writtenOf, groupWords, wordsOf};
+ghost use Rattle.kelzoud_events.specs.Interface.{eventWith, rightIn, kindIn, freshIn, newIn, eventIn, askedIn, part, namesIn, namedOf, writtenOf, groupWords, wordsOf};
 
 // How many words an event has.
-const WORDS: usize = 8;
+const WORDS: usize = 9;
 
 // The words of an event.
 pub type Words = [u32; WORDS];
@@ -19,26 +20,28 @@ pub type Words = [u32; WORDS];
 const DROP_ALL: u32 = 6;
 
 // The event of a kind, 1 to 5, with a new name that is written or not. Another kind is an event that is refused 2 in itself.
-fn event_with(
-    new: NewName,
-    kind: u32,
-    name: u32,
-    start: u32,
-    length: u32,
-    right: u8,
-    cap_kind: u8,
-) -> Event
-    ensures { λ r. ⌜ r ≡ eventWith new kind name start length right «cap_kind» ⌝ }
+fn event_with(new: NewName, kind: u32, name: u32, start: u32, length: u32, given: Terms) -> Event
+    ensures { λ r. ⌜ r ≡ eventWith new kind name start length given ⌝ }
 {
     let span = Span {
         start: Addr(start),
         length,
     };
     if kind == 1 {
-        return Event::Create(new, span, right);
+        let terms = Terms {
+            right: given.right,
+            kind: 0,
+            fresh: given.fresh,
+        };
+        return Event::Create(new, span, terms);
     }
     if kind == 2 {
-        return Event::Borrow(new, Name(name), span, right, cap_kind);
+        let terms = Terms {
+            right: given.right,
+            kind: given.kind,
+            fresh: 0,
+        };
+        return Event::Borrow(new, Name(name), span, terms);
     }
     if kind == 3 {
         return Event::Read(Name(name), span);
@@ -49,7 +52,12 @@ fn event_with(
     if kind == 5 {
         return Event::Drop(Name(name));
     }
-    Event::Create(new, span, 0)
+    let none = Terms {
+        right: 0,
+        kind: 0,
+        fresh: 0,
+    };
+    Event::Create(new, span, none)
 }
 
 fn right_in(right: u32) -> u8
@@ -63,6 +71,13 @@ fn kind_in(kind: u32) -> u8
     ensures { λ r. ⌜ r ≡ kindIn kind ⌝ }
 {
     if kind < 256 { kind as u8 } else { 3 }
+}
+
+// The mark of what a create makes.
+fn fresh_in(fresh: u32) -> u8
+    ensures { λ r. ⌜ r ≡ freshIn fresh ⌝ }
+{
+    if fresh < 256 { fresh as u8 } else { 2 }
 }
 
 fn new_in(named: u32, written: u32) -> NewName
@@ -83,9 +98,12 @@ pub fn asked_in(w: Words) -> Asked
         return Asked::Group;
     }
     let new = new_in(w[5], w[6]);
-    let right = right_in(w[4]);
-    let cap_kind = kind_in(w[7]);
-    Asked::Single(event_with(new, w[0], w[1], w[2], w[3], right, cap_kind))
+    let given = Terms {
+        right: right_in(w[4]),
+        kind: kind_in(w[7]),
+        fresh: fresh_in(w[8]),
+    };
+    Asked::Single(event_with(new, w[0], w[1], w[2], w[3], given))
 }
 
 // A part of a list of names: none where it reaches past the end.
@@ -137,27 +155,29 @@ pub fn words_of(event: Event) -> Words
                 0,
                 s.start.0,
                 s.length,
-                r as u32,
+                r.right as u32,
                 named_of(w),
                 written_of(w),
                 0,
+                r.fresh as u32,
             ]
         }
-        Event::Borrow(w, n, s, r, kind) => {
+        Event::Borrow(w, n, s, r) => {
             [
                 2,
                 n.0,
                 s.start.0,
                 s.length,
-                r as u32,
+                r.right as u32,
                 named_of(w),
                 written_of(w),
-                kind as u32,
+                r.kind as u32,
+                0,
             ]
         }
-        Event::Read(n, s) => [3, n.0, s.start.0, s.length, 0, 0, 0, 0],
-        Event::Write(n, s) => [4, n.0, s.start.0, s.length, 0, 0, 0, 0],
-        Event::Drop(n) => [5, n.0, 0, 0, 0, 0, 0, 0],
+        Event::Read(n, s) => [3, n.0, s.start.0, s.length, 0, 0, 0, 0, 0],
+        Event::Write(n, s) => [4, n.0, s.start.0, s.length, 0, 0, 0, 0, 0],
+        Event::Drop(n) => [5, n.0, 0, 0, 0, 0, 0, 0, 0],
     }
 }
 
@@ -165,5 +185,5 @@ pub fn words_of(event: Event) -> Words
 pub fn group_words(count: u32) -> Words
     ensures { λ r. ⌜ r ≡ groupWords count ⌝ }
 {
-    [DROP_ALL, 0, 0, count, 0, 0, 0, 0]
+    [DROP_ALL, 0, 0, count, 0, 0, 0, 0, 0]
 }

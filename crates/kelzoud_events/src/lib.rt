@@ -18,24 +18,26 @@ pub mod answers;
 mod batch;
 pub mod events;
 
-// One event on the table and the tally that are lent, by the sheet that is lent, card 6's where no byte of one is. The names are those that it may point to.
+// One event on the table, the bits and the tally that are lent, by the sheet that is lent, card 6's where no byte of one is. The names are those that it may point to.
 #[no_mangle]
 pub extern "C" fn kz_abi_apply(
     table: &mut [Row],
+    bits: &mut [u8],
     tally: &mut [u32; 7],
     sheet: &[u8],
     event: &Words,
     names: &[u32],
 ) -> u64
-    ensures { λ r. ⌜ (rowsIn (now (table .exit)) ≡ Step.after (sheetLent (now (sheet .entry))) (lent (now (table .entry)) (now (tally .entry))) (requestIn (now (event .entry)) (now (names .entry))) .table)
-        × (tallyIn (now (tally .exit)) ≡ Step.after (sheetLent (now (sheet .entry))) (lent (now (table .entry)) (now (tally .entry))) (requestIn (now (event .entry)) (now (names .entry))) .tally)
-        × (r ≡ packedVerdict (Step.answer (lent (now (table .entry)) (now (tally .entry))) (requestIn (now (event .entry)) (now (names .entry))))) ⌝ }
+    ensures { λ r. ⌜ (rowsIn (now (table .exit)) ≡ Step.after (sheetLent (now (sheet .entry))) (lent (now (table .entry)) (now (bits .entry)) (now (tally .entry))) (requestIn (now (event .entry)) (now (names .entry))) .memory .table)
+        × (now (bits .exit) ≡ Step.after (sheetLent (now (sheet .entry))) (lent (now (table .entry)) (now (bits .entry)) (now (tally .entry))) (requestIn (now (event .entry)) (now (names .entry))) .memory .bits)
+        × (tallyIn (now (tally .exit)) ≡ Step.after (sheetLent (now (sheet .entry))) (lent (now (table .entry)) (now (bits .entry)) (now (tally .entry))) (requestIn (now (event .entry)) (now (names .entry))) .tally)
+        × (r ≡ packedVerdict (Step.answer (lent (now (table .entry)) (now (bits .entry)) (now (tally .entry))) (requestIn (now (event .entry)) (now (names .entry))))) ⌝ }
 {
     let words = *event;
     let asked = asked_in(words);
     let part = names_in(words, names);
     let bytes = sheet_lent(sheet);
-    let answer = apply(table, tally, &bytes, asked, part);
+    let answer = apply(table, bits, tally, &bytes, asked, part);
     packed_answer(answer)
 }
 
@@ -43,17 +45,19 @@ pub extern "C" fn kz_abi_apply(
 #[no_mangle]
 pub extern "C" fn kz_abi_apply_all(
     table: &mut [Row],
+    bits: &mut [u8],
     tally: &mut [u32; 7],
     sheet: &[u8],
     events: &[Words],
     names: &[u32],
     answers: &mut [[u32; 2]],
 ) -> usize
-    ensures { λ r. ⌜ (rowsIn (now (table .exit)) ≡ afterAll (sheetLent (now (sheet .entry))) (lent (now (table .entry)) (now (tally .entry))) (now (events .entry)) (now (names .entry)) (now (answers .entry)) .table)
-        × (tallyIn (now (tally .exit)) ≡ afterAll (sheetLent (now (sheet .entry))) (lent (now (table .entry)) (now (tally .entry))) (now (events .entry)) (now (names .entry)) (now (answers .entry)) .tally)
-        × (now (answers .exit) ≡ answersAll (sheetLent (now (sheet .entry))) (lent (now (table .entry)) (now (tally .entry))) (now (events .entry)) (now (names .entry)) (now (answers .entry)))
+    ensures { λ r. ⌜ (rowsIn (now (table .exit)) ≡ afterAll (sheetLent (now (sheet .entry))) (lent (now (table .entry)) (now (bits .entry)) (now (tally .entry))) (now (events .entry)) (now (names .entry)) (now (answers .entry)) .memory .table)
+        × (now (bits .exit) ≡ afterAll (sheetLent (now (sheet .entry))) (lent (now (table .entry)) (now (bits .entry)) (now (tally .entry))) (now (events .entry)) (now (names .entry)) (now (answers .entry)) .memory .bits)
+        × (tallyIn (now (tally .exit)) ≡ afterAll (sheetLent (now (sheet .entry))) (lent (now (table .entry)) (now (bits .entry)) (now (tally .entry))) (now (events .entry)) (now (names .entry)) (now (answers .entry)) .tally)
+        × (now (answers .exit) ≡ answersAll (sheetLent (now (sheet .entry))) (lent (now (table .entry)) (now (bits .entry)) (now (tally .entry))) (now (events .entry)) (now (names .entry)) (now (answers .entry)))
         × (r ≡ taken (now (events .entry)) (now (answers .entry))) ⌝ }
 {
     let bytes = sheet_lent(sheet);
-    batch::apply_all(table, tally, &bytes, events, names, answers)
+    batch::apply_all(table, bits, tally, &bytes, events, names, answers)
 }

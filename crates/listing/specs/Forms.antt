@@ -10,8 +10,8 @@ use Rattle.model.specs.declared.Cap.{Cap}
 use Rattle.text.specs.Class.{newline}
 use Rattle.text.specs.Line.{through, afterSpace}
 use Rattle.text.specs.Decimal.{numberOf}
-use Rattle.text.specs.Event.{kindWord}
-use Rattle.text.specs.Read.{rightOf, kindOf}
+use Rattle.text.specs.Event.{kindWord, freshWord}
+use Rattle.text.specs.Read.{rightOf, kindOf, freshAt}
 use Rattle.listing.specs.Sort.{sorted}
 
 -- what is left of the text, and the rows so far, the newest first
@@ -32,9 +32,16 @@ lengthText s = afterSpace (startText s)
 abbrev pub rightText : List ℕ → List ℕ
 rightText s = afterSpace (lengthText s)
 
--- what stands behind the two letters of the right, and behind the word of the kind that is found there
+-- how many bytes the kind's word has that is found behind the right, and the mark that is found behind the kind
+abbrev pub kindLength : List ℕ → ℕ
+kindLength s = length (kindWord (kindOf (rightText s)))
+
+abbrev pub markOf : List ℕ → ℕ
+markOf s = freshAt (rightText s) (3 + kindLength s)
+
+-- what stands behind the two letters of the right, and behind the words of the kind and of the mark
 abbrev pub childrenText : List ℕ → List ℕ
-childrenText s = drop (2 + length (kindWord (kindOf (rightText s)))) (rightText s)
+childrenText s = drop (2 + (kindLength s + length (freshWord (markOf s)))) (rightText s)
 
 -- the row that a form's words spell
 abbrev pub rowOf : List ℕ → ℕ → ℕ → Cap
@@ -46,6 +53,7 @@ rowOf s parent depth = record {
   right = rightOf (rightText s);
   depth = depth;
   kind = kindOf (rightText s);
+  fresh = markOf s;
 }
 
 -- a child follows: the depth ("to depth 64") and the table ("0 to 1,024 rows") allow one, and the text goes on with a space
@@ -56,7 +64,7 @@ abbrev pub childFollows : ℕ → Reading → Bool
 childFollows depth r = follows (r .rest) (length (r .rows)) depth
 
 -- "A form holding a run of forms":
--- a form is its row, the run of its children behind the right and the kind, and its closing bracket;
+-- a form is its row, the run of its children behind the right, the kind and the mark, and its closing bracket;
 -- a run is a form behind a space, and a run behind that, as long as one follows.
 -- k bounds the calls of the two: every k above twice the bytes that are left gives the same.
 unfoldable mutual

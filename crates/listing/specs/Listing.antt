@@ -1,6 +1,6 @@
 -- Document 01, "The bracket text": "A listing is `(issued N)`, then one line for each root by rising name: name, start, length, right, then
 -- its children by rising name, each in the same form inside its parent's brackets." Card 6: the kind is "written by a borrow as a last word
--- `raw` or `cell`, and in listings after the right".
+-- `raw` or `cell`, and in listings after the right". Card 9: the mark is written "in listings after the kind".
 -- Assumes nothing.
 use Prim.Native.Nat.{ℕ, suc, _+_}
 use mathlib.Core.Bool.{cond}
@@ -11,11 +11,12 @@ use Rattle.model.specs.declared.Cap.{Cap}
 use Rattle.model.specs.Table.{emptyRow, liveRows}
 use Rattle.table.specs.Rows.{nameAt}
 use Rattle.text.specs.Decimal.{decimal}
-use Rattle.text.specs.Event.{bytes, spaced, line, rightWord, kindWord}
+use Rattle.text.specs.Event.{bytes, spaced, line, rightWord, kindWord, freshWord}
 
--- "name, start, length, right", and the kind behind it: a capability's own pieces. A reference has no word of a kind.
+-- "name, start, length, right", the kind behind it, and the mark: a capability's own pieces. A reference has no word of a kind, and what is
+-- not marked no word of a mark.
 unfoldable pub pieces : Cap → List ℕ
-pieces c = decimal (c .name .0) ++ (spaced (c .start .0 ∷ c .length ∷ []) ++ (rightWord (c .right) ++ kindWord (c .kind)))
+pieces c = decimal (c .name .0) ++ (spaced (c .start .0 ∷ c .length ∷ []) ++ (rightWord (c .right) ++ (kindWord (c .kind) ++ freshWord (c .fresh))))
 
 -- a form: a capability's pieces and then its children, inside its brackets
 unfoldable pub form : Cap → List ℕ → List ℕ

@@ -49,7 +49,7 @@ fn last(text: &[u8], count: usize) -> &[u8]
     past(text, text.len() - count)
 }
 
-// The head of a form: its row, and how many bytes are left behind its right and its kind.
+// The head of a form: its row, and how many bytes are left behind its right, its kind and its mark.
 pub struct Head {
     pub row: Cap,
     pub left: usize,
@@ -68,6 +68,8 @@ fn head_of(text: &[u8], parent: u32, depth: u32) -> Head
     let length = numbers::read_word(length_text);
     let right_text = past(length_text, length.end);
     let kind = read::kind_of(right_text) as u32;
+    let past_kind = pieces::kind_length(kind);
+    let fresh = read::fresh_at(right_text, 3 + past_kind) as u32;
     let row = Cap {
         name: Name(name.value),
         parent: Name(parent),
@@ -76,8 +78,9 @@ fn head_of(text: &[u8], parent: u32, depth: u32) -> Head
         right: read::right_of(right_text) as u32,
         depth,
         kind,
+        fresh,
     };
-    let children = past(right_text, 2 + pieces::kind_length(kind));
+    let children = past(right_text, 2 + past_kind + pieces::fresh_length(fresh));
     Head {
         row,
         left: children.len(),

@@ -22,14 +22,13 @@ ghost use mathlib.Core.Logic.{_⊎_};
 ghost use Prim.Native.Nat.{_≤_};
 ghost use lib.ListN.{length};
 ghost use Rattle.table.specs.Words.{rowsIn};
-ghost use Rattle.table.specs.Lent.{lent};
 ghost use Rattle.text.specs.Read.{same};
 ghost use Rattle.listing.specs.First.{firstRows};
 ghost use Rattle.listing.specs.Links.{Live};
 ghost use Rattle.listing.specs.Listing.{listed};
 ghost use Rattle.listing.specs.Stored.{Stored};
 ghost use Rattle.listing.specs.ReadListing.{isListing, guessTable};
-ghost use Rattle.listing.specs.ReadInto.{withIssued, ReadsInto};
+ghost use Rattle.listing.specs.ReadInto.{withIssued, target, ReadsInto};
 
 // What reading answers: the issued number, or refusal 1, 2 or 10. `listingAnswer` of specs/ gives document 01's number and values.
 pub enum ListingRead {
@@ -67,9 +66,9 @@ fn same_bytes(a: &[u8], b: &[u8]) -> bool
 }
 
 // Whether the first n rows, all of them live, have a text as their listing. It is written into a buffer that the text fits into, or
-// else every listing.
+// else every listing of a table in order.
 fn writes_back(text: &[u8], table: &[Row], n: usize, issued: u32, out: &mut [u8]) -> bool
-    requires { ⌜ (n ≤ 1024) × Live (firstRows (now table) n) × ((length (now text) ≤ length (now out)) ⊎ (45056 ≤ length (now out))) × (n ≤ length (now table)) ⌝ }
+    requires { ⌜ (n ≤ 1024) × Live (firstRows (now table) n) × ((length (now text) ≤ length (now out)) ⊎ (39949 ≤ length (now out))) × (n ≤ length (now table)) × (issued ≤ 1000000) ⌝ }
     ensures { λ r. ⌜ r ≡ same (now (text .entry)) (listed (firstRows (now (table .entry)) n) issued) ⌝ }
 {
     let written = writing::write_rows(table, n, issued, out);
@@ -92,7 +91,7 @@ fn is_listing(text: &[u8], table: &[Row], issued: u32) -> bool
         let mut short = [0u8; 2048];
         return writes_back(text, table, live, issued, &mut short);
     }
-    let mut long = [0u8; 45056];
+    let mut long = [0u8; 39949];
     writes_back(text, table, live, issued, &mut long)
 }
 
@@ -127,7 +126,7 @@ fn with_issued(tally: Tally, issued: u32) -> Tally
 // Reads a listing into the table and the tally that are lent: the issued number, or refusal 1, 2 or 10. What is read is put together
 // and judged in a table of its own, so that a refusal changes nothing; a listing that is read fixes the whole lent table.
 pub fn read_listing(text: &[u8], table: &mut [Row], tally: &mut [u32; 7]) -> ListingRead
-    ensures { λ r. ⌜ ReadsInto (now (text .entry)) (lent (now (table .entry)) (now (tally .entry))) (lent (now (table .exit)) (now (tally .exit))) r ⌝ }
+    ensures { λ r. ⌜ ReadsInto (now (text .entry)) (target (now (table .entry)) (now (tally .entry))) (target (now (table .exit)) (now (tally .exit))) r ⌝ }
 {
     if 1024 < table.len() {
         return ListingRead::Refused(Refusal::Disordered);

@@ -23,16 +23,17 @@ ghost use Rattle.listing.specs.WriteListing.{WritesListing};
 
 // How many bytes a capability adds to a listing.
 fn form_length(c: Cap) -> usize
-    ensures { λ r. ⌜ (r ≡ formLength c) × (r ≤ 43) ⌝ }
+    ensures { λ r. ⌜ (r ≡ formLength c) × (r ≤ 49) ⌝ }
 {
     let numbers = [c.name.0, c.start.0, c.length];
-    5 + pieces::spaced_length(&numbers) + pieces::kind_length(c.kind)
+    let words = pieces::kind_length(c.kind) + pieces::fresh_length(c.fresh);
+    5 + pieces::spaced_length(&numbers) + words
 }
 
 // How many bytes the first n capabilities add.
 fn forms_length(table: &[Row], n: usize) -> usize
     requires { ⌜ (n ≤ 1024) × (n ≤ length (now table)) ⌝ }
-    ensures { λ r. ⌜ (r ≡ formsLength (firstRows (now (table .entry)) n)) × (r ≤ 43 * n) ⌝ }
+    ensures { λ r. ⌜ (r ≡ formsLength (firstRows (now (table .entry)) n)) × (r ≤ 49 * n) ⌝ }
 {
     let mut total = 0;
     let mut i = 0;
@@ -52,7 +53,8 @@ fn put_pieces(out: &mut [u8], at: usize, c: Cap) -> usize
     let past_name = numbers::put_number(out, at, c.name.0);
     let past_numbers = pieces::put_numbers(out, past_name, &numbers);
     let past_right = pieces::put_right(out, past_numbers, c.right);
-    pieces::put_kind(out, past_right, c.kind)
+    let past_kind = pieces::put_kind(out, past_right, c.kind);
+    pieces::put_fresh(out, past_kind, c.fresh)
 }
 
 // Writes the form of row i, with its children, and returns the position behind it. It calls itself for each depth, at most 64 deep.
@@ -126,10 +128,10 @@ fn put_listing(table: &[Row], n: usize, issued: u32, out: &mut [u8]) -> usize
     put_roots(table, n, &first, &next, out, past_line)
 }
 
-// How many bytes the listing of the first n rows has: at most 44 for each of 1,024.
+// How many bytes the listing of the first n rows has.
 fn listing_length(table: &[Row], n: usize, issued: u32) -> usize
     requires { ⌜ (n ≤ 1024) × Live (firstRows (now table) n) × (n ≤ length (now table)) ⌝ }
-    ensures { λ r. ⌜ (r ≡ length (listed (firstRows (now (table .entry)) n) issued)) × (r ≤ 45056) ⌝ }
+    ensures { λ r. ⌜ r ≡ length (listed (firstRows (now (table .entry)) n) issued) ⌝ }
 {
     let numbers = [issued];
     9 + pieces::spaced_length(&numbers) + forms_length(table, n)
@@ -138,7 +140,7 @@ fn listing_length(table: &[Row], n: usize, issued: u32) -> usize
 // Writes the listing of the first n rows, all of them live, where it fits. Internal: it asks for rows in order.
 pub(crate) fn write_rows(table: &[Row], n: usize, issued: u32, out: &mut [u8]) -> Written
     requires { ⌜ (n ≤ 1024) × Live (firstRows (now table) n) × (n ≤ length (now table)) ⌝ }
-    ensures { λ r. ⌜ Writes true (listed (firstRows (now (table .entry)) n) issued) (now (out .entry)) (now (out .exit)) r × (length (listed (firstRows (now (table .entry)) n) issued) ≤ 45056) ⌝ }
+    ensures { λ r. ⌜ Writes true (listed (firstRows (now (table .entry)) n) issued) (now (out .entry)) (now (out .exit)) r ⌝ }
 {
     if out.len() < listing_length(table, n, issued) {
         return Written::Refused(Refusal::BufferTooShort);

@@ -6,28 +6,26 @@ use mathlib.Core.Bool.{Bool, true, false, not, cond, _&&_, _||_, or-false, and-t
 use mathlib.Core.List.{List, [], _∷_}
 use Prim.Native.Nat.{ℕ, suc, _<_, _≤_}
 use native.Mathlib.Omega.{arith}
-use native.Mathlib.Nat.{sub-zero}
-use lib.ListN.{length-replicate}
 use lib.Dec.{eqb, ltb, leb}
-use borrow.Author.Tests.{eqb-true, ne-eqb, le-ltb, leb-true}
+use borrow.Author.Tests.{eqb-true, ne-eqb, le-ltb}
 use Rattle.model.specs.declared.Name.{Name}
 use Rattle.model.specs.declared.Span.{Span}
-use Rattle.model.specs.declared.Tally.{Tally}
 use Rattle.model.specs.declared.Event.the-variants.{Read, Write}
 use Rattle.model.specs.Requests.{Request, Single}
 use Rattle.model.specs.declared.Sheet.{Sheet}
 use Rattle.model.specs.Lists.{filter, any}
 use Rattle.model.specs.Derivation.{Derivation}
 use Rattle.model.specs.Values.{legal, inside}
-use Rattle.model.specs.Table.{emptyRow, span, named, liveRows, lentTable, lookup, inOrder}
-use Rattle.model.specs.Refusals.{disordered, refusals, judge}
-use Rattle.model.specs.Step.{initial, stateAfter, isAllowed}
+use Rattle.model.specs.Table.{span, derivation, isMarked, named, liveRows, lookup, inOrder}
+use Rattle.model.specs.Refusals.{notWritten, refusals, judge}
+use Rattle.model.specs.Step.{State, isAllowed}
+use Rattle.model.specs.Bits.{spanWritten}
 use Rattle.model.specs.Table
 use Rattle.model.specs.Refusals
 use Rattle.model.specs.Effects
 use Rattle.model.specs.Counts
 use Rattle.model.specs.Step
-use Rattle.model.specs.History.{Note, New, Accessed, Dropped, derivedBy, derivations, makes, later, ends, hits, lives, writable, covers, mayRead, mayWrite, rowOf, alive, rows, table, view, emptyHistory, historyAfter}
+use Rattle.model.specs.History.{Note, New, Accessed, Dropped, derivedBy, derivations, makes, later, ends, hits, lives, writable, notedAs, covers, written, isReadable, mayUse, mayRead, mayWrite, rowOf, alive, rows, table, view}
 use Rattle.model.specs.History
 use Rattle.model.proofs.Lists.{All, All-of, All-map, test, clash, unless, and-both, any-map, any-kept, first-zero}
 use Rattle.model.proofs.Ancestries.{Falling, same, not-zero, below-differs}
@@ -35,8 +33,7 @@ use Rattle.model.proofs.Notes.{falling, rows-all}
 use Rattle.model.proofs.Agree.{present-lives}
 use Rattle.model.proofs.Lent.{lookup-found, lookup-named}
 use Rattle.model.proofs.Judged.{numbered}
-use Rattle.model.proofs.Match.{Kept, Match, live-rows, run, at-first, same-judge}
-use Rattle.model.proofs.Order.{order-fresh, order-final}
+use Rattle.model.proofs.Match.{Kept, Match, live-rows, rows-fit, same-judge}
 
 -- ---- derivations are found by their names
 
@@ -56,22 +53,22 @@ derivedBy-between n (b ∷ B) x f h = go (test (eqb x (b .name))) (derivedBy-bet
     go (inr t) ih = let r = ih (rw t at h) in omega arith
 
 -- the one derivation of a name
-module _ (s : Span) where
-  abbrev Covering : List Derivation → ℕ → Bool
-  Covering B x = any (λ d. eqb x (d .name) && inside s (d .span)) B
+module _ (p : Derivation → Bool) where
+  abbrev Passing : List Derivation → ℕ → Bool
+  Passing B x = any (λ d. eqb x (d .name) && p d) B
 
-  covering-none : (n : ℕ) (B : List Derivation) (x : ℕ) → Falling n B → n ≤ x → Covering B x ≡ false
-  covering-none n [] x f l = refl
-  covering-none n (b ∷ B) x f l = rw (ne-eqb x (b .name) (λ (e : x ≡ b .name). omega arith)) (covering-none (b .name) B x (f .2) (omega arith))
+  passing-none : (n : ℕ) (B : List Derivation) (x : ℕ) → Falling n B → n ≤ x → Passing B x ≡ false
+  passing-none n [] x f l = refl
+  passing-none n (b ∷ B) x f l = rw (ne-eqb x (b .name) (λ (e : x ≡ b .name). omega arith)) (passing-none (b .name) B x (f .2) (omega arith))
 
-  covering : (n : ℕ) (B : List Derivation) → Falling n B → All (λ b. (b .name < n) × (inside s (b .span) ≡ Covering B (b .name))) B
-  covering n [] f = tt
-  covering n (c ∷ B) f = (
-    (f .0, sym (rw (same (c .name), covering-none (c .name) B (c .name) (f .2) (omega arith)) (or-false (inside s (c .span))))),
-    All-map _ _ up B (covering (c .name) B (f .2)),
+  passing : (n : ℕ) (B : List Derivation) → Falling n B → All (λ b. (b .name < n) × (p b ≡ Passing B (b .name))) B
+  passing n [] f = tt
+  passing n (c ∷ B) f = (
+    (f .0, sym (rw (same (c .name), passing-none (c .name) B (c .name) (f .2) (omega arith)) (or-false (p c)))),
+    All-map _ _ up B (passing (c .name) B (f .2)),
   )
     where
-      up : (b : Derivation) → (b .name < c .name) × (inside s (b .span) ≡ Covering B (b .name)) → (b .name < n) × (inside s (b .span) ≡ Covering (c ∷ B) (b .name))
+      up : (b : Derivation) → (b .name < c .name) × (p b ≡ Passing B (b .name)) → (b .name < n) × (p b ≡ Passing (c ∷ B) (b .name))
       up b (l, e) = (omega arith, rw (below-differs l) e)
 
 module _ (sheet : Sheet) where
@@ -98,14 +95,18 @@ module _ (sheet : Sheet) where
         go (inl t) = lives-present x t ∙ sym t
         go (inr f) = unless (any (named x) (rows sheet notes)) (λ e. clash (present-lives sheet (suc i) notes (k .sound) (k .closed) x e) f) ∙ sym f
 
-    -- the row of a living name has its noted span, and its right
-    covers-found : (x : ℕ) (s : Span) → lives sheet notes x ≡ true → inside s (span (lookup x (liveRows (table sheet n notes)))) ≡ covers notes x s
-    unfolding rowOf covers
-    covers-found x s h =
+    -- the row of a living name has what is noted of it, its span among that, and its right
+    noted-found : (p : Derivation → Bool) (x : ℕ) → lives sheet notes x ≡ true → p (derivation (lookup x (liveRows (table sheet n notes)))) ≡ notedAs p notes x
+    unfolding rowOf
+    noted-found p x h =
         rw (live-rows sheet n i notes k)
-        (lookup-found (λ c. inside s (span c) ≡ Covering s (derivations notes) (c .name .0)) x (rows sheet notes) (lives-present x h)
-        (rows-all sheet notes (λ c. inside s (span c) ≡ Covering s (derivations notes) (c .name .0)) (All-map _ _ (λ b q e. q .1) (derivations notes) (covering s (suc i) (derivations notes) B-falls)))
-        ∙ ap (Covering s (derivations notes)) (lookup-named x (rows sheet notes) (lives-present x h)))
+        (lookup-found (λ c. p (derivation c) ≡ Passing p (derivations notes) (c .name .0)) x (rows sheet notes) (lives-present x h)
+        (rows-all sheet notes (λ c. p (derivation c) ≡ Passing p (derivations notes) (c .name .0)) (All-map _ _ (λ b q e. q .1) (derivations notes) (passing p (suc i) (derivations notes) B-falls)))
+        ∙ ap (Passing p (derivations notes)) (lookup-named x (rows sheet notes) (lives-present x h)))
+
+    covers-found : (x : ℕ) (s : Span) → lives sheet notes x ≡ true → inside s (span (lookup x (liveRows (table sheet n notes)))) ≡ covers notes x s
+    unfolding covers
+    covers-found x s = noted-found (λ d. inside s (d .span)) x
 
     right-found : (x : ℕ) → lives sheet notes x ≡ true → lookup x (liveRows (table sheet n notes)) .right ≡ cond (writable sheet notes x) 2 1
     unfolding rowOf
@@ -119,16 +120,27 @@ module _ (sheet : Sheet) where
     given-passes x h = let p = lives-given x h in rw (not-zero (p .0)) (le-ltb i x (omega arith))
 
     reads : inOrder (table sheet n notes) i ≡ true → (u : Name) (s : Span) → eqb (judge (view sheet n notes i) (Single (Read u s))) 0 ≡ mayRead sheet notes (u .0) s
-    unfolding judge refusals mayRead
+    unfolding judge refusals notWritten mayUse mayRead
     reads o u s = first-zero (refusals (view sheet n notes i) (Single (Read u s))) (numbered (view sheet n notes i) (Single (Read u s))) ∙ rw (o, present (u .0)) (go (test (lives sheet notes (u .0))))
       where
+        row : Derivation
+        row = derivation (lookup (u .0) (liveRows (table sheet n notes)))
+
+        all-written : Bool
+        all-written = spanWritten (written notes) s
+
+        unwritten : (m w : Bool) → not (m && not w) ≡ not m || w
+        unwritten true w = Bool·not-not w
+        unwritten false w = refl
+
         go : (lives sheet notes (u .0) ≡ true) ⊎ (lives sheet notes (u .0) ≡ false)
-            → not (not (legal s)) && (not (eqb (u .0) 0 || ltb i (u .0)) && (not (not (lives sheet notes (u .0))) && (not (not (inside s (span (lookup (u .0) (liveRows (table sheet n notes)))))) && true))) ≡ legal s && covers notes (u .0) s && lives sheet notes (u .0)
-        go (inl t) = rw (given-passes (u .0) t, covers-found (u .0) s t, t) (simp (Bool·not-not, and-true))
+            → not (not (legal s)) && (not (eqb (u .0) 0 || ltb i (u .0)) && (not (not (lives sheet notes (u .0))) && (not (not (inside s (row .span))) && (not (isMarked row && not all-written) && true))))
+            ≡ legal s && covers notes (u .0) s && lives sheet notes (u .0) && notedAs (isReadable notes s) notes (u .0)
+        go (inl t) = rw (unwritten (isMarked row) all-written, given-passes (u .0) t, covers-found (u .0) s t, noted-found (isReadable notes s) (u .0) t, t) (simp (Bool·not-not, and-true, and-assoc))
         go (inr f) = rw f (simp and-false)
 
     writes : inOrder (table sheet n notes) i ≡ true → (u : Name) (s : Span) → eqb (judge (view sheet n notes i) (Single (Write u s))) 0 ≡ mayWrite sheet notes (u .0) s
-    unfolding judge refusals mayRead mayWrite
+    unfolding judge refusals mayUse mayWrite
     writes o u s = first-zero (refusals (view sheet n notes i) (Single (Write u s))) (numbered (view sheet n notes i) (Single (Write u s))) ∙ rw (o, present (u .0)) (go (test (lives sheet notes (u .0))))
       where
         rw-right : (w : Bool) → not (ltb (cond w 2 1) 2) ≡ w
@@ -141,48 +153,33 @@ module _ (sheet : Sheet) where
         go (inl t) = rw (given-passes (u .0) t, covers-found (u .0) s t, right-found (u .0) t, rw-right (writable sheet notes (u .0)), t) (simp (Bool·not-not, and-true, and-assoc))
         go (inr f) = rw f (simp and-false)
 
-  -- ---- above 1,024 rows every event is refused, and nothing is noted
+  -- ---- above 1,024 rows every request is refused, and nothing is noted
 
-  module _ (n : ℕ) (l : leb n 1024 ≡ false) where
-    refused-all : (q : Request) → judge (view sheet n [] 0) q ≡ 1
-    unfolding judge refusals inOrder lentTable rows derivations
-    refused-all q = go (rw (sub-zero n, length-replicate n emptyRow, l))
-      where
-        go : disordered (table sheet n []) 0 ≡ true → judge (view sheet n [] 0) q ≡ 1
-        go d = rw d
-
-    untold : (qs : List Request) → historyAfter sheet n qs ≡ emptyHistory
-    unfolding History.after
-    untold [] = refl
-    untold (q ∷ qs) = rw (refused-all q) (untold qs)
+  too-many : (n i : ℕ) (notes : List Note) → Kept sheet n i notes → leb n 1024 ≡ false → (q : Request) → judge (view sheet n notes i) q ≡ 1
+  unfolding judge refusals inOrder
+  too-many n i notes k f q = rw (rows-fit sheet n i notes k, f)
 
   -- no access goes through a name that is not noted
   unnoted : (u : ℕ) (s : Span) → (mayRead sheet [] u s ≡ false) × (mayWrite sheet [] u s ≡ false)
-  unfolding mayRead mayWrite covers derivations
+  unfolding mayRead mayWrite mayUse covers derivations
   unnoted u s = (rw (and-false (legal s)), rw (and-false (legal s)))
 
-  -- ---- over every list of requests
+  -- ---- at every match of what is lent and the history
 
-  module _ (n : ℕ) (t : Tally) (z : t .issued ≡ 0) (qs : List Request) where
-    matched : Match sheet n (stateAfter sheet n t qs) (historyAfter sheet n qs)
-    matched = run sheet n qs (initial n t) emptyHistory (at-first sheet n t z) .1
-
-    history-in-order : n ≤ 1024 → inOrder (table sheet n (historyAfter sheet n qs .notes)) (historyAfter sheet n qs .count) ≡ true
-    history-in-order l = rw (matched .same-table, matched .same-issued) at (order-final sheet qs (initial n t) (order-fresh n t l z))
-
-    -- what is so of a history in order, and so where nothing is ever noted, is so
+  module _ (n : ℕ) (h : State) (H : History.History) (m : Match sheet n h H) where
+    -- what is so of a history in order, and so where nothing is noted, is so
     either-way : (q : Request) (may : List Note → Bool) → may [] ≡ false
-        → ((i : ℕ) (notes : List Note) → Kept sheet n i notes → inOrder (table sheet n notes) i ≡ true → eqb (judge (view sheet n notes i) q) 0 ≡ may notes)
-        → isAllowed (Step.answer (stateAfter sheet n t qs) q) ≡ may (historyAfter sheet n qs .notes)
+        → (inOrder (table sheet n (H .notes)) (H .count) ≡ true → eqb (judge (view sheet n (H .notes) (H .count)) q) 0 ≡ may (H .notes))
+        → isAllowed (Step.answer h q) ≡ may (H .notes)
     unfolding Step.answer
-    either-way q may none law = rw (same-judge sheet n (stateAfter sheet n t qs) (historyAfter sheet n qs) matched q) (go (test (leb n 1024)))
+    either-way q may none law = rw (same-judge sheet n h H m q) (go (test (leb n 1024)))
       where
-        go : (leb n 1024 ≡ true) ⊎ (leb n 1024 ≡ false) → eqb (judge (view sheet n (historyAfter sheet n qs .notes) (historyAfter sheet n qs .count)) q) 0 ≡ may (historyAfter sheet n qs .notes)
-        go (inl y) = law (historyAfter sheet n qs .count) (historyAfter sheet n qs .notes) (matched .kept) (history-in-order (leb-true n 1024 y))
-        go (inr f) = rw (untold n f qs, refused-all n f q) (sym none)
+        go : (leb n 1024 ≡ true) ⊎ (leb n 1024 ≡ false) → eqb (judge (view sheet n (H .notes) (H .count)) q) 0 ≡ may (H .notes)
+        go (inl y) = law (m .memory .is-ordered y)
+        go (inr f) = rw (too-many n (H .count) (H .notes) (m .memory .kept) f q) (sym (ap may (m .memory .nothing-noted f) ∙ none))
 
-    pub read-allowed : (u : Name) (s : Span) → isAllowed (Step.answer (stateAfter sheet n t qs) (Single (Read u s))) ≡ mayRead sheet (historyAfter sheet n qs .notes) (u .0) s
-    read-allowed u s = either-way (Single (Read u s)) (λ notes. mayRead sheet notes (u .0) s) (unnoted (u .0) s .0) (λ i notes k o. reads n i notes k o u s)
+    pub read-allowed : (u : Name) (s : Span) → isAllowed (Step.answer h (Single (Read u s))) ≡ mayRead sheet (H .notes) (u .0) s
+    read-allowed u s = either-way (Single (Read u s)) (λ notes. mayRead sheet notes (u .0) s) (unnoted (u .0) s .0) (λ o. reads n (H .count) (H .notes) (m .memory .kept) o u s)
 
-    pub write-allowed : (u : Name) (s : Span) → isAllowed (Step.answer (stateAfter sheet n t qs) (Single (Write u s))) ≡ mayWrite sheet (historyAfter sheet n qs .notes) (u .0) s
-    write-allowed u s = either-way (Single (Write u s)) (λ notes. mayWrite sheet notes (u .0) s) (unnoted (u .0) s .1) (λ i notes k o. writes n i notes k o u s)
+    pub write-allowed : (u : Name) (s : Span) → isAllowed (Step.answer h (Single (Write u s))) ≡ mayWrite sheet (H .notes) (u .0) s
+    write-allowed u s = either-way (Single (Write u s)) (λ notes. mayWrite sheet notes (u .0) s) (unnoted (u .0) s .1) (λ o. writes n (H .count) (H .notes) (m .memory .kept) o u s)

@@ -30,7 +30,7 @@ module _ (sheet : Sheet) (h : State) where
   counted : (c : Counter) → countIn c (h .tally) ≤ 4294967295 → (j : ℕ) (q : Request)
       → countIn c (outcome sheet j h q .tally) ≡ min (countIn c (h .tally) + cond (countsFor c q (verdict j (newName (h .tally .issued) q))) 1 0) 4294967295
   counted Creates l zero (Single (Create w s r)) = goes-up (h .tally .creates)
-  counted Creates l zero (Single (Borrow w u s r kind)) = stays (h .tally .creates) l
+  counted Creates l zero (Single (Borrow w u s r)) = stays (h .tally .creates) l
   counted Creates l zero (Single (Read u s)) = stays (h .tally .creates) l
   counted Creates l zero (Single (Write u s)) = stays (h .tally .creates) l
   counted Creates l zero (Single (Drop u)) = stays (h .tally .creates) l
@@ -38,7 +38,7 @@ module _ (sheet : Sheet) (h : State) where
   counted Creates l (suc zero) q = stays (h .tally .creates) l
   counted Creates l (suc (suc j)) q = rw (refused j) (stays (h .tally .creates) l)
   counted Borrows l zero (Single (Create w s r)) = stays (h .tally .borrows) l
-  counted Borrows l zero (Single (Borrow w u s r kind)) = goes-up (h .tally .borrows)
+  counted Borrows l zero (Single (Borrow w u s r)) = goes-up (h .tally .borrows)
   counted Borrows l zero (Single (Read u s)) = stays (h .tally .borrows) l
   counted Borrows l zero (Single (Write u s)) = stays (h .tally .borrows) l
   counted Borrows l zero (Single (Drop u)) = stays (h .tally .borrows) l
@@ -46,7 +46,7 @@ module _ (sheet : Sheet) (h : State) where
   counted Borrows l (suc zero) q = stays (h .tally .borrows) l
   counted Borrows l (suc (suc j)) q = rw (refused j) (stays (h .tally .borrows) l)
   counted Reads l zero (Single (Create w s r)) = stays (h .tally .reads) l
-  counted Reads l zero (Single (Borrow w u s r kind)) = stays (h .tally .reads) l
+  counted Reads l zero (Single (Borrow w u s r)) = stays (h .tally .reads) l
   counted Reads l zero (Single (Read u s)) = goes-up (h .tally .reads)
   counted Reads l zero (Single (Write u s)) = stays (h .tally .reads) l
   counted Reads l zero (Single (Drop u)) = stays (h .tally .reads) l
@@ -54,7 +54,7 @@ module _ (sheet : Sheet) (h : State) where
   counted Reads l (suc zero) q = stays (h .tally .reads) l
   counted Reads l (suc (suc j)) q = rw (refused j) (stays (h .tally .reads) l)
   counted Writes l zero (Single (Create w s r)) = stays (h .tally .writes) l
-  counted Writes l zero (Single (Borrow w u s r kind)) = stays (h .tally .writes) l
+  counted Writes l zero (Single (Borrow w u s r)) = stays (h .tally .writes) l
   counted Writes l zero (Single (Read u s)) = stays (h .tally .writes) l
   counted Writes l zero (Single (Write u s)) = goes-up (h .tally .writes)
   counted Writes l zero (Single (Drop u)) = stays (h .tally .writes) l
@@ -62,7 +62,7 @@ module _ (sheet : Sheet) (h : State) where
   counted Writes l (suc zero) q = stays (h .tally .writes) l
   counted Writes l (suc (suc j)) q = rw (refused j) (stays (h .tally .writes) l)
   counted Drops l zero (Single (Create w s r)) = stays (h .tally .drops) l
-  counted Drops l zero (Single (Borrow w u s r kind)) = stays (h .tally .drops) l
+  counted Drops l zero (Single (Borrow w u s r)) = stays (h .tally .drops) l
   counted Drops l zero (Single (Read u s)) = stays (h .tally .drops) l
   counted Drops l zero (Single (Write u s)) = stays (h .tally .drops) l
   counted Drops l zero (Single (Drop u)) = goes-up (h .tally .drops)
@@ -70,7 +70,7 @@ module _ (sheet : Sheet) (h : State) where
   counted Drops l (suc zero) q = stays (h .tally .drops) l
   counted Drops l (suc (suc j)) q = rw (refused j) (stays (h .tally .drops) l)
   counted Refusals l zero (Single (Create w s r)) = stays (h .tally .refused) l
-  counted Refusals l zero (Single (Borrow w u s r kind)) = stays (h .tally .refused) l
+  counted Refusals l zero (Single (Borrow w u s r)) = stays (h .tally .refused) l
   counted Refusals l zero (Single (Read u s)) = stays (h .tally .refused) l
   counted Refusals l zero (Single (Write u s)) = stays (h .tally .refused) l
   counted Refusals l zero (Single (Drop u)) = stays (h .tally .refused) l

@@ -10,44 +10,45 @@ use Rattle.model.specs.declared.Event.the-variants.{Create, Borrow, Read
 use Rattle.model.specs.Requests.{Request, Single, Group}
 use Rattle.model.specs.Effects.{newName}
 use Rattle.model.specs.Step.{State, isAllowed, initial, answer, stateAfter}
-use Rattle.model.specs.History.{Dropped, emptyHistory, historyAfter, notedName, notesOf}
+use Rattle.model.specs.History.{Note, Dropped, emptyHistory, historyAfter, notedName, notesOf}
 use Rattle.model.specs.Demand3.{Demand3}
 use Rattle.model.proofs.Match.{run, at-first}
 use Rattle.model.proofs.Allowed.{read-allowed, write-allowed}
 use Rattle.model.proofs.Lost.{never-lives-again, never-rw-again}
 use Rattle.model.proofs.Together.{group-singly, group-table, group-history}
 
-noted : (i : ℕ) (q : Request) → newName i q ≡ notedName (notesOf i q)
+noted : (notes : List Note) (i : ℕ) (q : Request) → newName i q ≡ notedName (notesOf notes i q)
 unfolding notesOf notedName
-noted i (Single (Create w s r)) = refl
-noted i (Single (Borrow w u s r kind)) = refl
-noted i (Single (Read u s)) = refl
-noted i (Single (Write u s)) = refl
-noted i (Single (Drop u)) = refl
-noted i (Group names) = sym (none names)
+noted notes i (Single (Create w s r)) = refl
+noted notes i (Single (Borrow w u s r)) = refl
+noted notes i (Single (Read u s)) = refl
+noted notes i (Single (Write u s)) = refl
+noted notes i (Single (Drop u)) = refl
+noted notes i (Group names) = sym (none names)
   where
     none : (names : List ℕ) → notedName (map Dropped names) ≡ 0
     none [] = refl
     none (u ∷ names) = none names
 
 -- an allowed request's answer has the name that its notes make
-named : (h : State) (i : ℕ) → h .tally .issued ≡ i → (q : Request) → isAllowed (answer h q) ≡ true → answer h q .name ≡ notedName (notesOf i q)
+named : (h : State) (notes : List Note) (i : ℕ) → h .tally .issued ≡ i → (q : Request) → isAllowed (answer h q) ≡ true → answer h q .name ≡ notedName (notesOf notes i q)
 unfolding answer
-named h i e q a = rw a (ap (λ (k : ℕ). newName k q) e ∙ noted i q)
+named h notes i e q a = rw a (ap (λ (k : ℕ). newName k q) e ∙ noted notes i q)
 
 pub demand3 : (sheet : Sheet) (n : ℕ) (t : Tally) → t .issued ≡ 0 → (qs : List Request) → Demand3 sheet n t qs
 demand3 sheet n t z qs =
     let r = run sheet n qs (initial n t) emptyHistory (at-first sheet n t z) in
     record {
       same-answers = r .0;
-      same-table = r .1 .same-table;
+      same-table = r .1 .memory .same-table;
       same-issued = r .1 .same-issued;
-      noted-names = named (stateAfter sheet n t qs) (historyAfter sheet n qs .count) (r .1 .same-issued);
+      same-bits = r .1 .memory .bits .told;
+      noted-names = named (stateAfter sheet n t qs) (historyAfter sheet n qs .notes) (historyAfter sheet n qs .count) (r .1 .same-issued);
       group-singly = λ names a. group-singly sheet (stateAfter sheet n t qs) names a .each-allowed;
       group-table = group-table sheet (stateAfter sheet n t qs);
       group-history = group-history sheet n (stateAfter sheet n t qs) (historyAfter sheet n qs) (r .1);
-      reads = read-allowed sheet n t z qs;
-      writes = write-allowed sheet n t z qs;
+      reads = read-allowed sheet n (stateAfter sheet n t qs) (historyAfter sheet n qs) (r .1);
+      writes = write-allowed sheet n (stateAfter sheet n t qs) (historyAfter sheet n qs) (r .1);
       life-stays-lost = λ x. never-lives-again sheet n x qs;
       rw-stays-lost = λ x. never-rw-again sheet n x qs;
     }

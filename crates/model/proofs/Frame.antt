@@ -22,10 +22,10 @@ module _ (sheet : Sheet) (h : State) (q : Request) where
   pub disordered-keeps : answer h q .refusal ≡ 1 → after sheet h q ≡ h
   disordered-keeps e = after-number 1 e
 
-  -- A refused request leaves the table unchanged: of names dropped together "either all are dropped or none".
-  pub refused-table : (k : ℕ) → answer h q .refusal ≡ suc k → after sheet h q .table ≡ h .table
-  refused-table zero e = ap (λ (s : State). s .table) (after-number 1 e)
-  refused-table (suc k) e = ap (λ (s : State). s .table) (after-number (suc (suc k)) e)
+  -- A refused request leaves the table and the bits unchanged: of names dropped together "either all are dropped or none".
+  pub refused-memory : (k : ℕ) → answer h q .refusal ≡ suc k → after sheet h q .memory ≡ h .memory
+  refused-memory zero e = ap (λ (s : State). s .memory) (after-number 1 e)
+  refused-memory (suc k) e = ap (λ (s : State). s .memory) (after-number (suc (suc k)) e)
 
   -- A refusal other than 1 raises only the refused count, once, short of its ceiling.
   pub refused-tally : (k : ℕ) → answer h q .refusal ≡ suc (suc k) → after sheet h q .tally ≡ countRefused (h .tally)

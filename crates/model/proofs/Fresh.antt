@@ -9,6 +9,7 @@ use lib.Dec.{eqb}
 use borrow.Author.Tests.{ne-eqb, not-true}
 use Rattle.model.specs.declared.Span.{Span}
 use Rattle.model.specs.declared.Cap.{Cap}
+use Rattle.model.specs.declared.Terms.{Terms}
 use Rattle.model.specs.declared.NewName.{NewName}
 use Rattle.model.specs.declared.Event.the-variants.{Create}
 use Rattle.model.specs.Requests.{Single}
@@ -71,28 +72,28 @@ revoke-past ends lowers c rows e l = rw (e, l)
 
 -- ---- a create on rows in order
 
-module _ (sheet : Sheet) (issued : ℕ) (rows : List Cap) (n : Named rows) (h : rowsInOrder (suc issued) rows ≡ true) (w : NewName) (s : Span) (r : ℕ) where
+module _ (sheet : Sheet) (issued : ℕ) (rows : List Cap) (n : Named rows) (h : rowsInOrder (suc issued) rows ≡ true) (w : NewName) (s : Span) (r : Terms) where
   abbrev taken : (Effect → Bool) → ℕ → Bool
   taken is x = strangerTakes sheet is s (ancestry (derivations rows) x)
 
   -- It takes what a stranger's write takes, with subtrees, and leaves the others as they are.
-  pub create-rows : rowsAfter sheet issued rows (Single (Create w s r)) ≡ row (root issued s) r 1 ∷ revoke (taken isEnd) (taken isLower) rows
+  pub create-rows : rowsAfter sheet issued rows (Single (Create w s r)) ≡ row (root issued s r) (r .right) 1 ∷ revoke (taken isEnd) (taken isLower) rows
   unfolding rowsAfter revoke afterAccess struck
-  create-rows = ap {B = List Cap} (λ l. row (root issued s) r 1 ∷ l) (
+  create-rows = ap {B = List Cap} (λ l. row (root issued s r) (r .right) 1 ∷ l) (
       taken-cong (struck sheet isEnd Writing (derivations rows) (suc issued) s) (struck sheet isLower Writing (derivations rows) (suc issued) s) (taken isEnd) (taken isLower) rows
       (All-of _ (λ c. rw (no-ancestry-above (suc issued) rows n h (suc issued) (omega arith)) (outside-takes sheet isEnd refl s (ancestry (derivations rows) (c .name .0)), outside-takes sheet isLower refl s (ancestry (derivations rows) (c .name .0)))) rows))
 
   -- It is a write from outside every subtree but its own: a write through the new row, once it stands, leaves the same.
-  pub create-written : afterAccess sheet Writing (suc issued) s (row (root issued s) r 1 ∷ rows) ≡ rowsAfter sheet issued rows (Single (Create w s r))
+  pub create-written : afterAccess sheet Writing (suc issued) s (row (root issued s r) (r .right) 1 ∷ rows) ≡ rowsAfter sheet issued rows (Single (Create w s r))
   unfolding rowsAfter revoke afterAccess struck
   create-written =
-      revoke-past (takes isEnd) (takes isLower) (row new r 1) rows (user-spared sheet isEnd refl Writing s user) (user-spared sheet isLower refl Writing s user)
-      ∙ ap {B = List Cap} (λ l. row new r 1 ∷ l)
+      revoke-past (takes isEnd) (takes isLower) (row new (r .right) 1) rows (user-spared sheet isEnd refl Writing s user) (user-spared sheet isLower refl Writing s user)
+      ∙ ap {B = List Cap} (λ l. row new (r .right) 1 ∷ l)
       (taken-cong (takes isEnd) (takes isLower) (struck sheet isEnd Writing (derivations rows) (suc issued) s) (struck sheet isLower Writing (derivations rows) (suc issued) s) rows
       (All-map _ _ (λ c q. (older isEnd (c .name .0) (q .0), older isLower (c .name .0) (q .0))) rows (lookup-each (suc issued) rows h)))
     where
       new : Derivation
-      new = root issued s
+      new = root issued s r
 
       user : List Derivation
       user = ancestry (new ∷ derivations rows) (suc issued)
@@ -135,11 +136,11 @@ module _ (sheet : Sheet) (issued : ℕ) (rows : List Cap) (n : Named rows) (h : 
       apart c p = ne-eqb x (c .name .0) (λ (q : x ≡ c .name .0). clash (ap (taken isEnd) (sym q) ∙ e) (not-true (taken isEnd (c .name .0)) p))
 
   -- A create of length 0 takes nothing.
-  pub create-nothing : s .length ≡ 0 → rowsAfter sheet issued rows (Single (Create w s r)) ≡ row (root issued s) r 1 ∷ rows
+  pub create-nothing : s .length ≡ 0 → rowsAfter sheet issued rows (Single (Create w s r)) ≡ row (root issued s r) (r .right) 1 ∷ rows
   unfolding revoke
   create-nothing z =
       create-rows
-      ∙ ap {B = List Cap} (λ l. row (root issued s) r 1 ∷ l)
+      ∙ ap {B = List Cap} (λ l. row (root issued s r) (r .right) 1 ∷ l)
       (taken-cong (taken isEnd) (taken isLower) (λ x. false) (λ x. false) rows (All-of _ (λ c. (none isEnd (ancestry (derivations rows) (c .name .0)), none isLower (ancestry (derivations rows) (c .name .0)))) rows)
       ∙ map-id _
       ∙ filter-all (λ c. true) rows (All-of _ (λ c. refl) rows))
@@ -167,12 +168,12 @@ pub fresh-lowers : (s : Span) (x : List Derivation) → strangerTakes sheet6 isL
 fresh-lowers s [] = refl
 fresh-lowers s (d ∷ above) = rw (stranger-ends (d .kind), and-false (touches s (d .span))) (fresh-lowers s above)
 
-pub fresh-rows : (issued : ℕ) (rows : List Cap) → Named rows → rowsInOrder (suc issued) rows ≡ true → (w : NewName) (s : Span) (r : ℕ)
-    → rowsAfter sheet6 issued rows (Single (Create w s r)) ≡ row (root issued s) r 1 ∷ filter (λ c. not (touchesAny s (ancestry (derivations rows) (c .name .0)))) rows
+pub fresh-rows : (issued : ℕ) (rows : List Cap) → Named rows → rowsInOrder (suc issued) rows ≡ true → (w : NewName) (s : Span) (r : Terms)
+    → rowsAfter sheet6 issued rows (Single (Create w s r)) ≡ row (root issued s r) (r .right) 1 ∷ filter (λ c. not (touchesAny s (ancestry (derivations rows) (c .name .0)))) rows
 unfolding revoke
 fresh-rows issued rows n h w s r =
     create-rows sheet6 issued rows n h w s r
-    ∙ ap {B = List Cap} (λ l. row (root issued s) r 1 ∷ l)
+    ∙ ap {B = List Cap} (λ l. row (root issued s r) (r .right) 1 ∷ l)
     (taken-cong _ _ (λ x. touchesAny s (ancestry (derivations rows) x)) (λ x. false) rows
     (All-of _ (λ c. (fresh-ends s (ancestry (derivations rows) (c .name .0)), fresh-lowers s (ancestry (derivations rows) (c .name .0)))) rows)
     ∙ map-id _)

@@ -30,7 +30,7 @@ judged-gives : (sheet : Sheet) (h : State) (q : Request) (j : ℕ) → judge (vi
     → Gives (h .tally .issued) (verdict j (newName (h .tally .issued) q) .name) (outcome sheet j h q .tally .issued)
 unfolding refusals
 judged-gives sheet h (Single (Create w s r)) zero e = next refl refl (leb-false 1000000 (h .tally .issued) (allowed (view h) (Single (Create w s r)) e 9))
-judged-gives sheet h (Single (Borrow w u s r kind)) zero e = next refl refl (leb-false 1000000 (h .tally .issued) (allowed (view h) (Single (Borrow w u s r kind)) e 9))
+judged-gives sheet h (Single (Borrow w u s r)) zero e = next refl refl (leb-false 1000000 (h .tally .issued) (allowed (view h) (Single (Borrow w u s r)) e 9))
 judged-gives sheet h (Single (Read u s)) zero e = none refl refl
 judged-gives sheet h (Single (Write u s)) zero e = none refl refl
 judged-gives sheet h (Single (Drop u)) zero e = none refl refl

@@ -10,8 +10,9 @@ mod Named
 mod Precedence
 mod Frame
 mod Counted
-mod Match
+mod Bits
 mod Order
+mod Match
 mod Allowed
 mod Lost
 mod Traces

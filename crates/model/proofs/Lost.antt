@@ -23,14 +23,14 @@ floors n [] = n
 floors n (w ∷ notes) = floors (floor n w) notes
 
 -- a name given out is below the floor of each later note
-floors-next : (i : ℕ) (q : Request) {x : ℕ} → x < suc i → x < floors (suc (issuedAfter i q)) (notesOf i q)
+floors-next : (notes : List Note) (i : ℕ) (q : Request) {x : ℕ} → x < suc i → x < floors (suc (issuedAfter i q)) (notesOf notes i q)
 unfolding notesOf
-floors-next i (Single (Create w s r)) l = l
-floors-next i (Single (Borrow w u s r kind)) l = l
-floors-next i (Single (Read u s)) l = l
-floors-next i (Single (Write u s)) l = l
-floors-next i (Single (Drop u)) l = l
-floors-next i (Group names) {x} l = dropped names
+floors-next notes i (Single (Create w s r)) l = l
+floors-next notes i (Single (Borrow w u s r)) l = l
+floors-next notes i (Single (Read u s)) l = l
+floors-next notes i (Single (Write u s)) l = l
+floors-next notes i (Single (Drop u)) l = l
+floors-next notes i (Group names) {x} l = dropped names
   where
     dropped : (names : List ℕ) → x < floors (suc i) (map Dropped names)
     dropped [] = l
@@ -80,7 +80,7 @@ module _ (sheet : Sheet) where
         below (w ∷ later) m s l = omega (arith, floor-below m w (s .0), below later (floor m w) (s .2) l)
 
     had-outcome : (H : History) (q : Request) → Kept sheet n (H .count) (H .notes) → x < suc (H .count) → (j : ℕ) → judge (view sheet n (H .notes) (H .count)) q ≡ j → has (outcome j H q .notes) ≡ true → has (H .notes) ≡ true
-    had-outcome H q k l zero z h = had-noted (suc (issuedAfter (H .count) q)) (notesOf (H .count) q) (H .notes) (kept-next sheet n (H .count) (H .notes) k q z .sound) (floors-next (H .count) q l) h
+    had-outcome H q k l zero z h = had-noted (suc (issuedAfter (H .count) q)) (notesOf (H .notes) (H .count) q) (H .notes) (kept-next sheet n (H .count) (H .notes) k q z .sound) (floors-next (H .notes) (H .count) q l) h
     had-outcome H q k l (suc j) z h = h
 
     had-after : (H : History) (q : Request) → Kept sheet n (H .count) (H .notes) → x < suc (H .count) → has (after sheet n H q .notes) ≡ true → has (H .notes) ≡ true

@@ -3,13 +3,14 @@
 -- Assumes nothing.
 use mathlib.Core.Path.{_≡_, refl, sym, ap, _∙_}
 use mathlib.Core.Logic.{_⊎_, inl, inr}
-use mathlib.Core.Bool.{Bool, true, false, not, cond, or-false}
+use mathlib.Core.Bool.{Bool, true, false, not, cond, _&&_, or-false}
 use mathlib.Core.List.{List, [], _∷_, map, map-map, reverse, reverse-reverse}
 use Prim.Native.Nat.{ℕ, zero, suc, _≤_}
 use native.Mathlib.Omega.{arith}
 use lib.Dec.{eqb, leb, ltb}
 use lib.ListN.{length, length-map, getD}
 use borrow.Author.Tests.{eqb-true, eq-eqb, le-ltb, ltb-false, not-true}
+use Rattle.model.specs.declared.Name.{Name}
 use Rattle.model.specs.declared.Span.{Span}
 use Rattle.model.specs.declared.Cap.{Cap}
 use Rattle.model.specs.declared.Event.the-variants.{Create, Borrow, Read, Write, Drop}
@@ -20,7 +21,8 @@ use Rattle.model.specs.Lists.{filter, any, all}
 use Rattle.model.specs.Requests.{Request, Single, Group}
 use Rattle.model.specs.Values.{inside}
 use Rattle.model.specs.Table.{row, emptyRow, span, derivation, derivations, named, liveRows, lentTable, lookup, isRight, rowsInOrder, inOrder}
-use Rattle.model.specs.Refusals.{View, viewOf, standings, checks, refusals, judge}
+use Rattle.model.specs.Refusals.{View, viewOf, unfit, notWritten, standings, checks, refusals, judge}
+use Rattle.model.specs.Bits.{bitAt, spanWritten}
 use Rattle.model.specs.Effects.{lowered, revoke, afterAccess, rowsWithout, root, rowsAfter}
 use Rattle.model.specs.History
 use Rattle.model.proofs.Lists.{All, All-map, All-of, All-reverse, All-unfilter, test, clash, and-both, filter-map, map-cong, map-reverse, any-map, first-zero}
@@ -48,12 +50,12 @@ weaker-passes (c ∷ cs) (d ∷ ds) w p =
     let q = and-both (not (d .1)) (all (λ c. not (c .1)) ds) p in
     rw (w .0 (not-true (d .1) (q .0))) (weaker-passes cs ds (w .1) (q .1))
 
-checks-pass : (v : View) (q : Request) → judge v q ≡ 0 → Pass (checks (liveRows (v .table)) (v .issued) (length (v .table)) q)
+checks-pass : (v : View) (q : Request) → judge v q ≡ 0 → Pass (checks (liveRows (v .table)) (v .issued) (v .isWritten) (length (v .table)) q)
 unfolding judge refusals
 checks-pass v q z =
-    and-both (not (not (inOrder (v .table) (v .issued)))) (all (λ c. not (c .1)) (checks (liveRows (v .table)) (v .issued) (length (v .table)) q)) (sym (first-zero (refusals v q) (numbered v q)) ∙ eq-eqb (judge v q) 0 z) .1
+    and-both (not (unfit v)) (all (λ c. not (c .1)) (checks (liveRows (v .table)) (v .issued) (v .isWritten) (length (v .table)) q)) (sym (first-zero (refusals v q) (numbered v q)) ∙ eq-eqb (judge v q) 0 z) .1
 
-passed : (v : View) (q : Request) → inOrder (v .table) (v .issued) ≡ true → Pass (checks (liveRows (v .table)) (v .issued) (length (v .table)) q) → judge v q ≡ 0
+passed : (v : View) (q : Request) → unfit v ≡ false → Pass (checks (liveRows (v .table)) (v .issued) (v .isWritten) (length (v .table)) q) → judge v q ≡ 0
 unfolding judge refusals
 passed v q o p = eqb-true (judge v q) 0 (first-zero (refusals v q) (numbered v q) ∙ rw o p)
 
@@ -121,7 +123,7 @@ module _ (hit : ℕ → Bool) where
       go (inr e) ih = rw e ih
 
   -- what passes on the lowered rows passes on the rows
-  module _ (rows : List Cap) (positive : All (λ c. 1 ≤ c .right) rows) (i size : ℕ) where
+  module _ (rows : List Cap) (positive : All (λ c. 1 ≤ c .right) rows) (i : ℕ) (isWritten : ℕ → Bool) (size : ℕ) where
     found : (x : ℕ) → not (any (named x) (map lower rows)) ≡ false → not (any (named x) rows) ≡ false
     found x e = ap not (sym (any-map lower (named x) rows)) ∙ e
 
@@ -137,15 +139,19 @@ module _ (hit : ℕ → Bool) where
     roomy : leb size (length (map lower rows)) ≡ false → leb size (length rows) ≡ false
     roomy e = rw length-map at e
 
+    readable : (u : Name) (s : Span) → notWritten (map lower rows) i isWritten u s ≡ false → notWritten rows i isWritten u s ≡ false
+    unfolding notWritten
+    readable u s e = ap (λ m. eqb m 1 && not (spanWritten isWritten s)) (sym (lookup-same (λ c. c .fresh) (λ c. refl) (u .0) rows)) ∙ e
+
     standings-weaker : (names : List ℕ) → Weaker (standings rows i names) (standings (map lower rows) i names)
     unfolding standings
     standings-weaker [] = tt
     standings-weaker (u ∷ names) = (λ e. e, (found u, standings-weaker names))
 
-    checks-weaker : (q : Request) → Weaker (checks rows i size q) (checks (map lower rows) i size q)
+    checks-weaker : (q : Request) → Weaker (checks rows i isWritten size q) (checks (map lower rows) i isWritten size q)
     checks-weaker (Single (Create w s r)) = (λ e. e, (λ e. e, (λ e. e, (λ e. e, (roomy, tt)))))
-    checks-weaker (Single (Borrow w u s r kind)) = (λ e. e, (λ e. e, (λ e. e, (found (u .0), (within (u .0) s, (higher (u .0) r, (shallow (u .0), (λ e. e, (λ e. e, (roomy, tt))))))))))
-    checks-weaker (Single (Read u s)) = (λ e. e, (λ e. e, (found (u .0), (within (u .0) s, tt))))
+    checks-weaker (Single (Borrow w u s r)) = (λ e. e, (λ e. e, (λ e. e, (found (u .0), (within (u .0) s, (higher (u .0) (r .right), (shallow (u .0), (λ e. e, (λ e. e, (roomy, tt))))))))))
+    checks-weaker (Single (Read u s)) = (λ e. e, (λ e. e, (found (u .0), (within (u .0) s, (readable u s, tt)))))
     checks-weaker (Single (Write u s)) = (λ e. e, (λ e. e, (found (u .0), (within (u .0) s, (higher (u .0) 2, tt)))))
     checks-weaker (Single (Drop u)) = (λ e. e, (found (u .0), tt))
     checks-weaker (Group names) = (λ e. e, standings-weaker names)
@@ -153,8 +159,8 @@ module _ (hit : ℕ → Bool) where
   -- a request does to the lowered rows what it does to the rows; a new name is not lowered
   rows-lower : (sheet : Sheet) (issued : ℕ) → hit (suc issued) ≡ false → (rows : List Cap) (q : Request) → rowsAfter sheet issued (map lower rows) q ≡ map lower (rowsAfter sheet issued rows q)
   unfolding rowsAfter
-  rows-lower sheet issued z rows (Single (Create w s r)) = rw z (ap {B = List Cap} (λ l. row (root issued s) r 1 ∷ l) (access-lower sheet Writing (suc issued) s rows))
-  rows-lower sheet issued z rows (Single (Borrow w u s r kind)) = rw (z, lookup-same (λ c. c .depth) (λ c. refl) (u .0) rows)
+  rows-lower sheet issued z rows (Single (Create w s r)) = rw z (ap {B = List Cap} (λ l. row (root issued s r) (r .right) 1 ∷ l) (access-lower sheet Writing (suc issued) s rows))
+  rows-lower sheet issued z rows (Single (Borrow w u s r)) = rw (z, lookup-same (λ c. c .depth) (λ c. refl) (u .0) rows, lookup-same (λ c. c .fresh) (λ c. refl) (u .0) rows)
   rows-lower sheet issued z rows (Single (Read u s)) = access-lower sheet Reading (u .0) s rows
   rows-lower sheet issued z rows (Single (Write u s)) = access-lower sheet Writing (u .0) s rows
   rows-lower sheet issued z rows (Single (Drop u)) = without-lower (u .0 ∷ []) rows
@@ -165,15 +171,16 @@ module _ (hit : ℕ → Bool) where
   unfolding liveRows
   live-lower t = ap reverse (filter-map lower (λ c. not (named 0 c)) t) ∙ sym (map-reverse lower (filter (λ c. not (named 0 c)) t))
 
-  module _ (t : List Cap) (i : ℕ) (q : Request) where
+  module _ (t : List Cap) (bits : List ℕ) (i : ℕ) (q : Request) where
     -- what is allowed of the lowered table is allowed of the table
-    pub allowed-lower : inOrder t i ≡ true → judge (viewOf (map lower t) i) q ≡ 0 → judge (viewOf t i) q ≡ 0
-    allowed-lower o z =
+    pub allowed-lower : inOrder t i ≡ true → length bits ≡ 8192 → judge (viewOf (map lower t) bits i) q ≡ 0 → judge (viewOf t bits i) q ≡ 0
+    allowed-lower o e z =
         let rights = All-map _ _ (λ c e. right-positive (c .right) e) (liveRows t) (rights-given (suc i) (liveRows t) (ordered t i o .rise)) in
-        passed (viewOf t i) q o
-        (weaker-passes (checks (liveRows t) i (length t) q) (checks (map lower (liveRows t)) i (length t) q) (checks-weaker (liveRows t) rights i (length t) q)
-        (rw (live-lower t, length-map) at (checks-pass (viewOf (map lower t) i) q z)))
+        passed (viewOf t bits i) q (rw (o, e))
+        (weaker-passes (checks (liveRows t) i (bitAt bits) (length t) q) (checks (map lower (liveRows t)) i (bitAt bits) (length t) q) (checks-weaker (liveRows t) rights i (bitAt bits) (length t) q)
+        (rw (live-lower t, length-map) at (checks-pass (viewOf (map lower t) bits i) q z)))
 
+  module _ (t : List Cap) (i : ℕ) (q : Request) where
     -- and leaves of the one what it leaves of the other, lowered
     pub after-lower : hit 0 ≡ false → hit (suc i) ≡ false → (sheet : Sheet)
         → lentTable (length (map lower t)) (rowsAfter sheet i (liveRows (map lower t)) q) ≡ map lower (lentTable (length t) (rowsAfter sheet i (liveRows t) q))

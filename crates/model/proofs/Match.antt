@@ -7,9 +7,10 @@ use mathlib.Core.List.{List, [], _∷_, _++_, map}
 use Prim.Native.Nat.{ℕ, zero, suc, _<_, _≤_}
 use native.Mathlib.Nat.{sub-zero}
 use native.Mathlib.Omega.{arith}
-use lib.Dec.{eqb, ltb}
+use lib.Dec.{eqb, leb, ltb}
 use lib.ListN.{length}
-use borrow.Author.Tests.{eqb-true, ne-eqb, ltb-false, not-false}
+use borrow.Author.Tests.{eqb-true, ne-eqb, leb-true, ltb-false, not-false}
+use Rattle.model.specs.declared.Name.{Name}
 use Rattle.model.specs.declared.Span.{Span}
 use Rattle.model.specs.declared.Cap.{Cap}
 use Rattle.model.specs.declared.Tally.{Tally}
@@ -20,37 +21,32 @@ use Rattle.model.specs.declared.Sheet.{Sheet}
 use Rattle.model.specs.Lists.{filter, any, answers, final}
 use Rattle.model.specs.Derivation.{Derivation, ancestry, inSubtree}
 use Rattle.model.specs.Strike.{isLower, isEnd, reached, struck, reclaimed}
-use Rattle.model.specs.Step.{State, view, initial}
-use Rattle.model.specs.Table.{row, named, liveRows, lentTable, lookup, isRight, isKind}
-use Rattle.model.specs.Refusals.{refusals, judge}
+use Rattle.model.specs.Values.{end, inside, legal}
+use Rattle.model.specs.Bits.{bitAt, bitsAfter, spanWritten, inSpan}
+use Rattle.model.specs.Step.{Memory, State, view, memoryAfter, initial}
+use Rattle.model.specs.Table.{row, span, derivation, named, liveRows, lentTable, lookup, isRight, isMarked, termsInOrder, inOrder}
+use Rattle.model.specs.Refusals.{View, notWritten, refusals, judge}
 use Rattle.model.specs.Effects.{root, child, revoke, afterAccess, inSubtrees, rowsWithout, rowsAfter, issuedAfter}
 use Rattle.model.specs.Table
 use Rattle.model.specs.Refusals
 use Rattle.model.specs.Effects
 use Rattle.model.specs.Counts
 use Rattle.model.specs.Step
-use Rattle.model.specs.History.{Note, New, Accessed, Dropped, derivedBy, derivations, ends, lowers, hits, lives, rowOf, rows, table, notesOf, emptyHistory}
+use Rattle.model.specs.History.{Note, New, Accessed, Dropped, derivedBy, derivations, ends, lowers, hits, lives, rowOf, rows, table, markOn, notesOf, written, emptyHistory}
 use Rattle.model.specs.History
-use Rattle.model.proofs.Lists.{All, All-of, All-map, test, or-neither, and-neither, any-false, filter-all, filter-cong, filter-filter, map-id}
+use Rattle.model.proofs.Lists.{All, All-of, All-map, test, clash, and-both, or-neither, and-neither, any-false, filter-all, filter-cong, filter-filter, map-id}
 use Rattle.model.proofs.Ancestries.{Closed, Falling, ancestry-step, ancestry-zero, ancestry-above, ancestry-upto}
 use Rattle.model.proofs.Notes.{Sound, falling, lives-older, rows-all, rowOf-new, revokedBy, rows-noted}
 use Rattle.model.proofs.Agree.{Through, closed-noted, falling-rows, ancestry-rows, rows-live, present-lives, rows-after}
 use Rattle.model.proofs.Lent.{Named, live-lent, length-lent, lookup-found, lookup-named}
-use Rattle.model.proofs.Judged.{allowed, Stands, Rising, drop-stands, group-rises, group-stands, next-fits}
-
--- the issued number goes up with the names
-pub counted-issued : (q : Request) (t : Tally) → Counts.countAllowed q t .issued ≡ issuedAfter (t .issued) q
-counted-issued (Single (Create w s r)) t = refl
-counted-issued (Single (Borrow w u s r kind)) t = refl
-counted-issued (Single (Read u s)) t = refl
-counted-issued (Single (Write u s)) t = refl
-counted-issued (Single (Drop u)) t = refl
-counted-issued (Group names) t = refl
+use Rattle.model.proofs.Judged.{allowed, in-order, root-given, child-given, counted-issued, Stands, Rising, drop-stands, group-rises, group-stands, next-fits}
+use Rattle.model.proofs.Order.{terms-given, marked-low, ordered, order-next, order-fresh}
+use Rattle.model.proofs.Bits.{BitsTold, told-first, span-law, length-after, all-same}
 
 -- and never down
 pub count-raised : (i : ℕ) (q : Request) → i ≤ issuedAfter i q
 count-raised i (Single (Create w s r)) = omega arith
-count-raised i (Single (Borrow w u s r kind)) = omega arith
+count-raised i (Single (Borrow w u s r)) = omega arith
 count-raised i (Single (Read u s)) = omega arith
 count-raised i (Single (Write u s)) = omega arith
 count-raised i (Single (Drop u)) = omega arith
@@ -90,7 +86,7 @@ module _ (sheet : Sheet) where
     pub live-rows : liveRows (table sheet n notes) ≡ rows sheet notes
     live-rows = live-lent n (rows sheet notes) (rows-named (suc i) notes (k .sound))
 
-    rows-fit : length (table sheet n notes) ≡ n
+    pub rows-fit : length (table sheet n notes) ≡ n
     rows-fit = length-lent n (rows sheet notes) (k .fits)
 
     -- a name that stands
@@ -107,6 +103,15 @@ module _ (sheet : Sheet) where
     depth-found x h =
         let f : any (named x) (rows sheet notes) ≡ true = rw live-rows at h in
         lookup-found (λ c. c .depth ≡ length (ancestry (derivations notes) (c .name .0))) x (rows sheet notes) f (rows-depth notes) ∙ ap (λ y. length (ancestry (derivations notes) y)) (lookup-named x (rows sheet notes) f)
+
+    -- the mark of a row is the one noted
+    mark-found : (x : ℕ) → any (named x) (liveRows (table sheet n notes)) ≡ true → lookup x (rows sheet notes) .fresh ≡ markOn (ancestry (derivations notes) x)
+    unfolding rowOf
+    mark-found x h =
+        let f : any (named x) (rows sheet notes) ≡ true = rw live-rows at h in
+        lookup-found (λ c. c .fresh ≡ markOn (ancestry (derivations notes) (c .name .0))) x (rows sheet notes) f
+        (rows-all sheet notes (λ c. c .fresh ≡ markOn (ancestry (derivations notes) (c .name .0))) (All-map _ _ (λ b s e. sym (ap markOn (s .2))) (derivations notes) (ancestry-step (suc i) (derivations notes) (falling (suc i) notes (k .sound)))))
+        ∙ ap (λ y. markOn (ancestry (derivations notes) y)) (lookup-named x (rows sheet notes) f)
 
     new-row : (b : Derivation) (r d : ℕ) → Sound (suc (suc i)) (New b r ∷ notes) → isRight r ≡ true → d ≡ length (ancestry (derivations notes) (b .parent)) → rowOf sheet (New b r ∷ notes) b ≡ row b r (suc d)
     new-row b r d s h e = rowOf-new sheet (suc (suc i)) b r notes s ∙ rw (right-given r h, e)
@@ -178,12 +183,12 @@ module _ (sheet : Sheet) where
     -- what an allowed request notes is sound, leaves parents living with their children, and does to the history's rows what the request does
     -- to the live rows
     pub record Next (q : Request) : Type 0 where
-      pub is-sound : Sound (suc (issuedAfter i q)) (notesOf i q ++ notes)
-      pub is-closed : Closed (lives sheet (notesOf i q ++ notes)) (derivations (notesOf i q ++ notes))
-      pub same-rows : rows sheet (notesOf i q ++ notes) ≡ rowsAfter sheet i (rows sheet notes) q
+      pub is-sound : Sound (suc (issuedAfter i q)) (notesOf notes i q ++ notes)
+      pub is-closed : Closed (lives sheet (notesOf notes i q ++ notes)) (derivations (notesOf notes i q ++ notes))
+      pub same-rows : rows sheet (notesOf notes i q ++ notes) ≡ rowsAfter sheet i (rows sheet notes) q
 
     -- by one note, with what it makes and what it takes
-    next-noted : (q : Request) (w : Note) → notesOf i q ≡ w ∷ [] → Sound (suc (issuedAfter i q)) (w ∷ notes) → Through sheet notes w
+    next-noted : (q : Request) (w : Note) → notesOf notes i q ≡ w ∷ [] → Sound (suc (issuedAfter i q)) (w ∷ notes) → Through sheet notes w
         → map (rowOf sheet (w ∷ notes)) (derivedBy w) ++ revokedBy sheet (Table.derivations (rows sheet notes)) w (rows sheet notes) ≡ rowsAfter sheet i (rows sheet notes) q → Next q
     next-noted q w e s t same =
         record {
@@ -205,18 +210,20 @@ module _ (sheet : Sheet) where
     pub next : (q : Request) → judge (History.view sheet n notes i) q ≡ 0 → Next q
     unfolding refusals notesOf derivedBy ends lowers hits struck reclaimed revoke afterAccess rowsAfter live reclaim
     next (Single (Create w s r)) h =
-        let sound : Sound (suc (suc i)) (New (root i s) r ∷ notes) = (omega arith, omega arith, k .sound) in
-        next-noted (Single (Create w s r)) (New (root i s) r) refl sound refl
+        let sound : Sound (suc (suc i)) (New (root i s r) (r .right) ∷ notes) = (omega arith, omega arith, k .sound) in
+        next-noted (Single (Create w s r)) (New (root i s r) (r .right)) refl sound refl
         (ap₂ {C = List Cap} (λ c l. c ∷ l)
-        (new-row (root i s) r 0 sound (not-false (isRight r) (allowed (History.view sheet n notes i) (Single (Create w s r)) h 2)) (rw (ancestry-zero (suc i) (derivations notes) (falling (suc i) notes (k .sound)))))
+        (new-row (root i s r) (r .right) 0 sound (root-given (History.view sheet n notes i) w s r h .right) (rw (ancestry-zero (suc i) (derivations notes) (falling (suc i) notes (k .sound)))))
         (ap (λ user. reclaim true user s) outside))
-    next (Single (Borrow w u s r kind)) h =
-        let p = allowed (History.view sheet n notes i) (Single (Borrow w u s r kind)) h in
+    next (Single (Borrow w u s r)) h =
+        let p = allowed (History.view sheet n notes i) (Single (Borrow w u s r)) h in
         let stands : Stands (liveRows (table sheet n notes)) i (u .0) = (p 4, not-false (any (named (u .0)) (liveRows (table sheet n notes))) (p 5)) in
-        let sound : Sound (suc (suc i)) (New (child i u s kind) r ∷ notes) = (omega arith, stands-given (u .0) stands, k .sound) in
-        next-noted (Single (Borrow w u s r kind)) (New (child i u s kind) r) refl sound (stands-through (u .0) stands)
+        let new : Derivation = child i u (markOn (ancestry (derivations notes) (u .0))) s r in
+        let sound : Sound (suc (suc i)) (New new (r .right) ∷ notes) = (omega arith, stands-given (u .0) stands, k .sound) in
+        next-noted (Single (Borrow w u s r)) (New new (r .right)) refl sound (stands-through (u .0) stands)
         (ap₂ {C = List Cap} (λ c l. c ∷ l)
-        (new-row (child i u s kind) r (lookup (u .0) (rows sheet notes) .depth) sound (not-false (isRight r) (or-neither (not (isRight r)) (not (isKind kind)) (p 2) .0)) (depth-found (u .0) (stands .1)))
+        (new-row new (r .right) (lookup (u .0) (rows sheet notes) .depth) sound (child-given (History.view sheet n notes i) w u s r h .right) (depth-found (u .0) (stands .1))
+        ∙ ap (λ (m : ℕ). row (child i u m s r) (r .right) (suc (lookup (u .0) (rows sheet notes) .depth))) (sym (mark-found (u .0) (stands .1))))
         (ap (λ isRoot. reclaim isRoot (ancestry live (u .0)) s) (or-neither (eqb (u .0) 0) (ltb i (u .0)) (p 4) .0) ∙ map-id _ ∙ all-left (rows sheet notes)))
     next (Single (Read u s)) h =
         let p = allowed (History.view sheet n notes i) (Single (Read u s)) h in
@@ -233,7 +240,7 @@ module _ (sheet : Sheet) where
         let w = without names (group-rises (History.view sheet n notes i) names h) (group-stands (History.view sheet n notes i) names h) in
         record { is-sound = w .sound; is-closed = w .closed; same-rows = rows-without names w }
 
-    pub kept-next : (q : Request) → judge (History.view sheet n notes i) q ≡ 0 → Kept n (issuedAfter i q) (notesOf i q ++ notes)
+    pub kept-next : (q : Request) → judge (History.view sheet n notes i) q ≡ 0 → Kept n (issuedAfter i q) (notesOf notes i q ++ notes)
     kept-next q h =
         record {
           sound = next q h .is-sound;
@@ -241,37 +248,135 @@ module _ (sheet : Sheet) where
           fits = rw (next q h .same-rows) (rw (live-rows, rows-fit) at (next-fits sheet (History.view sheet n notes i) q h));
         }
 
+    -- the bits after an allowed request are what its notes say
+    bits-said : (bytes : List ℕ) → BitsTold bytes notes → (q : Request) → judge (History.view sheet n notes i) q ≡ 0 → (a : ℕ) → a < 65536 → bitAt (bitsAfter bytes q) a ≡ written (notesOf notes i q ++ notes) a
+    unfolding bitsAfter notesOf written refusals
+    bits-said bytes b (Single (Create w s r)) h a l = span-law false s a bytes (b .size) l ∙ ap (cond (inSpan s a) false) (b .told a l)
+    bits-said bytes b (Single (Borrow w u s r)) h a l =
+        b .told a l ∙ sym (ap (λ (c : Bool). cond (c && inSpan s a) false (written notes a)) (or-neither (eqb (u .0) 0) (ltb i (u .0)) (allowed (History.view sheet n notes i) (Single (Borrow w u s r)) h 4) .0))
+    bits-said bytes b (Single (Read u s)) h a l = b .told a l
+    bits-said bytes b (Single (Write u s)) h a l = span-law true s a bytes (b .size) l ∙ ap (cond (inSpan s a) true) (b .told a l) ∙ either (inSpan s a) (written notes a)
+      where
+        either : (c d : Bool) → cond c true d ≡ c || d
+        either true d = refl
+        either false d = refl
+    bits-said bytes b (Single (Drop u)) h a l = b .told a l
+    bits-said bytes b (Group names) h a l = b .told a l ∙ sym (dropped names)
+      where
+        dropped : (names : List ℕ) → written (map Dropped names ++ notes) a ≡ written notes a
+        dropped [] = refl
+        dropped (u ∷ names) = dropped names
+
+    bits-next : (bytes : List ℕ) → BitsTold bytes notes → (q : Request) → judge (History.view sheet n notes i) q ≡ 0 → BitsTold (bitsAfter bytes q) (notesOf notes i q ++ notes)
+    bits-next bytes b q h = record { size = length-after bytes q ∙ b .size; told = bits-said bytes b q h }
+
   -- ---- one request, and a list of requests
 
-  -- the lent table and tally match the history
+  -- the lent table and bits are those of the notes, when so many names have been counted
+  pub record Agrees (n i : ℕ) (m : Memory) (notes : List Note) : Type 0 where
+    pub same-table : m .table ≡ table sheet n notes
+    pub kept : Kept n i notes
+    pub bits : BitsTold (m .bits) notes
+    -- up to 1,024 rows the table is in order, and above that nothing is ever noted
+    pub is-ordered : leb n 1024 ≡ true → inOrder (table sheet n notes) i ≡ true
+    pub nothing-noted : leb n 1024 ≡ false → notes ≡ []
+
+  -- what is lent matches the history
   pub record Match (n : ℕ) (h : State) (H : History.History) : Type 0 where
-    pub same-table : h .table ≡ table sheet n (H .notes)
+    pub memory : Agrees n (H .count) (h .memory) (H .notes)
     pub same-issued : h .tally .issued ≡ H .count
-    pub kept : Kept n (H .count) (H .notes)
+
+  -- ---- both judge alike
+
+  -- 16 is asked of a living capability, of a span inside its own, and of a table in order
+  module _ (n i : ℕ) (notes : List Note) (bytes : List ℕ) (b : BitsTold bytes notes) (u : Name) (s : Span) where
+    abbrev listed-rows : List Cap
+    listed-rows = liveRows (table sheet n notes)
+
+    abbrev found : Cap
+    found = lookup (u .0) listed-rows
+
+    same-sixteen : inOrder (table sheet n notes) i ≡ true → any (named (u .0)) listed-rows ≡ true → inside s (span found) ≡ true
+        → notWritten listed-rows i (bitAt bytes) u s ≡ notWritten listed-rows i (written notes) u s
+    unfolding notWritten
+    same-sixteen f l o = go (test (isMarked (derivation found)))
+      where
+        go : (isMarked (derivation found) ≡ true) ⊎ (isMarked (derivation found) ≡ false) → isMarked (derivation found) && not (spanWritten (bitAt bytes) s) ≡ isMarked (derivation found) && not (spanWritten (written notes) s)
+        go (inr e) = rw e
+        go (inl y) =
+            ap (λ (w : Bool). isMarked (derivation found) && not w)
+            (all-same (bitAt bytes) (written notes) (s .start .0) (s .length)
+            (λ x m j. b .told x (omega (arith, low, leb-true (end s) (end (span found)) (and-both (leb (found .start .0) (s .start .0)) (leb (end s) (end (span found))) o .1)))))
+          where
+            low : end (span found) ≤ 65536
+            low = marked-low (derivation found) (lookup-found (λ c. termsInOrder (derivation c) ≡ true) (u .0) listed-rows l (terms-given (suc i) listed-rows (ordered (table sheet n notes) i f .rise))) y
+
+  -- the history's table with the lent bits
+  abbrev pub lentView : ℕ → ℕ → List Note → List ℕ → View
+  lentView n i notes bytes = record { table = table sheet n notes; issued = i; isWritten = bitAt bytes; bytes = 8192 }
+
+  told-judge : (n i : ℕ) (notes : List Note) (bytes : List ℕ) → BitsTold bytes notes → (q : Request) → judge (lentView n i notes bytes) q ≡ judge (History.view sheet n notes i) q
+  unfolding judge refusals
+  told-judge n i notes bytes b (Single (Create w s r)) = refl
+  told-judge n i notes bytes b (Single (Borrow w u s r)) = refl
+  told-judge n i notes bytes b (Single (Read u s)) =
+      last (not (inOrder (table sheet n notes) i)) (not (legal s)) (eqb (u .0) 0 || ltb i (u .0)) (not (any (named (u .0)) live)) (not (inside s (span (lookup (u .0) live)))) (notWritten live i (bitAt bytes) u s) (notWritten live i (written notes) u s)
+      (λ f e o. same-sixteen n i notes bytes b u s (not-false (inOrder (table sheet n notes) i) f) (not-false (any (named (u .0)) live) e) (not-false (inside s (span (lookup (u .0) live))) o))
+    where
+      live : List Cap
+      live = liveRows (table sheet n notes)
+
+      last : (x j p e o w w₀ : Bool) → (x ≡ false → e ≡ false → o ≡ false → w ≡ w₀)
+          → _≡_ {A = ℕ} (cond (x || false) 1 (cond j 3 (cond p 4 (cond e 5 (cond o 6 (cond w 16 0)))))) (cond (x || false) 1 (cond j 3 (cond p 4 (cond e 5 (cond o 6 (cond w₀ 16 0))))))
+      last true j p e o w w₀ f = refl
+      last false true p e o w w₀ f = refl
+      last false false true e o w w₀ f = refl
+      last false false false true o w w₀ f = refl
+      last false false false false true w w₀ f = refl
+      last false false false false false w w₀ f = ap (λ (c : Bool). cond c 16 0) (f refl refl refl)
+  told-judge n i notes bytes b (Single (Write u s)) = refl
+  told-judge n i notes bytes b (Single (Drop u)) = refl
+  told-judge n i notes bytes b (Group names) = refl
 
   module _ (n : ℕ) (h : State) (H : History.History) (m : Match n h H) (q : Request) where
     pub same-judge : judge (view h) q ≡ judge (History.view sheet n (H .notes) (H .count)) q
-    same-judge = ap₂ (λ t i. judge (record { table = t; issued = i }) q) (m .same-table) (m .same-issued)
+    same-judge = rw (m .memory .same-table, m .same-issued, m .memory .bits .size) (told-judge n (H .count) (H .notes) (h .memory .bits) (m .memory .bits) q)
 
     pub same-answer : Step.answer h q ≡ History.answer sheet n H q
     unfolding Step.answer History.answer
     same-answer = ap₂ Step.verdict same-judge (ap (λ i. Effects.newName i q) (m .same-issued))
 
+  -- an allowed request does to the table and the bits what its notes say
+  agrees-next : (n i : ℕ) (m : Memory) (notes : List Note) → Agrees n i m notes → (q : Request) → judge (History.view sheet n notes i) q ≡ 0 → Agrees n (issuedAfter i q) (memoryAfter sheet i m q) (notesOf notes i q ++ notes)
+  agrees-next n i m notes a q z =
+      record {
+        same-table =
+            ap (λ t. lentTable (length t) (rowsAfter sheet i (liveRows t) q)) (a .same-table)
+            ∙ rw (rows-fit n i notes (a .kept), live-rows n i notes (a .kept)) (ap (lentTable n) (sym (next n i notes (a .kept) q z .same-rows)));
+        kept = kept-next n i notes (a .kept) q z;
+        bits = bits-next n i notes (a .kept) (m .bits) (a .bits) q z;
+        is-ordered =
+            λ y. rw (next n i notes (a .kept) q z .same-rows)
+            (rw (rows-fit n i notes (a .kept), live-rows n i notes (a .kept)) at (order-next sheet (History.view sheet n notes i) (ordered (table sheet n notes) i now) q z));
+        nothing-noted = λ f. clash (rw (rows-fit n i notes (a .kept)) at (ordered (table sheet n notes) i now .few)) f;
+      }
+    where
+      now : inOrder (table sheet n notes) i ≡ true
+      now = in-order (History.view sheet n notes i) q z
+
+  module _ (n : ℕ) (h : State) (H : History.History) (m : Match n h H) (q : Request) where
     match-outcome : (j : ℕ) → judge (History.view sheet n (H .notes) (H .count)) q ≡ j → Match n (Step.outcome sheet j h q) (History.outcome j H q)
     match-outcome zero z =
         record {
-          same-table =
-              ap₂ (λ t i. lentTable (length t) (rowsAfter sheet i (liveRows t) q)) (m .same-table) (m .same-issued)
-              ∙ rw (rows-fit n (H .count) (H .notes) (m .kept), live-rows n (H .count) (H .notes) (m .kept)) (ap (lentTable n) (sym (next n (H .count) (H .notes) (m .kept) q z .same-rows)));
+          memory = rw (m .same-issued) (agrees-next n (H .count) (h .memory) (H .notes) (m .memory) q z);
           same-issued = counted-issued q (h .tally) ∙ ap (λ i. issuedAfter i q) (m .same-issued);
-          kept = kept-next n (H .count) (H .notes) (m .kept) q z;
         }
     match-outcome (suc zero) z = m
-    match-outcome (suc (suc j)) z = record { same-table = m .same-table; same-issued = m .same-issued; kept = m .kept }
+    match-outcome (suc (suc j)) z = record { memory = m .memory; same-issued = m .same-issued }
 
     pub match-after : Match n (Step.after sheet h q) (History.after sheet n H q)
     unfolding Step.after History.after
-    match-after = rw same-judge (match-outcome (judge (History.view sheet n (H .notes) (H .count)) q) refl)
+    match-after = rw (same-judge n h H m q) (match-outcome (judge (History.view sheet n (H .notes) (H .count)) q) refl)
 
   pub run : (n : ℕ) (qs : List Request) (h : State) (H : History.History) → Match n h H
       → (answers (Step.after sheet) Step.answer h qs ≡ answers (History.after sheet n) (History.answer sheet n) H qs)
@@ -285,6 +390,20 @@ module _ (sheet : Sheet) where
   unfolding rows derivations
   kept-first n = record { sound = tt; closed = tt; fits = omega arith }
 
-  pub at-first : (n : ℕ) (t : Tally) → t .issued ≡ 0 → Match n (initial n t) emptyHistory
+  table-first : (n : ℕ) → initial n (Counts.tally 0 0 0 0 0 0 0) .memory .table ≡ table sheet n []
   unfolding lentTable rows derivations
-  at-first n t z = record { same-table = rw (sub-zero n); same-issued = z; kept = kept-first n }
+  table-first n = rw (sub-zero n)
+
+  pub at-first : (n : ℕ) (t : Tally) → t .issued ≡ 0 → Match n (initial n t) emptyHistory
+  at-first n t z =
+      record {
+        memory =
+            record {
+              same-table = table-first n;
+              kept = kept-first n;
+              bits = told-first;
+              is-ordered = λ y. rw (← table-first n) (order-fresh n (Counts.tally 0 0 0 0 0 0 0) (leb-true n 1024 y) refl);
+              nothing-noted = λ f. refl;
+            };
+        same-issued = z;
+      }

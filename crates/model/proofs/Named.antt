@@ -8,14 +8,15 @@ use Rattle.model.specs.declared.Event.the-variants.{Create, Borrow, Read
 use Rattle.model.specs.Requests.{Request, Single, Group}
 use Rattle.model.specs.Refusals.{View, refusals, judge}
 use Rattle.model.specs.Effects.{rowsAfter, issuedAfter}
+use Rattle.model.specs.Bits.{bitsAfter}
 use Rattle.model.specs.Step.{State, view, outcome, answer, after}
 use Rattle.model.specs.Named.{unnamed, rightlyNamed}
-use Rattle.model.proofs.Match.{counted-issued}
+use Rattle.model.proofs.Judged.{counted-issued}
 
 same-judge : (v : View) (q : Request) → judge v (rightlyNamed (v .issued) q) ≡ judge v (unnamed q)
 unfolding judge refusals rightlyNamed unnamed
 same-judge v (Single (Create w s r)) = rw (eq-eqb (suc (v .issued)) (suc (v .issued)) refl)
-same-judge v (Single (Borrow w u s r kind)) = rw (eq-eqb (suc (v .issued)) (suc (v .issued)) refl)
+same-judge v (Single (Borrow w u s r)) = rw (eq-eqb (suc (v .issued)) (suc (v .issued)) refl)
 same-judge v (Single (Read u s)) = refl
 same-judge v (Single (Write u s)) = refl
 same-judge v (Single (Drop u)) = refl
@@ -24,16 +25,16 @@ same-judge v (Group names) = refl
 pub same-answer : (h : State) (q : Request) → answer h (rightlyNamed (h .tally .issued) q) ≡ answer h (unnamed q)
 unfolding answer rightlyNamed unnamed
 same-answer h (Single (Create w s r)) = rw (same-judge (view h) (Single (Create w s r)))
-same-answer h (Single (Borrow w u s r kind)) = rw (same-judge (view h) (Single (Borrow w u s r kind)))
+same-answer h (Single (Borrow w u s r)) = rw (same-judge (view h) (Single (Borrow w u s r)))
 same-answer h (Single (Read u s)) = refl
 same-answer h (Single (Write u s)) = refl
 same-answer h (Single (Drop u)) = refl
 same-answer h (Group names) = refl
 
 same-outcome : (sheet : Sheet) (k : ℕ) (h : State) (q : Request) → outcome sheet k h (rightlyNamed (h .tally .issued) q) ≡ outcome sheet k h (unnamed q)
-unfolding rowsAfter rightlyNamed unnamed
+unfolding rowsAfter bitsAfter rightlyNamed unnamed
 same-outcome sheet zero h (Single (Create w s r)) = refl
-same-outcome sheet zero h (Single (Borrow w u s r kind)) = refl
+same-outcome sheet zero h (Single (Borrow w u s r)) = refl
 same-outcome sheet zero h (Single (Read u s)) = refl
 same-outcome sheet zero h (Single (Write u s)) = refl
 same-outcome sheet zero h (Single (Drop u)) = refl
@@ -48,7 +49,7 @@ same-after sheet h q = rw (same-judge (view h) q) (same-outcome sheet (judge (vi
 same-issued : (i : ℕ) (q : Request) → issuedAfter i (unnamed q) ≡ issuedAfter i q
 unfolding unnamed
 same-issued i (Single (Create w s r)) = refl
-same-issued i (Single (Borrow w u s r kind)) = refl
+same-issued i (Single (Borrow w u s r)) = refl
 same-issued i (Single (Read u s)) = refl
 same-issued i (Single (Write u s)) = refl
 same-issued i (Single (Drop u)) = refl

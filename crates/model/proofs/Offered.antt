@@ -12,16 +12,17 @@ pub use Rattle.model.proofs.Traces.{traces-hold}
 pub use Rattle.model.proofs.Sheet6.{words, words-access, references-alone, references-access}
 -- ---- laws
 pub use Rattle.model.proofs.Ancestries.{Falling, ancestry-here, ancestry-past, below-differs}
-pub use Rattle.model.proofs.Frame.{disordered-keeps, refused-table, refused-tally}
-pub use Rattle.model.proofs.Judged.{access-fits, allowed, length-live, ordered-not-1}
+pub use Rattle.model.proofs.Bits.{withBit-worth}
+pub use Rattle.model.proofs.Frame.{disordered-keeps, refused-memory, refused-tally}
+pub use Rattle.model.proofs.Judged.{access-fits, allowed, length-live, fit-both, fit-not-1, fit-order}
 pub use Rattle.model.proofs.Lent.{Named, length-lent, live-lent}
 pub use Rattle.model.proofs.Lists.{All, All-append, All-map, All-reverse, All-sub, All-zip, all-append, and-both, answers-append, clash, final-append, first-none, length-filter, listed, map-reverse, or-neither, test, unless}
 pub use Rattle.model.proofs.Lowered.{lower, live-lower}
 pub use Rattle.model.proofs.Match.{Match, at-first, match-after, same-answer as match-answer}
 pub use Rattle.model.proofs.Named.{issued-allowed, same-after, same-answer}
-pub use Rattle.model.proofs.Order.{Ordered, Rises, access-inOrder, access-named, group-step, live-named, liveRowsFirst-lent, order-after, order-fresh, ordered, parentInOrder-rowFitsParent, place, right-positive, risen, rises, rowsInOrder-falling, rowsInOrder-wider, steps}
+pub use Rattle.model.proofs.Order.{Ordered, Place, Rises, access-inOrder, access-named, fit-after, fitting, group-step, live-named, liveRowsFirst-lent, marked-low, order-after, order-fresh, ordered, parentInOrder-rowFitsParent, place, right-positive, risen, rises, rowsInOrder-falling, rowsInOrder-wider, steps}
 pub use Rattle.model.proofs.Origins.{later-off, nearest-cell, nearest-on, on-line}
 pub use Rattle.model.proofs.Precedence.{first-holds, first-lowest, given-first, given-holds, risesFrom}
 pub use Rattle.model.proofs.Rows.{emptyRow-empty, lent-live, lent-new, lookup-each, no-ancestry, struck-step}
 pub use Rattle.model.proofs.Strikes.{root-has-no-kin}
-pub use Rattle.model.proofs.Together.{group-none, misgrouped-next, name-passed, name-refused}
+pub use Rattle.model.proofs.Together.{group-none, name-passed, name-refused}

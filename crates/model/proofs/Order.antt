@@ -13,6 +13,7 @@ use Rattle.model.specs.declared.Name.{Name}
 use Rattle.model.specs.declared.Span.{Span}
 use Rattle.model.specs.declared.Cap.{Cap}
 use Rattle.model.specs.declared.Tally.{Tally}
+use Rattle.model.specs.declared.Terms.{Terms}
 use Rattle.model.specs.declared.NewName.{NewName}
 use Rattle.model.specs.declared.Event.the-variants.{Create, Borrow, Read, Write, Drop}
 use Rattle.model.specs.Requests.{Request, Single, Group}
@@ -21,12 +22,12 @@ use Rattle.model.specs.declared.Sheet.{Sheet}
 use Rattle.model.specs.Lists.{consIf, filter, any, all, final}
 use Rattle.model.specs.declared.Access.{Access}
 use Rattle.model.specs.declared.Access.the-variants.{Reading, Writing}
-use Rattle.model.specs.Values.{legal, inside}
-use Rattle.model.specs.Derivation.{ancestry, inSubtree, onAncestry}
+use Rattle.model.specs.Values.{end, legal, inside}
+use Rattle.model.specs.Derivation.{Derivation, ancestry, inSubtree, onAncestry}
 use Rattle.model.specs.Strike.{isLower, isEnd, strike, reached, struck}
 use Rattle.model.specs.Step.{State, view}
-use Rattle.model.specs.Table.{row, emptyRow, span, derivation, derivations, named, liveRows, lentTable, lookup, isEmptyRow, liveRowsFirst, isRight, isKind, rowFitsParent, parentInOrder, rowInOrder, rowsInOrder, inOrder}
-use Rattle.model.specs.Refusals.{View, refusals, judge}
+use Rattle.model.specs.Table.{row, emptyRow, span, derivation, derivations, named, liveRows, lentTable, lookup, isEmptyRow, liveRowsFirst, isRight, isKind, isMark, isMarked, termsInOrder, rowFitsParent, parentInOrder, rowInOrder, rowsInOrder, inOrder}
+use Rattle.model.specs.Refusals.{View, unfit, refusals, judge}
 use Rattle.model.specs.Effects.{lowered, revoke, afterAccess, inSubtrees, rowsWithout, root, child, rowsAfter, issuedAfter}
 use Rattle.model.specs.Table
 use Rattle.model.specs.Refusals
@@ -35,9 +36,9 @@ use Rattle.model.specs.Counts
 use Rattle.model.specs.Step
 use Rattle.model.proofs.Lists.{All, All-map, All-of, All-sub, All-mapped, All-unmap, test, clash, unless, passes, and-both, or-neither, filter-reverse, filter-none, any-map, any-or, any-kept}
 use Rattle.model.proofs.Ancestries.{Falling, ancestry-step}
-use Rattle.model.proofs.Lent.{Named, live-lent, length-lent, lookup-named}
-use Rattle.model.proofs.Judged.{allowed, length-live, access-fits, next-fits}
-use Rattle.model.proofs.Match.{counted-issued}
+use Rattle.model.proofs.Lent.{Named, live-lent, length-lent, lookup-found, lookup-named}
+use Rattle.model.proofs.Judged.{allowed, root-given, child-given, length-live, access-fits, next-fits, counted-issued, fit-order, fit-size, fit-both}
+use Rattle.model.proofs.Bits.{length-after}
 
 -- ---- the lent table is arranged
 
@@ -107,15 +108,34 @@ pub record Place (c : Cap) (earlier : List Cap) : Type 0 where
   pub is-legal : legal (span c) ≡ true
   pub has-right : isRight (c .right) ≡ true
   pub has-kind : isKind (c .kind) ≡ true
+  pub has-terms : termsInOrder (derivation c) ≡ true
   pub does-hang : parentInOrder c earlier ≡ true
 
 pub place : (c : Cap) (earlier : List Cap) → rowInOrder c earlier ≡ true → Place c earlier
 unfolding rowInOrder
 place c earlier h =
-    let p = and-both (legal (span c) && isRight (c .right) && isKind (c .kind)) (parentInOrder c earlier) h in
-    let q = and-both (legal (span c) && isRight (c .right)) (isKind (c .kind)) (p .0) in
+    let p = and-both (legal (span c) && isRight (c .right) && isKind (c .kind) && termsInOrder (derivation c)) (parentInOrder c earlier) h in
+    let o = and-both (legal (span c) && isRight (c .right) && isKind (c .kind)) (termsInOrder (derivation c)) (p .0) in
+    let q = and-both (legal (span c) && isRight (c .right)) (isKind (c .kind)) (o .0) in
     let r = and-both (legal (span c)) (isRight (c .right)) (q .0) in
-    record { is-legal = r .0; has-right = r .1; has-kind = q .1; does-hang = p .1 }
+    record { is-legal = r .0; has-right = r .1; has-kind = q .1; has-terms = o .1; does-hang = p .1 }
+
+pub terms-given : (bound : ℕ) (rows : List Cap) → rowsInOrder bound rows ≡ true → All (λ c. termsInOrder (derivation c) ≡ true) rows
+terms-given bound [] h = tt
+terms-given bound (c ∷ rows) h = let r = rises bound c rows h in (place c rows (r .in-place) .has-terms, terms-given (c .name .0) rows (r .rest))
+
+-- what a row's terms say
+pub record Fitting (d : Derivation) : Type 0 where
+  pub has-mark : isMark (d .fresh) ≡ true
+  pub is-low : not (isMarked d) || leb (end (d .span)) 65536 ≡ true
+
+pub fitting : (d : Derivation) → termsInOrder d ≡ true → Fitting d
+unfolding termsInOrder
+fitting d h = let p = and-both (isMark (d .fresh)) (not (isMarked d) || leb (end (d .span)) 65536) h in record { has-mark = p .0; is-low = p .1 }
+
+-- a marked row ends at 65,536 or below
+pub marked-low : (d : Derivation) → termsInOrder d ≡ true → isMarked d ≡ true → end (d .span) ≤ 65536
+marked-low d h m = leb-true (end (d .span)) 65536 (rw m at (fitting d h .is-low))
 
 -- a row whose parent is not 0
 pub parentInOrder-rowFitsParent : (c : Cap) (earlier : List Cap) → eqb (c .parent .0) 0 ≡ false → parentInOrder c earlier ≡ true → (any (named (c .parent .0)) earlier ≡ true) × (rowFitsParent c (lookup (c .parent .0) earlier) ≡ true)
@@ -229,10 +249,11 @@ module _ (hit : ℕ → Bool) where
   rowFitsParent-lower : (c p : Cap) → (hit (p .name .0) ≡ true → hit (c .name .0) ≡ true) → isRight (c .right) ≡ true → rowFitsParent c p ≡ true → rowFitsParent (lower c) (lower p) ≡ true
   unfolding rowFitsParent
   rowFitsParent-lower c p up r h =
-      let q = and-both (inside (span c) (span p) && leb (c .right) (p .right) && eqb (c .depth) (p .depth + 1)) (leb (c .depth) 64) h in
+      let o = and-both (inside (span c) (span p) && leb (c .right) (p .right) && eqb (c .depth) (p .depth + 1) && leb (c .depth) 64) (eqb (c .fresh) (p .fresh)) h in
+      let q = and-both (inside (span c) (span p) && leb (c .right) (p .right) && eqb (c .depth) (p .depth + 1)) (leb (c .depth) 64) (o .0) in
       let s = and-both (inside (span c) (span p) && leb (c .right) (p .right)) (eqb (c .depth) (p .depth + 1)) (q .0) in
       let t = and-both (inside (span c) (span p)) (leb (c .right) (p .right)) (s .0) in
-      rw (t .0, rights-lowered (hit (c .name .0)) (hit (p .name .0)) (c .right) (p .right) up (right-positive (c .right) r) (t .1), s .1, q .1)
+      rw (t .0, rights-lowered (hit (c .name .0)) (hit (p .name .0)) (c .right) (p .right) up (right-positive (c .right) r) (t .1), s .1, q .1, o .1)
 
   parentInOrder-lower : (c : Cap) (earlier : List Cap) → (hit (c .parent .0) ≡ true → hit (c .name .0) ≡ true) → isRight (c .right) ≡ true → parentInOrder c earlier ≡ true → parentInOrder (lower c) (map lower earlier) ≡ true
   unfolding parentInOrder
@@ -249,7 +270,7 @@ module _ (hit : ℕ → Bool) where
   unfolding rowInOrder
   rowInOrder-lower c earlier up h =
       let p = place c earlier h in
-      rw (p .is-legal, right-lowered (hit (c .name .0)) (c .right) (p .has-right), p .has-kind) (parentInOrder-lower c earlier up (p .has-right) (p .does-hang))
+      rw (p .is-legal, right-lowered (hit (c .name .0)) (c .right) (p .has-right), p .has-kind, p .has-terms) (parentInOrder-lower c earlier up (p .has-right) (p .does-hang))
 
   rowsInOrder-lower : (bound : ℕ) (rows : List Cap) → Spreads hit rows → rowsInOrder bound rows ≡ true → rowsInOrder bound (map lower rows) ≡ true
   unfolding rowsInOrder
@@ -304,7 +325,7 @@ module _ (sheet : Sheet) (v : View) (o : Ordered (v .table) (v .issued)) where
   next-named : (q : Request) → Named (rowsAfter sheet i (liveRows t) q)
   unfolding rowsAfter rowsWithout
   next-named (Single (Create w s r)) = (ne-eqb 0 (suc i) (λ (q : 0 ≡ suc i). omega arith), access-named sheet (liveRows t) (live-named t) Writing (suc i) s)
-  next-named (Single (Borrow w u s r kind)) = (ne-eqb 0 (suc i) (λ (q : 0 ≡ suc i). omega arith), live-named t)
+  next-named (Single (Borrow w u s r)) = (ne-eqb 0 (suc i) (λ (q : 0 ≡ suc i). omega arith), live-named t)
   next-named (Single (Read u s)) = access-named sheet (liveRows t) (live-named t) Reading (u .0) s
   next-named (Single (Write u s)) = access-named sheet (liveRows t) (live-named t) Writing (u .0) s
   next-named (Single (Drop u)) = revoke-named _ _ (liveRows t) (live-named t)
@@ -313,35 +334,50 @@ module _ (sheet : Sheet) (v : View) (o : Ordered (v .table) (v .issued)) where
   names-enough : (q : Request) → judge v q ≡ 0 → leb (issuedAfter i q) 1000000 ≡ true
   unfolding refusals
   names-enough (Single (Create w s r)) h = le-leb (suc i) 1000000 (leb-false 1000000 i (allowed v (Single (Create w s r)) h 9))
-  names-enough (Single (Borrow w u s r kind)) h = le-leb (suc i) 1000000 (leb-false 1000000 i (allowed v (Single (Borrow w u s r kind)) h 9))
+  names-enough (Single (Borrow w u s r)) h = le-leb (suc i) 1000000 (leb-false 1000000 i (allowed v (Single (Borrow w u s r)) h 9))
   names-enough (Single (Read u s)) h = o .names-left
   names-enough (Single (Write u s)) h = o .names-left
   names-enough (Single (Drop u)) h = o .names-left
   names-enough (Group names) h = o .names-left
 
-  rowInOrder-root : (w : NewName) (s : Span) (r : ℕ) → judge v (Single (Create w s r)) ≡ 0 → (earlier : List Cap) → rowInOrder (row (root i s) r 1) earlier ≡ true
-  unfolding rowInOrder parentInOrder refusals
+  rowInOrder-root : (w : NewName) (s : Span) (r : Terms) → judge v (Single (Create w s r)) ≡ 0 → (earlier : List Cap) → rowInOrder (row (root i s r) (r .right) 1) earlier ≡ true
+  unfolding rowInOrder parentInOrder termsInOrder refusals
   rowInOrder-root w s r h earlier =
       let p = allowed v (Single (Create w s r)) h in
-      rw (not-false (legal s) (p 3), not-false (isRight r) (p 2))
+      let made = root-given v w s r h in
+      let placed = or-neither (not (legal s)) (eqb (r .fresh) 1 && ltb 65536 (end s)) (p 3) in
+      rw (not-false (legal s) (placed .0), made .right, made .fresh, low (eqb (r .fresh) 1) (end s) (placed .1))
+    where
+      low : (m : Bool) (x : ℕ) → m && ltb 65536 x ≡ false → not m || leb x 65536 ≡ true
+      low true x h = le-leb x 65536 (ltb-false 65536 x h)
+      low false x h = refl
 
-  rowInOrder-child : (w : NewName) (u : Name) (s : Span) (r kind : ℕ) → judge v (Single (Borrow w u s r kind)) ≡ 0 → rowInOrder (row (child i u s kind) r (suc (lookup (u .0) (liveRows t) .depth))) (liveRows t) ≡ true
-  unfolding rowInOrder parentInOrder rowFitsParent refusals
-  rowInOrder-child w u s r kind h =
-      let p = allowed v (Single (Borrow w u s r kind)) h in
+  rowInOrder-child : (w : NewName) (u : Name) (s : Span) (r : Terms) → judge v (Single (Borrow w u s r)) ≡ 0 → rowInOrder (row (child i u (lookup (u .0) (liveRows t) .fresh) s r) (r .right) (suc (lookup (u .0) (liveRows t) .depth))) (liveRows t) ≡ true
+  unfolding rowInOrder parentInOrder rowFitsParent termsInOrder refusals
+  rowInOrder-child w u s r h =
+      let p = allowed v (Single (Borrow w u s r)) h in
       let c : Cap = lookup (u .0) (liveRows t) in
-      let made = or-neither (not (isRight r)) (not (isKind kind)) (p 2) in
+      let made = child-given v w u s r h in
+      let parent = fitting (derivation c) (lookup-found (λ c. termsInOrder (derivation c) ≡ true) (u .0) (liveRows t) (not-false (any (named (u .0)) (liveRows t)) (p 5)) (terms-given (suc i) (liveRows t) (o .rise))) in
+      let ends = and-both (leb (c .start .0) (s .start .0)) (leb (end s) (end (span c))) (not-false (inside s (span c)) (p 6)) in
       rw (
         not-false (legal s) (p 3),
-        not-false (isRight r) (made .0),
-        not-false (isKind kind) (made .1),
+        made .right,
+        made .kind,
+        parent .has-mark,
+        lower-end (isMarked (derivation c)) (end s) (end (span c)) (leb-true (end s) (end (span c)) (ends .1)) (parent .is-low),
+        eq-eqb (c .fresh) (c .fresh) refl,
         or-neither (eqb (u .0) 0) (ltb i (u .0)) (p 4) .0,
         not-false (any (named (u .0)) (liveRows t)) (p 5),
         not-false (inside s (span c)) (p 6),
-        le-leb r (c .right) (ltb-false (c .right) r (p 7)),
+        le-leb (r .right) (c .right) (ltb-false (c .right) (r .right) (p 7)),
         eq-eqb (suc (c .depth)) (c .depth + 1) (omega arith),
         le-leb (suc (c .depth)) 64 (leb-false 64 (c .depth) (p 8)),
       )
+    where
+      lower-end : (m : Bool) (x y : ℕ) → x ≤ y → not m || leb y 65536 ≡ true → not m || leb x 65536 ≡ true
+      lower-end true x y l h = le-leb x 65536 (omega (arith, leb-true y 65536 h))
+      lower-end false x y l h = refl
 
   used-rowsInOrder : (a : Access) (u : ℕ) (s : Span) → rowsInOrder (suc i) (afterAccess sheet a u s (liveRows t)) ≡ true
   used-rowsInOrder = access-rowsInOrder sheet (suc i) (liveRows t) (live-named t) (o .rise)
@@ -354,9 +390,9 @@ module _ (sheet : Sheet) (v : View) (o : Ordered (v .table) (v .issued)) where
   unfolding rowsAfter refusals
   next-rowsInOrder (Single (Create w s r)) h =
       let left : List Cap = afterAccess sheet Writing (suc i) s (liveRows t) in
-      risen (suc (suc i)) (row (root i s) r 1) left (record { below-bound = omega arith; in-place = rowInOrder-root w s r h left; rest = used-rowsInOrder Writing (suc i) s })
-  next-rowsInOrder (Single (Borrow w u s r kind)) h =
-      risen (suc (suc i)) (row (child i u s kind) r (suc (lookup (u .0) (liveRows t) .depth))) (liveRows t) (record { below-bound = omega arith; in-place = rowInOrder-child w u s r kind h; rest = o .rise })
+      risen (suc (suc i)) (row (root i s r) (r .right) 1) left (record { below-bound = omega arith; in-place = rowInOrder-root w s r h left; rest = used-rowsInOrder Writing (suc i) s })
+  next-rowsInOrder (Single (Borrow w u s r)) h =
+      risen (suc (suc i)) (row (child i u (lookup (u .0) (liveRows t) .fresh) s r) (r .right) (suc (lookup (u .0) (liveRows t) .depth))) (liveRows t) (record { below-bound = omega arith; in-place = rowInOrder-child w u s r h; rest = o .rise })
   next-rowsInOrder (Single (Read u s)) h = used-rowsInOrder Reading (u .0) s
   next-rowsInOrder (Single (Write u s)) h = used-rowsInOrder Writing (u .0) s
   next-rowsInOrder (Single (Drop u)) h = without-rowsInOrder (u .0 ∷ [])
@@ -367,7 +403,7 @@ module _ (sheet : Sheet) (v : View) (o : Ordered (v .table) (v .issued)) where
   unfolding inOrder
   lent-inOrder rows j l n b h = rw (length-lent (length t) rows l, o .few, liveRowsFirst-lent (length t) rows n, b, live-lent (length t) rows n) h
 
-  order-next : (q : Request) → judge v q ≡ 0 → inOrder (lentTable (length t) (rowsAfter sheet i (liveRows t) q)) (issuedAfter i q) ≡ true
+  pub order-next : (q : Request) → judge v q ≡ 0 → inOrder (lentTable (length t) (rowsAfter sheet i (liveRows t) q)) (issuedAfter i q) ≡ true
   order-next q h = lent-inOrder (rowsAfter sheet i (liveRows t) q) (issuedAfter i q) (next-fits sheet v q h) (next-named q) (names-enough q h) (next-rowsInOrder q h)
 
   -- an access through any name leaves a table in order; so does the half of a create that takes rows away
@@ -375,23 +411,39 @@ module _ (sheet : Sheet) (v : View) (o : Ordered (v .table) (v .issued)) where
   access-inOrder a u s =
       lent-inOrder (afterAccess sheet a u s (liveRows t)) i (omega (arith, access-fits sheet a u s (liveRows t), length-live t)) (access-named sheet (liveRows t) (live-named t) a u s) (o .names-left) (used-rowsInOrder a u s)
 
-order-outcome : (sheet : Sheet) (h : State) (q : Request) (j : ℕ) → judge (view h) q ≡ j → inOrder (h .table) (h .tally .issued) ≡ true
-    → inOrder (Step.outcome sheet j h q .table) (Step.outcome sheet j h q .tally .issued) ≡ true
+order-outcome : (sheet : Sheet) (h : State) (q : Request) (j : ℕ) → judge (view h) q ≡ j → inOrder (h .memory .table) (h .tally .issued) ≡ true
+    → inOrder (Step.outcome sheet j h q .memory .table) (Step.outcome sheet j h q .tally .issued) ≡ true
 order-outcome sheet h q zero z o =
-    rw (counted-issued q (h .tally)) (order-next sheet (view h) (ordered (h .table) (h .tally .issued) o) q z)
+    rw (counted-issued q (h .tally)) (order-next sheet (view h) (ordered (h .memory .table) (h .tally .issued) o) q z)
 order-outcome sheet h q (suc zero) z o = o
 order-outcome sheet h q (suc (suc j)) z o = o
 
 -- A table in order is in order after every request.
-pub order-after : (sheet : Sheet) (h : State) (q : Request) → inOrder (h .table) (h .tally .issued) ≡ true → inOrder (Step.after sheet h q .table) (Step.after sheet h q .tally .issued) ≡ true
+pub order-after : (sheet : Sheet) (h : State) (q : Request) → inOrder (h .memory .table) (h .tally .issued) ≡ true → inOrder (Step.after sheet h q .memory .table) (Step.after sheet h q .tally .issued) ≡ true
 unfolding Step.after
 order-after sheet h q = order-outcome sheet h q (judge (view h) q) refl
 
-pub order-final : (sheet : Sheet) (qs : List Request) (h : State) → inOrder (h .table) (h .tally .issued) ≡ true → inOrder (final (Step.after sheet) h qs .table) (final (Step.after sheet) h qs .tally .issued) ≡ true
+-- a request keeps the number of bytes
+size-after : (sheet : Sheet) (h : State) (q : Request) → length (Step.after sheet h q .memory .bits) ≡ length (h .memory .bits)
+unfolding Step.after
+size-after sheet h q = go (judge (view h) q)
+  where
+    go : (j : ℕ) → length (Step.outcome sheet j h q .memory .bits) ≡ length (h .memory .bits)
+    go zero = length-after (h .memory .bits) q
+    go (suc zero) = refl
+    go (suc (suc j)) = refl
+
+-- and the order
+
+-- What is fit stays fit.
+pub fit-after : (sheet : Sheet) (h : State) (q : Request) → unfit (view h) ≡ false → unfit (view (Step.after sheet h q)) ≡ false
+fit-after sheet h q f = fit-both (view (Step.after sheet h q)) (order-after sheet h q (fit-order (view h) f)) (size-after sheet h q ∙ fit-size (view h) f)
+
+pub order-final : (sheet : Sheet) (qs : List Request) (h : State) → inOrder (h .memory .table) (h .tally .issued) ≡ true → inOrder (final (Step.after sheet) h qs .memory .table) (final (Step.after sheet) h qs .tally .issued) ≡ true
 order-final sheet [] h o = o
 order-final sheet (q ∷ qs) h o = order-final sheet qs (Step.after sheet h q) (order-after sheet h q o)
 
 -- Zero rows are in order, up to 1,024 of them.
-pub order-fresh : (n : ℕ) (t : Tally) → n ≤ 1024 → t .issued ≡ 0 → inOrder (Step.initial n t .table) (t .issued) ≡ true
+pub order-fresh : (n : ℕ) (t : Tally) → n ≤ 1024 → t .issued ≡ 0 → inOrder (Step.initial n t .memory .table) (t .issued) ≡ true
 unfolding inOrder liveRows rowsInOrder
 order-fresh n t l z = rw (z, length-replicate n emptyRow, le-leb n 1024 l, liveRowsFirst-zeros n, filter-none (λ c. not (named 0 c)) emptyRow refl n)

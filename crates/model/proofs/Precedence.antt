@@ -17,7 +17,7 @@ use Rattle.model.specs.declared.Event.the-variants.{Create, Borrow, Read
 use Rattle.model.specs.Lists.{filter, any, all, first}
 use Rattle.model.specs.Requests.{Request, Single, Group}
 use Rattle.model.specs.Table.{liveRows}
-use Rattle.model.specs.Refusals.{View, disordered, misgrouped, standing, standings, precedence, place, refusals, judge}
+use Rattle.model.specs.Refusals.{View, unfit, misgrouped, standing, standings, precedence, place, refusals, judge}
 use Rattle.model.proofs.Lists.{listed, first-none, test, clash, and-both, all-append}
 
 -- ---- checks whose places rise, from above a bound
@@ -132,7 +132,7 @@ first-lowest-repeated cs ds j rises some again l = listed-append cs ds j (go (fi
 rising : (v : View) (e : Event) → risesFrom 0 (refusals v (Single e)) ≡ true
 unfolding refusals
 rising v (Create w s r) = refl
-rising v (Borrow w u s r kind) = refl
+rising v (Borrow w u s r) = refl
 rising v (Read u s) = refl
 rising v (Write u s) = refl
 rising v (Drop u) = refl
@@ -164,7 +164,7 @@ unfolding judge refusals standings
 given-first v (Single e) j l = first-lowest (refusals v (Single e)) 0 j (rising v e) l
 given-first v (Group []) j l = first-lowest (refusals v (Group [])) 0 j refl l
 given-first v (Group (u ∷ names)) j l =
-    let front : List (ℕ × Bool) = (1, disordered (v .table) (v .issued)) ∷ (13, misgrouped (u ∷ names)) ∷ standing (liveRows (v .table)) (v .issued) (record { 0 = u }) in
+    let front : List (ℕ × Bool) = (1, unfit v) ∷ (13, misgrouped (u ∷ names)) ∷ standing (liveRows (v .table)) (v .issued) (record { 0 = u }) in
     first-lowest-repeated front (standings (liveRows (v .table)) (v .issued) names) j refl refl (standings-repeat front (liveRows (v .table)) (v .issued) names (λ u. refl)) l
 
 -- ---- the order of precedence, worded again
@@ -185,6 +185,10 @@ thirteen-after = refl
 pub fourteen-after : (place 14 ≡ suc (place 2)) × (place 15 ≡ suc (place 14))
 fourteen-after = (refl, refl)
 
+-- Card 9: 16 is "after 7".
+pub sixteen-after : place 16 ≡ suc (place 7)
+sixteen-after = refl
+
 -- There are no more.
-pub fifteen-numbers : length precedence ≡ 15
-fifteen-numbers = refl
+pub sixteen-numbers : length precedence ≡ 16
+sixteen-numbers = refl

@@ -9,7 +9,7 @@ use Prim.Native.Nat.{ℕ, zero, suc, _≤_, _<_}
 use native.Mathlib.Omega.{arith}
 use lib.Dec.{eqb, ltb}
 use lib.ListN.{length, getD, List·getD-map}
-use borrow.Author.Tests.{eqb-true, not-false}
+use borrow.Author.Tests.{eqb-true}
 use Rattle.model.specs.declared.Name.{Name}
 use Rattle.model.specs.declared.Span.{Span}
 use Rattle.model.specs.declared.Cap.{Cap}
@@ -27,8 +27,9 @@ use Rattle.model.specs.Derivation.{Derivation, ancestry, inSubtree, onAn
 use Rattle.model.specs.Strike.{isLower, isEnd, resultOf, origin, strike, reached, struck}
 use Rattle.model.specs.Sheet6.{sheet6}
 use Rattle.model.specs.Table.{row, emptyRow, span, derivation, derivations, named, liveRows, isRight, inOrder}
-use Rattle.model.specs.Refusals.{viewOf, refusals, judge}
+use Rattle.model.specs.Refusals.{viewOf, judge}
 use Rattle.model.specs.Effects.{lowered, revoke, afterAccess, rowsAfter}
+use Rattle.model.specs.Bits.{bitsAfter}
 use Rattle.model.specs.Counts.{countUp, countAllowed}
 use Rattle.model.specs.Step.{Verdict, State, view, isAllowed, answer, after, initial, stateAfter}
 use Rattle.model.specs.History.{historyAfter}
@@ -39,8 +40,9 @@ use Rattle.model.specs.ReadRemoved.{NoReadEnds, isStrike, livesIn, readS
 use Rattle.model.proofs.Lists.{All-of, test, clash, unless, and-both, or-neither, all-append, final-append, answers-append, filter-all}
 use Rattle.model.proofs.Ancestries.{Falling, ancestry-zero, ancestry-above, ancestry-past}
 use Rattle.model.proofs.Notes.{taken-cong}
-use Rattle.model.proofs.Judged.{allowed}
-use Rattle.model.proofs.Match.{counted-issued, count-raised}
+use Rattle.model.proofs.Judged.{in-order, sized, counted-issued}
+use Rattle.model.proofs.Match.{count-raised}
+use Rattle.model.proofs.Bits.{length-after}
 use Rattle.model.proofs.Order.{rowsInOrder-falling, live-named, ordered, order-after}
 use Rattle.model.proofs.Lowered.{lower, allowed-lower, after-lower, rights-table, lowered-right}
 use Rattle.model.proofs.Rows.{table-changed}
@@ -51,7 +53,7 @@ use Rattle.model.proofs.Demand3.{demand3}
 -- a read and another request count in either order alike
 counts-commute : (u : Name) (s : Span) (q : Request) (t : Tally) → countAllowed q (countAllowed (Single (Read u s)) t) ≡ countAllowed (Single (Read u s)) (countAllowed q t)
 counts-commute u s (Single (Create w v r)) t = refl
-counts-commute u s (Single (Borrow w x v r kind)) t = refl
+counts-commute u s (Single (Borrow w x v r)) t = refl
 counts-commute u s (Single (Read x v)) t = refl
 counts-commute u s (Single (Write x v)) t = refl
 counts-commute u s (Single (Drop x)) t = refl
@@ -60,8 +62,10 @@ counts-commute u s (Group names) t = refl
 module _ (u : Name) (s : Span) (hit : ℕ → Bool) where
   -- The second has the table of the first, lowered where `hit` says, and one read more. No empty row is hit, and no name given out later.
   record Below (h l : State) : Type 0 where
-    pub ordered-table : inOrder (h .table) (h .tally .issued) ≡ true
-    pub lower-table : l .table ≡ map (lower hit) (h .table)
+    pub ordered-table : inOrder (h .memory .table) (h .tally .issued) ≡ true
+    pub bits-sized : length (h .memory .bits) ≡ 8192
+    pub same-bits : l .memory .bits ≡ h .memory .bits
+    pub lower-table : l .memory .table ≡ map (lower hit) (h .memory .table)
     pub one-read-more : l .tally ≡ countAllowed (Single (Read u s)) (h .tally)
     pub zero-kept : hit 0 ≡ false
     pub later-kept : (x : ℕ) → h .tally .issued < x → hit x ≡ false
@@ -71,7 +75,10 @@ module _ (u : Name) (s : Span) (hit : ℕ → Bool) where
     same-issued = ap (λ t. t .issued) (b .one-read-more)
 
     also-allowed : judge (view h) q ≡ 0
-    also-allowed = allowed-lower hit (h .table) (h .tally .issued) q (b .ordered-table) (ap₂ (λ t i. judge (viewOf t i) q) (sym (b .lower-table)) (sym same-issued) ∙ z)
+    also-allowed =
+        allowed-lower hit (h .memory .table) (h .memory .bits) (h .tally .issued) q (b .ordered-table) (b .bits-sized)
+        (ap (λ bits. judge (viewOf (map (lower hit) (h .memory .table)) bits (h .tally .issued)) q) (sym (b .same-bits))
+        ∙ ap₂ (λ t i. judge (viewOf t (l .memory .bits) i) q) (sym (b .lower-table)) (sym same-issued) ∙ z)
 
     same-answer : answer h q ≡ answer l q
     unfolding answer
@@ -82,7 +89,9 @@ module _ (u : Name) (s : Span) (hit : ℕ → Bool) where
     below-after =
         record {
           ordered-table = order-after sheet h q (b .ordered-table);
-          lower-table = rw (also-allowed, z, b .lower-table, same-issued) (after-lower hit (h .table) (h .tally .issued) q (b .zero-kept) (b .later-kept (suc (h .tally .issued)) (omega arith)) sheet);
+          bits-sized = rw also-allowed (length-after (h .memory .bits) q ∙ b .bits-sized);
+          same-bits = rw (also-allowed, z) (ap (λ bits. bitsAfter bits q) (b .same-bits));
+          lower-table = rw (also-allowed, z, b .lower-table, same-issued) (after-lower hit (h .memory .table) (h .tally .issued) q (b .zero-kept) (b .later-kept (suc (h .tally .issued)) (omega arith)) sheet);
           one-read-more = rw (also-allowed, z) (ap (countAllowed q) (b .one-read-more) ∙ counts-commute u s q (h .tally));
           zero-kept = b .zero-kept;
           later-kept = rw also-allowed (λ x later. b .later-kept x (omega (arith, counted-issued q (h .tally), count-raised (h .tally .issued) q)));
@@ -131,7 +140,7 @@ absent x (c ∷ rows) e = let p = or-neither (named x c) (any (named x) rows) e 
 
 module _ (sheet : Sheet) (h : State) (u : Name) (s : Span) where
   -- what has no ancestry is not struck
-  unstruck : (x : ℕ) → ancestry (derivations (liveRows (h .table))) x ≡ [] → readStrikes sheet h u s x ≡ false
+  unstruck : (x : ℕ) → ancestry (derivations (liveRows (h .memory .table))) x ≡ [] → readStrikes sheet h u s x ≡ false
   unfolding struck reached onAncestry
   unstruck x e = rw e
 
@@ -140,37 +149,38 @@ module _ (sheet : Sheet) (h : State) (u : Name) (s : Span) where
     where
       go : (livesIn h x ≡ true) ⊎ (livesIn h x ≡ false) → livesIn h x ≡ true
       go (inl e) = e
-      go (inr e) = clash t (unstruck x (absent x (liveRows (h .table)) e))
+      go (inr e) = clash t (unstruck x (absent x (liveRows (h .memory .table)) e))
 
   module _ (none-end : NoReadEnds sheet) (z : judge (view h) (Single (Read u s)) ≡ 0) where
-    in-order : inOrder (h .table) (h .tally .issued) ≡ true
-    unfolding refusals
-    in-order = not-false (inOrder (h .table) (h .tally .issued)) (allowed (view h) (Single (Read u s)) z 1)
+    orderly : inOrder (h .memory .table) (h .tally .issued) ≡ true
+    orderly = in-order (view h) (Single (Read u s)) z
 
-    falls : Falling (suc (h .tally .issued)) (derivations (liveRows (h .table)))
-    falls = rowsInOrder-falling (suc (h .tally .issued)) (liveRows (h .table)) (live-named (h .table)) (ordered (h .table) (h .tally .issued) in-order .rise)
+    falls : Falling (suc (h .tally .issued)) (derivations (liveRows (h .memory .table)))
+    falls = rowsInOrder-falling (suc (h .tally .issued)) (liveRows (h .memory .table)) (live-named (h .memory .table)) (ordered (h .memory .table) (h .tally .issued) orderly .rise)
 
-    read-lowers : (rows : List Cap) → rows ≡ liveRows (h .table) → afterAccess sheet Reading (u .0) s rows ≡ map (lower (readStrikes sheet h u s)) rows
+    read-lowers : (rows : List Cap) → rows ≡ liveRows (h .memory .table) → afterAccess sheet Reading (u .0) s rows ≡ map (lower (readStrikes sheet h u s)) rows
     unfolding afterAccess revoke struck
     read-lowers rows e =
-        let user : List Derivation = ancestry (derivations (liveRows (h .table))) (u .0) in
+        let user : List Derivation = ancestry (derivations (liveRows (h .memory .table))) (u .0) in
         rw e
-        (taken-cong _ _ (λ x. false) (readStrikes sheet h u s) (liveRows (h .table))
-        (All-of _ (λ c. (nothing-ends sheet none-end s user (ancestry (derivations (liveRows (h .table))) (c .name .0)), sym (strikes-lower sheet none-end s user (ancestry (derivations (liveRows (h .table))) (c .name .0))))) (liveRows (h .table)))
-        ∙ ap (map (lower (readStrikes sheet h u s))) (filter-all (λ c. true) (liveRows (h .table)) (All-of _ (λ c. refl) (liveRows (h .table)))))
+        (taken-cong _ _ (λ x. false) (readStrikes sheet h u s) (liveRows (h .memory .table))
+        (All-of _ (λ c. (nothing-ends sheet none-end s user (ancestry (derivations (liveRows (h .memory .table))) (c .name .0)), sym (strikes-lower sheet none-end s user (ancestry (derivations (liveRows (h .memory .table))) (c .name .0))))) (liveRows (h .memory .table)))
+        ∙ ap (map (lower (readStrikes sheet h u s))) (filter-all (λ c. true) (liveRows (h .memory .table)) (All-of _ (λ c. refl) (liveRows (h .memory .table)))))
 
     below-read : Below u s (readStrikes sheet h u s) h (after sheet h (Single (Read u s)))
-    unfolding after rowsAfter
+    unfolding after rowsAfter bitsAfter
     below-read =
-        let zero-unstruck = unstruck 0 (ancestry-zero (suc (h .tally .issued)) (derivations (liveRows (h .table))) falls) in
+        let zero-unstruck = unstruck 0 (ancestry-zero (suc (h .tally .issued)) (derivations (liveRows (h .memory .table))) falls) in
         record {
-          ordered-table = in-order;
+          ordered-table = orderly;
+          bits-sized = sized (view h) (Single (Read u s)) z;
+          same-bits = rw z;
           lower-table =
-              rw (z, read-lowers (liveRows (h .table)) refl)
-              (table-changed (h .table) (ordered (h .table) (h .tally .issued) in-order .rest-is-empty) (lower (readStrikes sheet h u s)) (ap (λ b. lowered b emptyRow) zero-unstruck));
+              rw (z, read-lowers (liveRows (h .memory .table)) refl)
+              (table-changed (h .memory .table) (ordered (h .memory .table) (h .tally .issued) orderly .rest-is-empty) (lower (readStrikes sheet h u s)) (ap (λ b. lowered b emptyRow) zero-unstruck));
           one-read-more = rw z;
           zero-kept = zero-unstruck;
-          later-kept = λ x later. unstruck x (ancestry-above (suc (h .tally .issued)) x (derivations (liveRows (h .table))) falls (omega arith));
+          later-kept = λ x later. unstruck x (ancestry-above (suc (h .tally .issued)) x (derivations (liveRows (h .memory .table))) falls (omega arith));
         }
 
 -- ---- card 8
@@ -183,28 +193,29 @@ module _ (sheet : Sheet) (here : State) (u : Name) (s : Span) (l h : State) (b :
   rights : OnlyRights sheet here u s l h
   rights =
       record {
-        only-rights = ap (map rightless) (b .lower-table) ∙ map-map rightless (lower strikes) (h .table);
+        only-rights = ap (map rightless) (b .lower-table) ∙ map-map rightless (lower strikes) (h .memory .table);
         rights-differ = differ;
         exactly = b .lower-table;
+        same-bits = b .same-bits;
         one-read-more = b .one-read-more;
         unless-full = λ few. let e : l .tally .reads ≡ countUp (h .tally .reads) = ap (λ t. t .reads) (b .one-read-more) in omega (arith);
       }
     where
-      differ : (k : ℕ) → let c : Cap = getD (l .table) k emptyRow in let d : Cap = getD (h .table) k emptyRow in
+      differ : (k : ℕ) → let c : Cap = getD (l .memory .table) k emptyRow in let d : Cap = getD (h .memory .table) k emptyRow in
           (d .right ≡ c .right) ⊎ ((livesIn here (d .name .0) ≡ true) × (strikes (d .name .0) ≡ true) × (d .right ≡ 2) × (c .right ≡ 1))
       differ k = rw placed (go (lowered-right (strikes (d .name .0)) d known))
         where
           d : Cap
-          d = getD (h .table) k emptyRow
+          d = getD (h .memory .table) k emptyRow
 
-          placed : getD (l .table) k emptyRow ≡ lower strikes d
+          placed : getD (l .memory .table) k emptyRow ≡ lower strikes d
           placed =
               ap (λ t. getD t k emptyRow) (b .lower-table)
-              ∙ ap (getD (map (lower strikes) (h .table)) k) (sym (ap (λ b. lowered b emptyRow) (b .zero-kept)))
-              ∙ List·getD-map (lower strikes) (h .table) k emptyRow
+              ∙ ap (getD (map (lower strikes) (h .memory .table)) k) (sym (ap (λ b. lowered b emptyRow) (b .zero-kept)))
+              ∙ List·getD-map (lower strikes) (h .memory .table) k emptyRow
 
           known : strikes (d .name .0) ≡ true → isRight (d .right) ≡ true
-          known t = rights-table (h .table) (h .tally .issued) (b .ordered-table) k
+          known t = rights-table (h .memory .table) (h .tally .issued) (b .ordered-table) k
               (ap not (unless (named 0 d) (λ e. clash t (ap strikes (sym (eqb-true 0 (d .name .0) e)) ∙ b .zero-kept))))
 
           go : (d .right ≡ lower strikes d .right) ⊎ ((strikes (d .name .0) ≡ true) × (d .right ≡ 2) × (lower strikes d .right ≡ 1))

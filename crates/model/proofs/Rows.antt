@@ -55,7 +55,8 @@ lent-changed f e n rows =
 pub emptyRow-empty : (c : Cap) → isEmptyRow c ≡ true → c ≡ emptyRow
 unfolding isEmptyRow
 emptyRow-empty c h =
-    let o = and-both (eqb (c .name .0) 0 && eqb (c .parent .0) 0 && eqb (c .start .0) 0 && eqb (c .length) 0 && eqb (c .right) 0 && eqb (c .depth) 0) (eqb (c .kind) 0) h in
+    let n = and-both (eqb (c .name .0) 0 && eqb (c .parent .0) 0 && eqb (c .start .0) 0 && eqb (c .length) 0 && eqb (c .right) 0 && eqb (c .depth) 0 && eqb (c .kind) 0) (eqb (c .fresh) 0) h in
+    let o = and-both (eqb (c .name .0) 0 && eqb (c .parent .0) 0 && eqb (c .start .0) 0 && eqb (c .length) 0 && eqb (c .right) 0 && eqb (c .depth) 0) (eqb (c .kind) 0) (n .0) in
     let p = and-both (eqb (c .name .0) 0 && eqb (c .parent .0) 0 && eqb (c .start .0) 0 && eqb (c .length) 0 && eqb (c .right) 0) (eqb (c .depth) 0) (o .0) in
     let q = and-both (eqb (c .name .0) 0 && eqb (c .parent .0) 0 && eqb (c .start .0) 0 && eqb (c .length) 0) (eqb (c .right) 0) (p .0) in
     let r = and-both (eqb (c .name .0) 0 && eqb (c .parent .0) 0 && eqb (c .start .0) 0) (eqb (c .length) 0) (q .0) in
@@ -69,6 +70,7 @@ emptyRow-empty c h =
       right = eqb-true (c .right) 0 (q .1) k;
       depth = eqb-true (c .depth) 0 (p .1) k;
       kind = eqb-true (c .kind) 0 (o .1) k;
+      fresh = eqb-true (c .fresh) 0 (n .1) k;
     }
 
 blanks : (t : List Cap) → all isEmptyRow t ≡ true → replicate (length t) emptyRow ≡ t

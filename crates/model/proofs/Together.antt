@@ -7,7 +7,7 @@ use Prim.Native.Nat.{ℕ, zero, suc, _<_, _≤_}
 use native.Mathlib.Omega.{arith}
 use lib.Dec.{eqb, ltb}
 use lib.ListN.{length}
-use borrow.Author.Tests.{eqb-true, eq-eqb, ne-eqb, not-true, not-false}
+use borrow.Author.Tests.{eqb-true, eq-eqb, ne-eqb, not-true}
 use Rattle.model.specs.declared.Cap.{Cap}
 use Rattle.model.specs.declared.Event.the-variants.{Drop}
 use Rattle.model.specs.declared.Sheet.{Sheet}
@@ -15,15 +15,16 @@ use Rattle.model.specs.Lists.{filter, any, all, first, final, answers}
 use Rattle.model.specs.Requests.{Request, Single, Group, risesAbove, risesStrictly, isGroup, singleDrops}
 use Rattle.model.specs.Derivation.{ancestry, inSubtree}
 use Rattle.model.specs.Table.{derivation, derivations, named, liveRows, lentTable, rowsInOrder, inOrder}
-use Rattle.model.specs.Refusals.{View, standing, standings, refusals, judge}
+use Rattle.model.specs.Refusals.{unfit, View, standing, standings, refusals, judge}
 use Rattle.model.specs.Effects.{revoke, inSubtrees, rowsWithout, rowsAfter}
+use Rattle.model.specs.Bits.{bitsAfter}
 use Rattle.model.specs.Step.{State, view, isAllowed, answer, outcome, after}
-use Rattle.model.specs.History.{History, Dropped, notesOf}
+use Rattle.model.specs.History.{Note, History, Dropped, notesOf}
 use Rattle.model.specs.History
 use Rattle.model.proofs.Lists.{All, All-map, All-of, All-sub, and-both, or-neither, and-neither, any-false, any-kept, passes, filter-cong, filter-filter, filter-map, filter-all, length-filter, map-id, all-append, final-append, answers-append}
 use Rattle.model.proofs.Ancestries.{Closed, ancestry-kept, ancestry-upto}
 use Rattle.model.proofs.Lent.{Named, live-lent, length-lent}
-use Rattle.model.proofs.Judged.{allowed, Stands, Rising, group-rises, group-stands, length-live}
+use Rattle.model.proofs.Judged.{Stands, Rising, group-rises, group-stands, length-live, in-order, sized}
 use Rattle.model.proofs.Order.{group-step, rowsInOrder-falling, live-named, ordered, order-final}
 use Rattle.model.proofs.Rows.{lent-live}
 use Rattle.model.proofs.Match.{Match, same-judge, run}
@@ -31,11 +32,11 @@ use Rattle.model.proofs.Match.{Match, same-judge, run}
 -- ---- the number given
 
 -- 1 comes before all, and 13 next.
-pub disordered-first : (v : View) (names : List ℕ) → inOrder (v .table) (v .issued) ≡ false → judge v (Group names) ≡ 1
+pub disordered-first : (v : View) (names : List ℕ) → unfit v ≡ true → judge v (Group names) ≡ 1
 unfolding judge refusals
 disordered-first v names d = rw d
 
-pub misgrouped-next : (v : View) (names : List ℕ) → inOrder (v .table) (v .issued) ≡ true → isGroup names ≡ false → judge v (Group names) ≡ 13
+misgrouped-next : (v : View) (names : List ℕ) → unfit v ≡ false → isGroup names ≡ false → judge v (Group names) ≡ 13
 unfolding judge refusals
 misgrouped-next v names o g = rw (o, g)
 
@@ -83,14 +84,14 @@ module _ (rows : List Cap) (issued : ℕ) where
   all-passed (u ∷ names) a = name-passed u names (a .0) ∙ all-passed names (a .1)
 
 -- It is the number that a single drop of that name gets on the same table.
-pub first-refused : (v : View) (before : List ℕ) (x : ℕ) (later : List ℕ) (k : ℕ) → inOrder (v .table) (v .issued) ≡ true → isGroup (before ++ (x ∷ later)) ≡ true
+pub first-refused : (v : View) (before : List ℕ) (x : ℕ) (later : List ℕ) (k : ℕ) → unfit v ≡ false → isGroup (before ++ (x ∷ later)) ≡ true
     → All (λ u. judge v (Single (Drop (record { 0 = u }))) ≡ 0) before → judge v (Single (Drop (record { 0 = x }))) ≡ suc k → judge v (Group (before ++ (x ∷ later))) ≡ suc k
 unfolding judge refusals
 first-refused v before x later k o g a z =
     rw (o, g) (in-turn (liveRows (v .table)) (v .issued) before x later k (All-map _ _ (λ u e. rw o at e) before a) (rw o at z))
 
 -- Where none is refused, the group is allowed.
-pub none-refused : (v : View) (names : List ℕ) → inOrder (v .table) (v .issued) ≡ true → isGroup names ≡ true → All (λ u. judge v (Single (Drop (record { 0 = u }))) ≡ 0) names
+pub none-refused : (v : View) (names : List ℕ) → unfit v ≡ false → isGroup names ≡ true → All (λ u. judge v (Single (Drop (record { 0 = u }))) ≡ 0) names
     → judge v (Group names) ≡ 0
 unfolding judge refusals
 none-refused v names o g a = rw (o, g) (all-passed (liveRows (v .table)) (v .issued) names (All-map _ _ (λ u e. rw o at e) names a))
@@ -172,12 +173,13 @@ module _ (sheet : Sheet) where
   -- what single drops in falling order leave, each of which is allowed in its turn
   pub record Singly (h : State) (names : List ℕ) : Type 0 where
     pub each-allowed : all isAllowed (answers (after sheet) answer h (singleDrops names)) ≡ true
-    pub table-left : final (after sheet) h (singleDrops names) .table ≡ lentTable (length (h .table)) (rowsWithout names (liveRows (h .table)))
+    pub table-left : final (after sheet) h (singleDrops names) .memory .table ≡ lentTable (length (h .memory .table)) (rowsWithout names (liveRows (h .memory .table)))
     pub issued-left : final (after sheet) h (singleDrops names) .tally .issued ≡ h .tally .issued
+    pub bits-left : final (after sheet) h (singleDrops names) .memory .bits ≡ h .memory .bits
 
-  module _ (h : State) (o : inOrder (h .table) (h .tally .issued) ≡ true) where
+  module _ (h : State) (o : inOrder (h .memory .table) (h .tally .issued) ≡ true) (b : length (h .memory .bits) ≡ 8192) where
     abbrev rows : List Cap
-    rows = liveRows (h .table)
+    rows = liveRows (h .memory .table)
 
     dropped-none : rowsWithout [] rows ≡ rows
     dropped-none = without-left [] rows ∙ filter-all _ rows (All-of _ (λ c. refl) rows)
@@ -190,8 +192,8 @@ module _ (sheet : Sheet) where
       drop-allowed : judge (view then) (Single (Drop (record { 0 = x }))) ≡ 0
       unfolding judge refusals
       drop-allowed =
-          rw (order-final sheet (singleDrops names) h o, s .table-left, s .issued-left, live-lent (length (h .table)) (rowsWithout names rows) (without-named (h .table) names))
-          (rw (stands .0, smaller-stays (suc (h .tally .issued)) rows (live-named (h .table)) (ordered (h .table) (h .tally .issued) o .rise) names x below, stands .1))
+          rw (order-final sheet (singleDrops names) h o, s .bits-left, b, s .table-left, s .issued-left, live-lent (length (h .memory .table)) (rowsWithout names rows) (without-named (h .memory .table) names))
+          (rw (stands .0, smaller-stays (suc (h .tally .issued)) rows (live-named (h .memory .table)) (ordered (h .memory .table) (h .tally .issued) o .rise) names x below, stands .1))
 
       abbrev drop : List Request
       drop = Single (Drop (record { 0 = x })) ∷ []
@@ -200,20 +202,24 @@ module _ (sheet : Sheet) where
       unfolding answer
       answer-allowed = eq-eqb _ 0 drop-allowed
 
-      left-then : after sheet then (Single (Drop (record { 0 = x }))) .table ≡ lentTable (length (h .table)) (rowsWithout (x ∷ names) rows)
+      left-then : after sheet then (Single (Drop (record { 0 = x }))) .memory .table ≡ lentTable (length (h .memory .table)) (rowsWithout (x ∷ names) rows)
       unfolding after rowsAfter
       left-then =
           rw (
             drop-allowed,
             s .table-left,
-            length-lent (length (h .table)) (rowsWithout names rows) (without-fits (h .table) names),
-            live-lent (length (h .table)) (rowsWithout names rows) (without-named (h .table) names),
+            length-lent (length (h .memory .table)) (rowsWithout names rows) (without-fits (h .memory .table) names),
+            live-lent (length (h .memory .table)) (rowsWithout names rows) (without-named (h .memory .table) names),
           )
-          (ap (lentTable (length (h .table))) (without-more (suc (h .tally .issued)) rows (live-named (h .table)) (ordered (h .table) (h .tally .issued) o .rise) names x))
+          (ap (lentTable (length (h .memory .table))) (without-more (suc (h .tally .issued)) rows (live-named (h .memory .table)) (ordered (h .memory .table) (h .tally .issued) o .rise) names x))
 
       issued-then : after sheet then (Single (Drop (record { 0 = x }))) .tally .issued ≡ h .tally .issued
       unfolding after
       issued-then = rw drop-allowed (s .issued-left)
+
+      bits-then : after sheet then (Single (Drop (record { 0 = x }))) .memory .bits ≡ h .memory .bits
+      unfolding after bitsAfter
+      bits-then = rw drop-allowed (s .bits-left)
 
       singly-more : Singly h (x ∷ names)
       singly-more =
@@ -223,14 +229,16 @@ module _ (sheet : Sheet) where
                 (rw answer-allowed);
             table-left = rw (singleDrops-cons x names, final-append (after sheet) h (singleDrops names) drop) left-then;
             issued-left = rw (singleDrops-cons x names, final-append (after sheet) h (singleDrops names) drop) issued-then;
+            bits-left = rw (singleDrops-cons x names, final-append (after sheet) h (singleDrops names) drop) bits-then;
           }
 
     singly-rising : (names : List ℕ) → Rising names → All (Stands rows (h .tally .issued)) names → Singly h names
     singly-rising [] r a =
         record {
           each-allowed = refl;
-          table-left = sym (rw dropped-none (lent-live (h .table) (ordered (h .table) (h .tally .issued) o .rest-is-empty)));
+          table-left = sym (rw dropped-none (lent-live (h .memory .table) (ordered (h .memory .table) (h .tally .issued) o .rest-is-empty)));
           issued-left = refl;
+          bits-left = refl;
         }
     singly-rising (x ∷ names) r a = singly-more x names (r .0) (a .0) (singly-rising names (r .1) (a .1))
 
@@ -244,11 +252,11 @@ module _ (sheet : Sheet) where
     pub group-singly : Singly h names
     unfolding refusals
     group-singly =
-        singly-rising h (not-false (inOrder (h .table) (h .tally .issued)) (allowed (view h) (Group names) group-judged 1)) names
+        singly-rising h (in-order (view h) (Group names) group-judged) (sized (view h) (Group names) group-judged) names
         (group-rises (view h) names group-judged)
         (group-stands (view h) names group-judged)
 
-    pub group-table : after sheet h (Group names) .table ≡ final (after sheet) h (singleDrops names) .table
+    pub group-table : after sheet h (Group names) .memory .table ≡ final (after sheet) h (singleDrops names) .memory .table
     unfolding after rowsAfter
     group-table = rw group-judged (sym (group-singly .table-left))
 
@@ -303,7 +311,7 @@ module _ (sheet : Sheet) (x : ℕ) where
   one-answer h = rw (one-judged (view h))
 
   one-outcome : (j : ℕ) (h : State) → outcome sheet j h (Group (x ∷ [])) ≡ outcome sheet j h (Single (Drop (record { 0 = x })))
-  unfolding rowsAfter
+  unfolding rowsAfter bitsAfter
   one-outcome zero h = refl
   one-outcome (suc zero) h = refl
   one-outcome (suc (suc j)) h = refl
@@ -312,6 +320,6 @@ module _ (sheet : Sheet) (x : ℕ) where
   unfolding after
   one-after h = rw (one-judged (view h)) (one-outcome (judge (view h) (Single (Drop (record { 0 = x })))) h)
 
-  pub one-noted-same : (count : ℕ) → notesOf count (Group (x ∷ [])) ≡ notesOf count (Single (Drop (record { 0 = x })))
+  pub one-noted-same : (notes : List Note) (count : ℕ) → notesOf notes count (Group (x ∷ [])) ≡ notesOf notes count (Single (Drop (record { 0 = x })))
   unfolding notesOf
-  one-noted-same count = refl
+  one-noted-same notes count = refl

@@ -31,7 +31,7 @@ countIn Refusals t = t .refused
 -- the kind of a request; names dropped together are of the kind of a drop
 abbrev pub kindOf : Request → Counter
 kindOf (Single (Create w s r)) = Creates
-kindOf (Single (Borrow w u s r kind)) = Borrows
+kindOf (Single (Borrow w u s r)) = Borrows
 kindOf (Single (Read u s)) = Reads
 kindOf (Single (Write u s)) = Writes
 kindOf (Single (Drop u)) = Drops

@@ -17,7 +17,7 @@ tally issued creates borrows reads writes drops refused =
 -- names dropped together, "It counts once in the tally."
 abbrev pub countAllowed : Request → Tally → Tally
 countAllowed (Single (Create w s r)) t = tally (suc (t .issued)) (countUp (t .creates)) (t .borrows) (t .reads) (t .writes) (t .drops) (t .refused)
-countAllowed (Single (Borrow w u s r kind)) t = tally (suc (t .issued)) (t .creates) (countUp (t .borrows)) (t .reads) (t .writes) (t .drops) (t .refused)
+countAllowed (Single (Borrow w u s r)) t = tally (suc (t .issued)) (t .creates) (countUp (t .borrows)) (t .reads) (t .writes) (t .drops) (t .refused)
 countAllowed (Single (Read u s)) t = tally (t .issued) (t .creates) (t .borrows) (countUp (t .reads)) (t .writes) (t .drops) (t .refused)
 countAllowed (Single (Write u s)) t = tally (t .issued) (t .creates) (t .borrows) (t .reads) (countUp (t .writes)) (t .drops) (t .refused)
 countAllowed (Single (Drop u)) t = tally (t .issued) (t .creates) (t .borrows) (t .reads) (t .writes) (countUp (t .drops)) (t .refused)

@@ -1,6 +1,6 @@
 -- Document 01, "The history": demand 3, one claim about the whole list of requests; by card 5 names dropped together are among them.
 -- Assumes nothing.
-use Prim.Native.Nat.{ℕ}
+use Prim.Native.Nat.{ℕ, _<_}
 use mathlib.Core.Path.{_≡_}
 use mathlib.Core.Bool.{true, false}
 use mathlib.Core.List.{List, _++_}
@@ -11,9 +11,10 @@ use Rattle.model.specs.declared.Sheet.{Sheet}
 use Rattle.model.specs.declared.Event.the-variants.{Read, Write}
 use Rattle.model.specs.Lists.{all, answers, final}
 use Rattle.model.specs.Requests.{Request, Single, Group, singleDrops}
+use Rattle.model.specs.Bits.{bitAt}
 use Rattle.model.specs.Step.{initial, stateAfter, isAllowed}
 use Rattle.model.specs.Step
-use Rattle.model.specs.History.{emptyHistory, historyAfter, notedName, notesOf, table, lives, livesRw, mayRead, mayWrite}
+use Rattle.model.specs.History.{emptyHistory, historyAfter, notedName, notesOf, table, written, lives, livesRw, mayRead, mayWrite}
 use Rattle.model.specs.History
 
 -- Card 7: "For each complete sheet kept throughout, proved in general, the table and answers are those of the history and demand 3 read by
@@ -23,16 +24,18 @@ pub record Demand3 (sheet : Sheet) (n : ℕ) (t : Tally) (qs : List Request) : T
   -- "Each event has had the history's answer, refusal number and name included"
   pub same-answers : answers (Step.after sheet) Step.answer (initial n t) qs ≡ answers (History.after sheet n) (History.answer sheet n) emptyHistory qs
   -- "After every list the lent table equals it, and the issued number equals the count of names."
-  pub same-table : stateAfter sheet n t qs .table ≡ table sheet n (historyAfter sheet n qs .notes)
+  pub same-table : stateAfter sheet n t qs .memory .table ≡ table sheet n (historyAfter sheet n qs .notes)
   pub same-issued : stateAfter sheet n t qs .tally .issued ≡ historyAfter sheet n qs .count
+  -- Card 9: each written bit is what the notes say
+  pub same-bits : (a : ℕ) → a < 65536 → bitAt (stateAfter sheet n t qs .memory .bits) a ≡ written (historyAfter sheet n qs .notes) a
   -- "an allowed create or borrow has the name noted for it", and the others have name 0
-  pub noted-names : (q : Request) → isAllowed (Step.answer (stateAfter sheet n t qs) q) ≡ true → Step.answer (stateAfter sheet n t qs) q .name ≡ notedName (notesOf (historyAfter sheet n qs .count) q)
+  pub noted-names : (q : Request) → isAllowed (Step.answer (stateAfter sheet n t qs) q) ≡ true → Step.answer (stateAfter sheet n t qs) q .name ≡ notedName (notesOf (historyAfter sheet n qs .notes) (historyAfter sheet n qs .count) q)
   -- Card 5: "Allowed, it leaves the table, and in the history the notes, that single drops in falling order of name leave." Each of
   -- these is allowed in its turn.
   pub group-singly : (names : List ℕ) → isAllowed (Step.answer (stateAfter sheet n t qs) (Group names)) ≡ true
       → all isAllowed (answers (Step.after sheet) Step.answer (stateAfter sheet n t qs) (singleDrops names)) ≡ true
   pub group-table : (names : List ℕ) → isAllowed (Step.answer (stateAfter sheet n t qs) (Group names)) ≡ true
-      → Step.after sheet (stateAfter sheet n t qs) (Group names) .table ≡ final (Step.after sheet) (stateAfter sheet n t qs) (singleDrops names) .table
+      → Step.after sheet (stateAfter sheet n t qs) (Group names) .memory .table ≡ final (Step.after sheet) (stateAfter sheet n t qs) (singleDrops names) .memory .table
   pub group-history : (names : List ℕ) → isAllowed (Step.answer (stateAfter sheet n t qs) (Group names)) ≡ true
       → History.after sheet n (historyAfter sheet n qs) (Group names) ≡ final (History.after sheet n) (historyAfter sheet n qs) (singleDrops names)
   -- "Each read and write is also allowed exactly when demand 3 says."

@@ -14,6 +14,7 @@ pub record Derivation : Type 0 where
   pub parent : ℕ
   pub span : Span
   pub kind : ℕ
+  pub fresh : ℕ
 
 -- Document 01, "What each event does": "Subtree and ancestors are taken over parents; each capability is in its own subtree."
 -- Derivations stand newest first, so a parent's stands after its child's.

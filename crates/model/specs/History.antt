@@ -1,4 +1,4 @@
--- Document 01, "The history", and cards 4 to 7.
+-- Document 01, "The history", and cards 4 to 7 and 9.
 -- Assumes nothing.
 use Prim.Native.Nat.{ℕ, zero, suc}
 use mathlib.Core.Bool.{Bool, false, not, cond, _&&_, _||_}
@@ -15,16 +15,18 @@ use Rattle.model.specs.Lists.{filter, any, final}
 use Rattle.model.specs.Values.{legal, inside}
 use Rattle.model.specs.Derivation.{Derivation, ancestry, inSubtree}
 use Rattle.model.specs.Strike.{isLower, isEnd, reached, reclaimed}
-use Rattle.model.specs.Table.{row, lentTable}
+use Rattle.model.specs.Table.{row, lentTable, isMarked}
+use Rattle.model.specs.Bits.{inSpan, spanWritten}
 use Rattle.model.specs.Requests.{Request, Single, Group}
-use Rattle.model.specs.Refusals.{View, viewOf, judge}
+use Rattle.model.specs.Refusals.{View, judge}
 use Rattle.model.specs.Effects.{root, child, newName, issuedAfter}
 use Rattle.model.specs.Step.{Verdict, verdict}
 
 -- ---- notes
 
 -- "An allowed create or borrow .. is noted as a new name, with its parent (0 for a create), span and right as given"; card 6: "The history
--- notes a name's kind with it". "An allowed read or write notes its name and span, an allowed drop its name." Notes stand newest first.
+-- notes a name's kind with it, as it does each value that a record gains later". "An allowed read or write notes its name and span, an
+-- allowed drop its name." Notes stand newest first.
 pub data Note : Type 0 where
   New : Derivation → ℕ → Note
   Accessed : Access → ℕ → Span → Note
@@ -74,9 +76,27 @@ Takes = Note → List Derivation → List Derivation → Bool
 unfoldable pub hits : Takes → List Derivation → ℕ → Note → Bool
 hits takes derivations x w = takes w (ancestry derivations (user w)) (ancestry derivations x)
 
--- x was created or borrowed, and s lies within its own span
+-- x was created or borrowed, and what is noted of it passes the test
+abbrev pub notedAs : (Derivation → Bool) → List Note → ℕ → Bool
+notedAs p notes x = any (λ d. eqb x (d .name) && p d) (derivations notes)
+
+-- s lies within its own span
 unfoldable pub covers : List Note → ℕ → Span → Bool
-covers notes x s = any (λ d. eqb x (d .name) && inside s (d .span)) (derivations notes)
+covers notes x s = notedAs (λ d. inside s (d .span)) notes x
+
+-- ---- written addresses
+
+-- Card 9: "written since the last allowed create over it": of the notes over the address the newest, a write or a create, is a write
+unfoldable pub written : List Note → ℕ → Bool
+written [] a = false
+written (New d r ∷ notes) a = cond (eqb (d .parent) 0 && inSpan (d .span) a) false (written notes a)
+written (Accessed Reading u s ∷ notes) a = written notes a
+written (Accessed Writing u s ∷ notes) a = inSpan s a || written notes a
+written (Dropped u ∷ notes) a = written notes a
+
+-- "A read through a marked capability needs besides .. each address written since the last allowed create over it."
+abbrev pub isReadable : List Note → Span → Derivation → Bool
+isReadable notes s d = not (isMarked d) || spanWritten (written notes) s
 
 -- ---- what is read by a conflict sheet
 
@@ -113,13 +133,17 @@ module _ (sheet : Sheet) where
   -- "a read through a capability is allowed exactly when the capability was created or borrowed, the span is legal and within its own,
   -- and since it was made neither it nor any ancestor was dropped, or touched by an allowed write through a capability outside that one's
   -- own subtree"; by card 4 a create counts as such a write, and by card 7 the sheet says which accesses end
+  unfoldable pub mayUse : List Note → ℕ → Span → Bool
+  mayUse notes u s = legal s && covers notes u s && lives notes u
+
+  -- Card 9: a read "needs besides, in demand 3 too", that a marked capability's addresses are written
   unfoldable pub mayRead : List Note → ℕ → Span → Bool
-  mayRead notes u s = legal s && covers notes u s && lives notes u
+  mayRead notes u s = mayUse notes u s && notedAs (isReadable notes s) notes u
 
   -- "A write is allowed exactly when, besides, the capability was made writable and since then no allowed read touched it or an ancestor
-  -- through a capability outside that one's own subtree."
+  -- through a capability outside that one's own subtree." Card 9: "A write needs none written."
   unfoldable pub mayWrite : List Note → ℕ → Span → Bool
-  mayWrite notes u s = mayRead notes u s && writable notes u
+  mayWrite notes u s = mayUse notes u s && writable notes u
 
   -- ---- the history's table
 
@@ -148,15 +172,20 @@ pub record History : Type 0 where
 abbrev pub emptyHistory : History
 emptyHistory = record { notes = []; count = 0 }
 
--- the notes of an allowed request, newest first, when so many names have been counted; of names dropped together "the notes, that single
+-- the mark noted of the name with this ancestry
+abbrev pub markOn : List Derivation → ℕ
+markOn [] = 0
+markOn (d ∷ above) = d .fresh
+
+-- the notes of an allowed request, newest first, when these stand and so many names have been counted; of names dropped together "the notes, that single
 -- drops in falling order of name leave", so the smallest name stands first
-unfoldable pub notesOf : ℕ → Request → List Note
-notesOf count (Single (Create w s r)) = New (root count s) r ∷ []
-notesOf count (Single (Borrow w u s r kind)) = New (child count u s kind) r ∷ []
-notesOf count (Single (Read u s)) = Accessed Reading (u .0) s ∷ []
-notesOf count (Single (Write u s)) = Accessed Writing (u .0) s ∷ []
-notesOf count (Single (Drop u)) = Dropped (u .0) ∷ []
-notesOf count (Group names) = map Dropped names
+unfoldable pub notesOf : List Note → ℕ → Request → List Note
+notesOf notes count (Single (Create w s r)) = New (root count s r) (r .right) ∷ []
+notesOf notes count (Single (Borrow w u s r)) = New (child count u (markOn (ancestry (derivations notes) (u .0))) s r) (r .right) ∷ []
+notesOf notes count (Single (Read u s)) = Accessed Reading (u .0) s ∷ []
+notesOf notes count (Single (Write u s)) = Accessed Writing (u .0) s ∷ []
+notesOf notes count (Single (Drop u)) = Dropped (u .0) ∷ []
+notesOf notes count (Group names) = map Dropped names
 
 -- the name that notes make; 0 where they make none
 unfoldable pub notedName : List Note → ℕ
@@ -165,9 +194,9 @@ notedName (New d r ∷ notes) = d .name
 notedName (Accessed a u s ∷ notes) = notedName notes
 notedName (Dropped u ∷ notes) = notedName notes
 
--- what it judges a request on: "its own table", and "its count as the issued number"
+-- what it judges a request on: "its own table", "its count as the issued number", and what it has noted as written
 abbrev pub view : Sheet → ℕ → List Note → ℕ → View
-view sheet n notes count = viewOf (table sheet n notes) count
+view sheet n notes count = record { table = table sheet n notes; issued = count; isWritten = written notes; bytes = 8192 }
 
 -- "It answers each event as this document says, judged on its own table and with its count as the issued number."
 unfoldable pub answer : Sheet → ℕ → History → Request → Verdict
@@ -175,7 +204,7 @@ answer sheet n h q = verdict (judge (view sheet n (h .notes) (h .count)) q) (new
 
 -- "A refused event changes nothing. An allowed create or borrow raises the count by one."
 abbrev pub outcome : ℕ → History → Request → History
-outcome zero h q = record { notes = notesOf (h .count) q ++ h .notes; count = issuedAfter (h .count) q }
+outcome zero h q = record { notes = notesOf (h .notes) (h .count) q ++ h .notes; count = issuedAfter (h .count) q }
 outcome (suc k) h q = h
 
 unfoldable pub after : Sheet → ℕ → History → Request → History

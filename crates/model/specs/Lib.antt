@@ -5,6 +5,7 @@ pub mod Requests
 pub mod Strike
 pub mod Sheet6
 pub mod Table
+pub mod Bits
 pub mod Refusals
 pub mod Effects
 pub mod Named

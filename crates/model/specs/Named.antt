@@ -10,7 +10,7 @@ use Rattle.model.specs.Effects.{issuedAfter}
 -- a request that writes no name
 unfoldable pub unnamed : Request → Request
 unnamed (Single (Create w s r)) = Single (Create Unwritten s r)
-unnamed (Single (Borrow w u s r kind)) = Single (Borrow Unwritten u s r kind)
+unnamed (Single (Borrow w u s r)) = Single (Borrow Unwritten u s r)
 unnamed (Single (Read u s)) = Single (Read u s)
 unnamed (Single (Write u s)) = Single (Write u s)
 unnamed (Single (Drop u)) = Single (Drop u)
@@ -19,7 +19,7 @@ unnamed (Group names) = Group names
 -- the same that writes the right name, "the issued number plus one", when so many names have been issued
 unfoldable pub rightlyNamed : ℕ → Request → Request
 rightlyNamed issued (Single (Create w s r)) = Single (Create (Written (record { 0 = suc issued })) s r)
-rightlyNamed issued (Single (Borrow w u s r kind)) = Single (Borrow (Written (record { 0 = suc issued })) u s r kind)
+rightlyNamed issued (Single (Borrow w u s r)) = Single (Borrow (Written (record { 0 = suc issued })) u s r)
 rightlyNamed issued (Single (Read u s)) = Single (Read u s)
 rightlyNamed issued (Single (Write u s)) = Single (Write u s)
 rightlyNamed issued (Single (Drop u)) = Single (Drop u)

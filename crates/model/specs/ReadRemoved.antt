@@ -36,11 +36,11 @@ isStrike End = true
 
 -- "a capability alive"
 abbrev pub livesIn : State → ℕ → Bool
-livesIn h x = any (named x) (liveRows (h .table))
+livesIn h x = any (named x) (liveRows (h .memory .table))
 
 -- "which the read struck, or which has a struck ancestor": the read of s through u, of the capability x
 abbrev pub readStrikes : Sheet → State → Name → Span → ℕ → Bool
-readStrikes sheet h u s x = struck sheet isStrike Reading (derivations (liveRows (h .table))) (u .0) s x
+readStrikes sheet h u s x = struck sheet isStrike Reading (derivations (liveRows (h .memory .table))) (u .0) s x
 
 -- a row but for its right
 abbrev pub rightless : Cap → Cap
@@ -50,20 +50,22 @@ rightless c = row (derivation c) 0 (c .depth)
 module _ (sheet : Sheet) (atRead : State) (u : Name) (s : Span) (withRead withoutRead : State) where
   -- the row at k of each table
   abbrev with : ℕ → Cap
-  with k = getD (withRead .table) k emptyRow
+  with k = getD (withRead .memory .table) k emptyRow
 
   abbrev left : ℕ → Cap
-  left k = getD (withoutRead .table) k emptyRow
+  left k = getD (withoutRead .memory .table) k emptyRow
 
   pub record OnlyRights : Type 0 where
     -- "The final tables differ only in rights."
-    pub only-rights : map rightless (withRead .table) ≡ map rightless (withoutRead .table)
+    pub only-rights : map rightless (withRead .memory .table) ≡ map rightless (withoutRead .memory .table)
     -- "A right differs only for a capability alive at that read which the read struck, or which has a struck ancestor, and there it is `rw`
     -- in place of `ro`."
     pub rights-differ : (k : ℕ) → (left k .right ≡ with k .right)
         ⊎ ((livesIn atRead (left k .name .0) ≡ true) × (readStrikes sheet atRead u s (left k .name .0) ≡ true) × (left k .right ≡ 2) × (with k .right ≡ 1))
     -- So it is exactly: with the read, every capability that it struck, or that has a struck ancestor, is `ro`, and the others are as without it.
-    pub exactly : withRead .table ≡ map (λ c. lowered (readStrikes sheet atRead u s (c .name .0)) c) (withoutRead .table)
+    pub exactly : withRead .memory .table ≡ map (λ c. lowered (readStrikes sheet atRead u s (c .name .0)) c) (withoutRead .memory .table)
+    -- A read writes nothing.
+    pub same-bits : withRead .memory .bits ≡ withoutRead .memory .bits
     -- With the read its tally has one read more, and all else of it is the same.
     pub one-read-more : withRead .tally ≡ countAllowed (Single (Read u s)) (withoutRead .tally)
     pub unless-full : withRead .tally .reads < 4294967295 → withRead .tally .reads ≡ suc (withoutRead .tally .reads)
@@ -95,6 +97,6 @@ pub data Thinner : List Request → List Request → Type 0 where
 pub record ReadsRemoved (sheet : Sheet) (lent : State) (qs thinner : List Request) : Type 0 where
   pub all-allowed : all isAllowed (answers (after sheet) answer lent thinner) ≡ true
   pub same-names : given sheet lent thinner ≡ given sheet lent qs
-  pub only-rights : map rightless (final (after sheet) lent qs .table) ≡ map rightless (final (after sheet) lent thinner .table)
+  pub only-rights : map rightless (final (after sheet) lent qs .memory .table) ≡ map rightless (final (after sheet) lent thinner .memory .table)
   -- no right is lower without them
-  pub none-lower : (k : ℕ) → getD (final (after sheet) lent qs .table) k emptyRow .right ≤ getD (final (after sheet) lent thinner .table) k emptyRow .right
+  pub none-lower : (k : ℕ) → getD (final (after sheet) lent qs .memory .table) k emptyRow .right ≤ getD (final (after sheet) lent thinner .memory .table) k emptyRow .right

@@ -1,21 +1,23 @@
--- Document 01, "Eleven ways to be turned down", of a request, and cards 1, 5 and 6: the conditions 1 to 10, 12 and 13, and which of them
+-- Document 01, "Eleven ways to be turned down", of a request, and cards 1, 5, 6 and 9: the conditions 1 to 10, 12, 13 and 16, and which of them
 -- each request meets.
 -- Assumes nothing. (2 is here in its half about events; its other half, and 11, are of the text.)
 use Prim.Native.Nat.{ℕ, suc}
-use mathlib.Core.Bool.{Bool, false, not, cond, _||_}
+use mathlib.Core.Bool.{Bool, false, not, cond, _&&_, _||_}
 use mathlib.Core.List.{List, [], _∷_, _++_}
 use lib.Dec.{leb, ltb, eqb}
 use lib.ListN.{length}
 use Rattle.model.specs.declared.Name.{Name}
 use Rattle.model.specs.declared.Span.{Span}
 use Rattle.model.specs.declared.Cap.{Cap}
+use Rattle.model.specs.declared.Terms.{Terms}
 use Rattle.model.specs.declared.NewName.{NewName}
 use Rattle.model.specs.declared.NewName.the-variants.{Unwritten, Written}
 use Rattle.model.specs.declared.Event.the-variants.{Create, Borrow, Read, Write, Drop}
 use Rattle.model.specs.Lists.{any, first}
-use Rattle.model.specs.Values.{legal, inside}
+use Rattle.model.specs.Values.{end, legal, inside}
 use Rattle.model.specs.Requests.{Request, Single, Group, isGroup}
-use Rattle.model.specs.Table.{span, named, liveRows, lookup, isRight, isKind, inOrder}
+use Rattle.model.specs.Table.{span, derivation, named, liveRows, lookup, isRight, isKind, isMark, isMarked, inOrder}
+use Rattle.model.specs.Bits.{bitAt, spanWritten}
 
 -- 1. table not in order
 abbrev pub disordered : List Cap → ℕ → Bool
@@ -29,9 +31,25 @@ notARight r = not (isRight r)
 abbrev pub notAKind : ℕ → Bool
 notAKind k = not (isKind k)
 
+-- Card 9: "a row whose mark is not 0 or 1 (2 in an event)"
+abbrev pub notAMark : ℕ → Bool
+notAMark m = not (isMark m)
+
+-- 2 of what a create gives: "Creates make references"
+abbrev pub unfitRoot : Terms → Bool
+unfitRoot r = notARight (r .right) || (not (eqb (r .kind) 0) || notAMark (r .fresh))
+
+-- 2 of what a borrow gives: it has its parent's mark, and gives none
+abbrev pub unfitChild : Terms → Bool
+unfitChild r = notARight (r .right) || (notAKind (r .kind) || not (eqb (r .fresh) 0))
+
 -- 3. span not legal
 abbrev pub illegalSpan : Span → Bool
 illegalSpan s = not (legal s)
+
+-- Card 9: "A `fresh` create ending above 65,536 is refusal 3"
+abbrev pub misplaced : Terms → Span → Bool
+misplaced r s = illegalSpan s || (eqb (r .fresh) 1 && ltb 65536 (end s))
 
 -- 12. "the written name is not the issued number plus one"
 abbrev pub misnamed : ℕ → NewName → Bool
@@ -59,6 +77,10 @@ module _ (rows : List Cap) (issued : ℕ) where
   -- 7. write through `ro`, or borrow of `rw` from `ro`: a right above the capability's
   abbrev pub readOnly : Name → ℕ → Bool
   readOnly u r = ltb (lookup (u .0) rows .right) r
+
+  -- 16, "after 7". "a read through a marked capability with some address not yet written"
+  unfoldable pub notWritten : (ℕ → Bool) → Name → Span → Bool
+  notWritten isWritten u s = isMarked (derivation (lookup (u .0) rows)) && not (spanWritten isWritten s)
 
   -- 8. borrow from depth 64
   abbrev pub tooDeep : Name → Bool
@@ -92,18 +114,18 @@ module _ (rows : List Cap) (issued : ℕ) where
   room size w = (9, namesSpent) ∷ (12, misnamed issued w) ∷ (10, tableFull size) ∷ []
 
   -- those that each request meets after 1; of a group, "the first name refused gives the number"
-  abbrev pub checks : ℕ → Request → List (ℕ × Bool)
-  checks size (Single (Create w s r)) = (2, notARight r) ∷ (3, illegalSpan s) ∷ room size w
-  checks size (Single (Borrow w u s r kind)) = (2, notARight r || notAKind kind) ∷ usable u s r ++ ((8, tooDeep u) ∷ room size w)
-  checks size (Single (Read u s)) = within u s
-  checks size (Single (Write u s)) = usable u s 2
-  checks size (Single (Drop u)) = standing u
-  checks size (Group names) = (13, misgrouped names) ∷ standings names
+  abbrev pub checks : (ℕ → Bool) → ℕ → Request → List (ℕ × Bool)
+  checks isWritten size (Single (Create w s r)) = (2, unfitRoot r) ∷ (3, misplaced r s) ∷ room size w
+  checks isWritten size (Single (Borrow w u s r)) = (2, unfitChild r) ∷ usable u s (r .right) ++ ((8, tooDeep u) ∷ room size w)
+  checks isWritten size (Single (Read u s)) = within u s ++ ((16, notWritten isWritten u s) ∷ [])
+  checks isWritten size (Single (Write u s)) = usable u s 2
+  checks isWritten size (Single (Drop u)) = standing u
+  checks isWritten size (Group names) = (13, misgrouped names) ∷ standings names
 
 -- The numbers of refusals in order of precedence; card 5: 13 is "after 1"; card 7: 14 and 15, of sheets alone, "in that
--- order after 2".
+-- order after 2"; card 9: 16 is "after 7".
 abbrev pub precedence : List ℕ
-precedence = 1 ∷ 13 ∷ 2 ∷ 14 ∷ 15 ∷ 3 ∷ 4 ∷ 5 ∷ 6 ∷ 7 ∷ 8 ∷ 9 ∷ 12 ∷ 10 ∷ 11 ∷ []
+precedence = 1 ∷ 13 ∷ 2 ∷ 14 ∷ 15 ∷ 3 ∷ 4 ∷ 5 ∷ 6 ∷ 7 ∷ 16 ∷ 8 ∷ 9 ∷ 12 ∷ 10 ∷ 11 ∷ []
 
 -- the place of a number among others, from 1, or behind them
 abbrev pub placeIn : List ℕ → ℕ → ℕ
@@ -113,16 +135,24 @@ placeIn (j ∷ js) k = cond (eqb k j) 1 (suc (placeIn js k))
 abbrev pub place : ℕ → ℕ
 place = placeIn precedence
 
--- What judging looks at: the table and the issued number. The lent memory has a view, and the history its own.
+-- What judging looks at: the table, the issued number, which addresses are written, and how many bytes are lent to say so. The lent memory has
+-- a view, and the history its own.
 pub record View : Type 0 where
   pub table : List Cap
   pub issued : ℕ
+  pub isWritten : ℕ → Bool
+  pub bytes : ℕ
 
-abbrev pub viewOf : List Cap → ℕ → View
-viewOf table issued = record { table = table; issued = issued }
+-- 1 of all that is lent. Card 9: "The caller lends 8,192 bytes (any other length is 1)"
+abbrev pub unfit : View → Bool
+unfit v = disordered (v .table) (v .issued) || not (eqb (v .bytes) 8192)
+
+-- what is lent: a table, written bits, and so many names issued
+abbrev pub viewOf : List Cap → List ℕ → ℕ → View
+viewOf table bits issued = record { table = table; issued = issued; isWritten = bitAt bits; bytes = length bits }
 
 unfoldable pub refusals : View → Request → List (ℕ × Bool)
-refusals v q = (1, disordered (v .table) (v .issued)) ∷ checks (liveRows (v .table)) (v .issued) (length (v .table)) q
+refusals v q = (1, unfit v) ∷ checks (liveRows (v .table)) (v .issued) (v .isWritten) (length (v .table)) q
 
 -- "The lowest number that applies is the one given", where the cards give their numbers places of their own: the first of the list
 -- that holds, or 0 where the request is allowed. The places rise in each list, but for the names of a group (proofs/Precedence).

@@ -12,6 +12,7 @@ use Rattle.model.specs.Lists.{final}
 use Rattle.model.specs.Table.{emptyRow, liveRows, lentTable}
 use Rattle.model.specs.Requests.{Request}
 use Rattle.model.specs.Refusals.{View, viewOf, judge}
+use Rattle.model.specs.Bits.{bitsAfter}
 use Rattle.model.specs.Effects.{rowsAfter, newName}
 use Rattle.model.specs.Counts.{countAllowed, countRefused}
 
@@ -27,32 +28,40 @@ verdict refusal name = record { refusal = refusal; name = cond (eqb refusal 0) n
 abbrev pub isAllowed : Verdict → Bool
 isAllowed v = eqb (v .refusal) 0
 
+-- the table, and by card 9 the written bits
+pub record Memory : Type 0 where
+  pub table : List Cap
+  pub bits : List ℕ
+
 -- what the caller lends
 pub record State : Type 0 where
-  pub table : List Cap
+  pub memory : Memory
   pub tally : Tally
 
 -- what of it a request is judged on
 abbrev pub view : State → View
-view h = viewOf (h .table) (h .tally .issued)
+view h = viewOf (h .memory .table) (h .memory .bits) (h .tally .issued)
 
 -- the answer to a request
 unfoldable pub answer : State → Request → Verdict
 answer h q = verdict (judge (view h) q) (newName (h .tally .issued) q)
 
--- by this conflict sheet, the table and the tally after a request that gets this number: allowed, refusal 1, which changes nothing, or
--- another refusal
+-- by this conflict sheet, the table and the bits after an allowed request
+abbrev pub memoryAfter : Sheet → ℕ → Memory → Request → Memory
+memoryAfter sheet issued m q = record { table = lentTable (length (m .table)) (rowsAfter sheet issued (liveRows (m .table)) q); bits = bitsAfter (m .bits) q }
+
+-- what is lent after a request that gets this number: allowed, refusal 1, which changes nothing, or another refusal
 abbrev pub outcome : Sheet → ℕ → State → Request → State
-outcome sheet zero h q = record { table = lentTable (length (h .table)) (rowsAfter sheet (h .tally .issued) (liveRows (h .table)) q); tally = countAllowed q (h .tally) }
+outcome sheet zero h q = record { memory = memoryAfter sheet (h .tally .issued) (h .memory) q; tally = countAllowed q (h .tally) }
 outcome sheet (suc zero) h q = h
-outcome sheet (suc (suc k)) h q = record { table = h .table; tally = countRefused (h .tally) }
+outcome sheet (suc (suc k)) h q = record { memory = h .memory; tally = countRefused (h .tally) }
 
 unfoldable pub after : Sheet → State → Request → State
 after sheet h q = outcome sheet (judge (view h) q) h q
 
--- "The list begins with any number of rows, all zeros"
+-- "The list begins with any number of rows, all zeros"; card 9: the bytes are "all zero at first"
 abbrev pub initial : ℕ → Tally → State
-initial n t = record { table = replicate n emptyRow; tally = t }
+initial n t = record { memory = record { table = replicate n emptyRow; bits = replicate 8192 0 }; tally = t }
 
 -- what the caller has after a list of requests, with one sheet kept throughout
 abbrev pub stateAfter : Sheet → ℕ → Tally → List Request → State

@@ -1,4 +1,4 @@
--- Document 01, "Values", and card 6: the rows of the lent table, and when a table is in order.
+-- Document 01, "Values", and cards 6 and 9: the rows of the lent table, and when a table is in order.
 -- Assumes nothing.
 use Prim.Native.Nat.{ℕ, suc, _+_, _-_}
 use mathlib.Core.Bool.{Bool, true, not, cond, _&&_, _||_}
@@ -8,7 +8,7 @@ use lib.ListN.{length, replicate}
 use Rattle.model.specs.declared.Span.{Span}
 use Rattle.model.specs.declared.Cap.{Cap}
 use Rattle.model.specs.Lists.{filter, any, all}
-use Rattle.model.specs.Values.{legal, inside}
+use Rattle.model.specs.Values.{end, legal, inside}
 use Rattle.model.specs.Derivation.{Derivation}
 
 -- ---- rows
@@ -24,17 +24,18 @@ row d right depth =
       right = right;
       depth = depth;
       kind = d .kind;
+      fresh = d .fresh;
     }
 
 -- a row that is all zeros
 abbrev pub emptyRow : Cap
-emptyRow = row (record { name = 0; parent = 0; span = record { start = record { 0 = 0 }; length = 0 }; kind = 0 }) 0 0
+emptyRow = row (record { name = 0; parent = 0; span = record { start = record { 0 = 0 }; length = 0 }; kind = 0; fresh = 0 }) 0 0
 
 abbrev pub span : Cap → Span
 span c = record { start = c .start; length = c .length }
 
 abbrev pub derivation : Cap → Derivation
-derivation c = record { name = c .name .0; parent = c .parent .0; span = span c; kind = c .kind }
+derivation c = record { name = c .name .0; parent = c .parent .0; span = span c; kind = c .kind; fresh = c .fresh }
 
 abbrev pub derivations : List Cap → List Derivation
 derivations = map derivation
@@ -60,7 +61,7 @@ lookup x (c ∷ rows) = cond (named x c) c (lookup x rows)
 -- ---- a table in order
 
 unfoldable pub isEmptyRow : Cap → Bool
-isEmptyRow c = eqb (c .name .0) 0 && eqb (c .parent .0) 0 && eqb (c .start .0) 0 && eqb (c .length) 0 && eqb (c .right) 0 && eqb (c .depth) 0 && eqb (c .kind) 0
+isEmptyRow c = eqb (c .name .0) 0 && eqb (c .parent .0) 0 && eqb (c .start .0) 0 && eqb (c .length) 0 && eqb (c .right) 0 && eqb (c .depth) 0 && eqb (c .kind) 0 && eqb (c .fresh) 0
 
 -- "arranged as above": from the first row named 0 on, every row is all zeros
 unfoldable pub liveRowsFirst : List Cap → Bool
@@ -75,9 +76,21 @@ isRight r = eqb r 1 || eqb r 2
 abbrev pub isKind : ℕ → Bool
 isKind k = leb k 2
 
--- "a span inside the parent's, a right not above it, and a depth one more and at most 64"
+-- Card 9: "a row whose mark is not 0 or 1 .. is refusal 1"
+abbrev pub isMark : ℕ → Bool
+isMark m = leb m 1
+
+abbrev pub isMarked : Derivation → Bool
+isMarked d = eqb (d .fresh) 1
+
+-- what is asked of the mark: of a marked row, that it ends at 65,536 or below
+unfoldable pub termsInOrder : Derivation → Bool
+termsInOrder d = isMark (d .fresh) && (not (isMarked d) || leb (end (d .span)) 65536)
+
+-- "a span inside the parent's, a right not above it, and a depth one more and at most 64"; card 9: a row whose mark "differs from its
+-- parent's, is refusal 1"
 unfoldable pub rowFitsParent : Cap → Cap → Bool
-rowFitsParent c p = inside (span c) (span p) && leb (c .right) (p .right) && eqb (c .depth) (p .depth + 1) && leb (c .depth) 64
+rowFitsParent c p = inside (span c) (span p) && leb (c .right) (p .right) && eqb (c .depth) (p .depth + 1) && leb (c .depth) 64 && eqb (c .fresh) (p .fresh)
 
 -- "a row with parent 0 has depth 1", and by card 6 "a root of kind 1 or 2" is refused; "any other row has its parent in an earlier row",
 -- and fits it
@@ -86,7 +99,7 @@ parentInOrder c earlier = cond (eqb (c .parent .0) 0) (eqb (c .depth) 1 && eqb (
 
 -- a row against the earlier ones
 unfoldable pub rowInOrder : Cap → List Cap → Bool
-rowInOrder c earlier = legal (span c) && isRight (c .right) && isKind (c .kind) && parentInOrder c earlier
+rowInOrder c earlier = legal (span c) && isRight (c .right) && isKind (c .kind) && termsInOrder (derivation c) && parentInOrder c earlier
 
 -- each live row against the earlier ones; names rise strictly, and stay below a bound
 unfoldable pub rowsInOrder : ℕ → List Cap → Bool

@@ -1,14 +1,16 @@
 -- Document 01, "Traces to try", those with a star; "Eleven ways to be turned down", the examples that are events; cards 1, 2 and 4
--- to 8; and capcheck's example.
+-- to 9; and capcheck's example.
 -- One table, and one computed proof over it (proofs/Traces).
 -- Assumes nothing.
 use Prim.Native.Nat.{ℕ, zero, suc}
 use mathlib.Core.Bool.{Bool, true, false, _&&_}
 use mathlib.Core.List.{List, [], _∷_, _++_, map, reverse}
 use lib.Dec.{eqb}
+use lib.ListN.{replicate}
 use Rattle.model.specs.declared.Span.{Span}
 use Rattle.model.specs.declared.Cap.{Cap}
 use Rattle.model.specs.declared.Tally.{Tally}
+use Rattle.model.specs.declared.Terms.{Terms}
 use Rattle.model.specs.declared.NewName.the-variants.{Unwritten, Written}
 use Rattle.model.specs.declared.Event.the-variants.{Create, Borrow, Read, Write, Drop}
 use Rattle.model.specs.declared.Effect.the-variants.{Keep, Lower, End}
@@ -31,11 +33,14 @@ RW = 2
 abbrev span : ℕ → ℕ → Span
 span start length = record { start = record { 0 = start }; length = length }
 
+abbrev terms : ℕ → ℕ → ℕ → Terms
+terms right kind fresh = record { right = right; kind = kind; fresh = fresh }
+
 abbrev create : ℕ → ℕ → ℕ → Request
-create start length right = Single (Create Unwritten (span start length) right)
+create start length right = Single (Create Unwritten (span start length) (terms right 0 0))
 
 abbrev borrow : ℕ → ℕ → ℕ → ℕ → Request
-borrow name start length right = Single (Borrow Unwritten (record { 0 = name }) (span start length) right 0)
+borrow name start length right = Single (Borrow Unwritten (record { 0 = name }) (span start length) (terms right 0 0))
 
 abbrev read : ℕ → ℕ → ℕ → Request
 read name start length = Single (Read (record { 0 = name }) (span start length))
@@ -48,14 +53,14 @@ drop name = Single (Drop (record { 0 = name }))
 
 -- with a kind
 abbrev borrowAs : ℕ → ℕ → ℕ → ℕ → ℕ → Request
-borrowAs kind name start length right = Single (Borrow Unwritten (record { 0 = name }) (span start length) right kind)
+borrowAs kind name start length right = Single (Borrow Unwritten (record { 0 = name }) (span start length) (terms right kind 0))
 
 -- with the name written out
 abbrev createNamed : ℕ → ℕ → ℕ → ℕ → Request
-createNamed new start length right = Single (Create (Written (record { 0 = new })) (span start length) right)
+createNamed new start length right = Single (Create (Written (record { 0 = new })) (span start length) (terms right 0 0))
 
 abbrev borrowNamed : ℕ → ℕ → ℕ → ℕ → ℕ → Request
-borrowNamed new name start length right = Single (Borrow (Written (record { 0 = new })) (record { 0 = name }) (span start length) right 0)
+borrowNamed new name start length right = Single (Borrow (Written (record { 0 = new })) (record { 0 = name }) (span start length) (terms right 0 0))
 
 -- ---- traces
 
@@ -72,6 +77,10 @@ from lent lines left = record { sheet = sheet6; lent = lent; lines = lines; left
 
 abbrev noCounts : ℕ → Tally
 noCounts issued = tally issued 0 0 0 0 0 0
+
+-- this table with so many names issued, and nothing written
+abbrev lending : List Cap → ℕ → State
+lending table issued = record { memory = record { table = table; bits = replicate 8192 0 }; tally = noCounts issued }
 
 -- from so many rows, all zeros
 abbrev trace : ℕ → List (Request × ℕ × ℕ) → List (ℕ × ℕ) → Trace
@@ -119,15 +128,15 @@ names zero x = []
 names (suc n) x = (x, RW) ∷ names n (suc x)
 
 abbrev namedThree : Cap
-namedThree = row (record { name = 3; parent = 0; span = span 0 64; kind = 0 }) RW 1
+namedThree = row (record { name = 3; parent = 0; span = span 0 64; kind = 0; fresh = 0 }) RW 1
 
 abbrev namedOne : Cap
-namedOne = row (record { name = 1; parent = 0; span = span 0 64; kind = 0 }) RW 1
+namedOne = row (record { name = 1; parent = 0; span = span 0 64; kind = 0; fresh = 0 }) RW 1
 
 unfoldable pub refused : List Trace
 refused =
     -- 1: rows both named 3
-    from (record { table = namedThree ∷ namedThree ∷ []; tally = noCounts 3 }) ((read 3 0 8, 1, 0) ∷ []) ((3, RW) ∷ (3, RW) ∷ [])
+    from (lending (namedThree ∷ namedThree ∷ []) 3) ((read 3 0 8, 1, 0) ∷ []) ((3, RW) ∷ (3, RW) ∷ [])
     -- 2: an event whose right is neither 1 nor 2
     ∷ created 2 ((borrow 1 0 8 0, 2, 0) ∷ (create 0 8 3, 2, 0) ∷ []) ((1, RW) ∷ [])
     -- 3: an end above 4,294,967,296; its example in document 01 is allowed by card 2
@@ -143,7 +152,7 @@ refused =
     -- 8
     ∷ created 1024 (nested 63 1 ++ ((borrow 64 0 8 RW, 8, 0) ∷ [])) (names 64 1)
     -- 9: with 1,000,000 issued
-    ∷ from (record { table = namedOne ∷ emptyRow ∷ []; tally = noCounts 1000000 }) ((create 0 8 RW, 9, 0) ∷ []) ((1, RW) ∷ [])
+    ∷ from (lending (namedOne ∷ emptyRow ∷ []) 1000000) ((create 0 8 RW, 9, 0) ∷ []) ((1, RW) ∷ [])
     -- 10
     ∷ created 2 ((borrow 1 0 8 ro, 0, 2) ∷ (create 0 8 RW, 10, 0) ∷ []) ((1, RW) ∷ (2, ro) ∷ [])
     ∷ []
@@ -154,7 +163,7 @@ written =
     trace 2 ((createNamed 1 0 64 RW, 0, 1) ∷ (borrowNamed 2 1 0 8 RW, 0, 2) ∷ []) ((1, RW) ∷ (2, RW) ∷ [])
     ∷ created 2 ((createNamed 1 0 8 RW, 12, 0) ∷ (borrowNamed 3 1 0 8 RW, 12, 0) ∷ (borrowNamed 2 1 0 8 RW, 0, 2) ∷ []) ((1, RW) ∷ (2, RW) ∷ [])
     ∷ created 2 ((createNamed 0 0 8 RW, 12, 0) ∷ (createNamed 1000001 0 8 RW, 12, 0) ∷ []) ((1, RW) ∷ [])
-    ∷ from (record { table = namedOne ∷ emptyRow ∷ []; tally = noCounts 1000000 }) ((createNamed 1000001 0 8 RW, 9, 0) ∷ []) ((1, RW) ∷ [])
+    ∷ from (lending (namedOne ∷ emptyRow ∷ []) 1000000) ((createNamed 1000001 0 8 RW, 9, 0) ∷ []) ((1, RW) ∷ [])
     ∷ created 1 ((createNamed 3 0 8 RW, 12, 0) ∷ (createNamed 2 0 8 RW, 10, 0) ∷ []) ((1, RW) ∷ [])
     ∷ []
 
@@ -195,7 +204,7 @@ together =
     ∷ created 1024 ((borrow 1 0 8 RW, 0, 2) ∷ (Group (1 ∷ 2 ∷ 3 ∷ []), 4, 0) ∷ (drop 2, 0, 0) ∷ (Group (1 ∷ 2 ∷ []), 5, 0) ∷ []) ((1, RW) ∷ [])
     ∷ created 1024 ((Group [], 13, 0) ∷ (Group (9 ∷ 8 ∷ []), 13, 0) ∷ (Group (1 ∷ 1 ∷ []), 13, 0) ∷ []) ((1, RW) ∷ [])
     ∷ created 1024 ((Group (map (λ p. p .0) (names 65 1)), 13, 0) ∷ (Group (map (λ p. p .0) (names 64 1)), 4, 0) ∷ []) ((1, RW) ∷ [])
-    ∷ from (record { table = namedThree ∷ namedThree ∷ []; tally = noCounts 3 }) ((Group [], 1, 0) ∷ []) ((3, RW) ∷ (3, RW) ∷ [])
+    ∷ from (lending (namedThree ∷ namedThree ∷ []) 3) ((Group [], 1, 0) ∷ []) ((3, RW) ∷ (3, RW) ∷ [])
     ∷ created 1024 ((Group (1 ∷ []), 0, 0) ∷ (Group (1 ∷ []), 5, 0) ∷ []) []
     ∷ []
 
@@ -215,8 +224,8 @@ kinds =
     ((borrowAs 2 1 0 8 RW, 0, 2) ∷ (borrowAs 2 2 0 8 RW, 0, 3) ∷ (borrow 2 0 8 RW, 0, 4) ∷ (borrow 1 0 8 RW, 0, 5) ∷ (write 3 0 8, 0, 0) ∷ (write 4 0 8, 0, 0) ∷ [])
     ((1, RW) ∷ (2, RW) ∷ (4, RW) ∷ (5, RW) ∷ [])
     ∷ created 1024 ((borrowAs 3 1 0 8 RW, 2, 0) ∷ (borrowAs 255 9 0 8 RW, 2, 0) ∷ []) ((1, RW) ∷ [])
-    ∷ from (record { table = row (record { name = 1; parent = 0; span = span 0 64; kind = 1 }) RW 1 ∷ []; tally = noCounts 1 }) ((read 1 0 8, 1, 0) ∷ []) ((1, RW) ∷ [])
-    ∷ from (record { table = namedOne ∷ row (record { name = 2; parent = 1; span = span 0 8; kind = 3 }) RW 2 ∷ []; tally = noCounts 2 }) ((read 1 0 8, 1, 0) ∷ []) ((1, RW) ∷ (2, RW) ∷ [])
+    ∷ from (lending (row (record { name = 1; parent = 0; span = span 0 64; kind = 1; fresh = 0 }) RW 1 ∷ []) 1) ((read 1 0 8, 1, 0) ∷ []) ((1, RW) ∷ [])
+    ∷ from (lending (namedOne ∷ row (record { name = 2; parent = 1; span = span 0 8; kind = 3; fresh = 0 }) RW 2 ∷ []) 2) ((read 1 0 8, 1, 0) ∷ []) ((1, RW) ∷ (2, RW) ∷ [])
     ∷ []
 
 -- Card 6, after section 5.1 of source document 000: figure 3 with its raw pointer as one; raw pointers and their parent in turn; a raw one
@@ -269,6 +278,50 @@ thinned =
     ∷ mildly 3 ((borrow 1 0 8 RW, 0, 2) ∷ (borrowAs 2 1 0 8 RW, 0, 3) ∷ (create 64 8 RW, 10, 0) ∷ []) ((1, RW) ∷ (2, RW) ∷ (3, RW) ∷ [])
     ∷ []
 
+-- Card 9
+abbrev createFresh : ℕ → ℕ → ℕ → Request
+createFresh start length right = Single (Create Unwritten (span start length) (terms right 0 1))
+
+abbrev markedRow : ℕ → ℕ → ℕ → ℕ → ℕ → ℕ → Cap
+markedRow mark name parent start length depth = row (record { name = name; parent = parent; span = span start length; kind = 0; fresh = mark }) RW depth
+
+-- by a sheet that keeps everything, what is not marked and what is may lie over the same addresses
+abbrev keepingSheet : Sheet
+keepingSheet =
+    let kept = conflicts (results Keep Keep Keep) (results Keep Keep Keep) in
+    record { reference = kept; raw = kept; cell = kept }
+
+unfoldable pub writtenFirst : List Trace
+writtenFirst =
+    -- a read through what is marked, or was borrowed from it, waits for a write to each address; nothing of length 0 waits
+    trace 4
+    ((createFresh 0 8 RW, 0, 1) ∷ (read 1 0 1, 16, 0) ∷ (borrow 1 0 4 RW, 0, 2) ∷ (read 2 0 4, 16, 0) ∷ (write 2 0 2, 0, 0) ∷ (read 1 0 2, 0, 0) ∷ (read 1 0 3, 16, 0) ∷ (read 1 8 0, 0, 0) ∷ [])
+    ((1, RW) ∷ (2, ro) ∷ [])
+    -- a create clears, and what is not marked never waits; the other refusals of a read come first
+    ∷ trace 4
+    ((create 0 8 RW, 0, 1) ∷ (write 1 0 8, 0, 0) ∷ (createFresh 4 2 ro, 0, 2) ∷ (read 2 4 1, 16, 0) ∷ (read 2 4 3, 6, 0) ∷ (read 3 4 1, 4, 0) ∷ (read 1 4 1, 5, 0) ∷ (create 0 4 RW, 0, 3) ∷ (read 3 0 4, 0, 0) ∷ [])
+    ((2, ro) ∷ (3, RW) ∷ [])
+    -- 2: another mark, a kind in a create, a mark in a borrow; 3: an end above 65,536
+    ∷ trace 4
+    ((Single (Create Unwritten (span 0 8) (terms RW 0 2)), 2, 0) ∷ (Single (Create Unwritten (span 0 8) (terms RW 1 0)), 2, 0) ∷ (createFresh 65528 9 RW, 3, 0) ∷ (createFresh 65528 8 RW, 0, 1) ∷ (Single (Borrow Unwritten (record { 0 = 1 }) (span 65528 8) (terms RW 0 1)), 2, 0) ∷ (createFresh 65536 0 RW, 0, 2) ∷ [])
+    ((1, RW) ∷ (2, RW) ∷ [])
+    -- 1: a marked row that ends above 65,536, marks that differ from the parent's, no mark, and 8,191 bytes
+    ∷ from (lending (markedRow 1 1 0 65530 7 1 ∷ []) 1) ((read 1 65530 0, 1, 0) ∷ []) ((1, RW) ∷ [])
+    ∷ from (lending (namedOne ∷ markedRow 1 2 1 0 8 2 ∷ []) 2) ((read 1 0 8, 1, 0) ∷ []) ((1, RW) ∷ (2, RW) ∷ [])
+    ∷ from (lending (markedRow 1 1 0 0 64 1 ∷ markedRow 0 2 1 0 8 2 ∷ []) 2) ((read 1 0 8, 1, 0) ∷ []) ((1, RW) ∷ (2, RW) ∷ [])
+    ∷ from (lending (markedRow 2 1 0 0 64 1 ∷ []) 1) ((read 1 0 8, 1, 0) ∷ []) ((1, RW) ∷ [])
+    ∷ from (record { memory = record { table = namedOne ∷ []; bits = replicate 8191 0 }; tally = noCounts 1 }) ((read 1 0 8, 1, 0) ∷ (Group [], 1, 0) ∷ []) ((1, RW) ∷ [])
+    -- every write sets, through whatever capability and also below an end above 65,536, and every create clears
+    ∷ record {
+      sheet = keepingSheet;
+      lent = initial 4 (noCounts 0);
+      lines =
+          (create 65520 32 RW, 0, 1) ∷ (createFresh 65528 8 RW, 0, 2) ∷ (read 2 65528 8, 16, 0) ∷ (write 1 65520 32, 0, 0) ∷ (read 2 65528 8, 0, 0) ∷ (create 65534 1 RW, 0, 3)
+          ∷ (read 2 65528 8, 16, 0) ∷ (read 2 65528 6, 0, 0) ∷ (read 2 65535 1, 0, 0) ∷ [];
+      left = (1, RW) ∷ (2, RW) ∷ (3, RW) ∷ [];
+    }
+    ∷ []
+
 -- "The bracket text": what capcheck is shown on
 unfoldable pub printed : Trace
 printed =
@@ -277,7 +330,7 @@ printed =
     ((1, RW) ∷ (2, ro) ∷ (3, RW) ∷ [])
 
 unfoldable pub traces : List Trace
-traces = starred ++ (refused ++ (written ++ (empty ++ (reused ++ (together ++ (kinds ++ (inRust ++ (sheets ++ (thinned ++ (printed ∷ []))))))))))
+traces = starred ++ (refused ++ (written ++ (empty ++ (reused ++ (together ++ (kinds ++ (inRust ++ (sheets ++ (thinned ++ (writtenFirst ++ (printed ∷ [])))))))))))
 
 -- ---- when a trace goes as it says
 
@@ -299,4 +352,4 @@ abbrev requestsOf : Trace → List Request
 requestsOf t = map (λ l. l .0) (t .lines)
 
 unfoldable pub holds : Trace → Bool
-holds t = sameAnswers (answers (after (t .sheet)) answer (t .lent) (requestsOf t)) (t .lines) && sameRights (reverse (liveRows (final (after (t .sheet)) (t .lent) (requestsOf t) .table))) (t .left)
+holds t = sameAnswers (answers (after (t .sheet)) answer (t .lent) (requestsOf t)) (t .lines) && sameRights (reverse (liveRows (final (after (t .sheet)) (t .lent) (requestsOf t) .memory .table))) (t .left)

@@ -17,8 +17,8 @@ pub struct Span {
 }
 
 // "Values", a row of the lent table, in document 01's order of the fields, and card 6: "The record gains a kind: 0 reference, 1 raw,
-// 2 cell". Seven words of 32 bits: the same record in C, and no byte of it is padding. The right is 1 (`ro`) or 2 (`rw`) in a table in
-// order, and the kind at most 2.
+// 2 cell"; card 9: borrows below a `fresh` create "carry that mark in their records", 1 where they do and 0 else. Eight words of 32 bits: the
+// same record in C, and no byte of it is padding. The right is 1 (`ro`) or 2 (`rw`) in a table in order, and the kind at most 2.
 #[repr(C)]
 pub struct Cap {
     pub name: Name,
@@ -28,6 +28,7 @@ pub struct Cap {
     pub right: u32,
     pub depth: u32,
     pub kind: u32,
+    pub fresh: u32,
 }
 
 // "Values", the tally: names issued, the allowed events of each of the five kinds, and refused events.
@@ -48,11 +49,18 @@ pub enum NewName {
     Written(Name),
 }
 
-// "Values", an event: one of five kinds, each with its own values. The names, starts and lengths may be any 32-bit numbers,
-// the right any byte; by card 6 a borrow has a kind besides, any byte, and "Creates make references".
+// What a create or borrow gives to what it makes besides a span: the right; by card 6 the kind, which is 0 in a create ("Creates make
+// references"); and by card 9 whether it is `fresh`, 1, or not, 0, as in every borrow. Each may be any byte.
+pub struct Terms {
+    pub right: u8,
+    pub kind: u8,
+    pub fresh: u8,
+}
+
+// "Values", an event: one of five kinds, each with its own values. The names, starts and lengths may be any 32-bit numbers.
 pub enum Event {
-    Create(NewName, Span, u8),
-    Borrow(NewName, Name, Span, u8, u8),
+    Create(NewName, Span, Terms),
+    Borrow(NewName, Name, Span, Terms),
     Read(Name, Span),
     Write(Name, Span),
     Drop(Name),
@@ -105,11 +113,11 @@ pub struct Sheet {
 
 // "Eleven ways to be turned down", and those of the cards: each is named for its condition.
 pub enum Refusal {
-    // 1: table not in order.
+    // 1: table not in order, or written bits of another length than 8,192 bytes.
     Disordered,
-    // 2: line or listing not in the one spelling; event whose right is neither 1 nor 2, or whose kind is above 2.
+    // 2: line or listing not in the one spelling; event whose right is neither 1 nor 2, or whose kind or mark is none.
     Misspelt,
-    // 3: span not legal: it ends above 4,294,967,296.
+    // 3: span not legal: it ends above 4,294,967,296, or that of a `fresh` create above 65,536.
     IllegalSpan,
     // 4: name 0 or above the issued number.
     Unissued,
@@ -135,6 +143,8 @@ pub enum Refusal {
     GivenTwice,
     // 15, after 14: a sheet's text leaves a combination out.
     NotGiven,
+    // 16, after 7: a read through a marked capability with some address not yet written.
+    NotWritten,
 }
 
 // The answer to an event: allowed, with the new name of a create or borrow and name 0 of the others; or refused.

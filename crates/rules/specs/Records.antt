@@ -17,8 +17,9 @@ use Rattle.rules.specs.Steps.{Stepped}
 abbrev pub held : ℕ → ℕ
 held n = cond (leb n 1024) n 0
 
--- by a sheet, a request on the first n of the rows ws leaves the rows ws′, and gets this outcome: above 1,024 it is refusal 1, and the tally stays
-pub record Requested (sheet : Sheet) (ws : List (List ℕ)) (n : ℕ) (t : Tally) (q : Request) (ws′ : List (List ℕ)) (r : Outcome) : Type 0 where
+-- by a sheet, a request on the first n of the rows ws leaves the rows ws′, and gets this outcome: above 1,024 it is refusal 1, and the bits and
+-- the tally stay
+pub record Requested (sheet : Sheet) (ws : List (List ℕ)) (n : ℕ) (bs : List ℕ) (t : Tally) (q : Request) (ws′ : List (List ℕ)) (bs′ : List ℕ) (r : Outcome) : Type 0 where
   pub long : length ws′ ≡ length ws
-  pub few : n ≤ 1024 → Stepped sheet (take n ws) t q (take n ws′) r
-  pub many : 1024 < n → (r .tally ≡ t) × (verdictOf (r .answer) ≡ record { refusal = 1; name = 0 })
+  pub few : n ≤ 1024 → Stepped sheet (take n ws) bs t q (take n ws′) bs′ r
+  pub many : 1024 < n → (bs′ ≡ bs) × (r .tally ≡ t) × (verdictOf (r .answer) ≡ record { refusal = 1; name = 0 })

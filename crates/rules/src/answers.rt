@@ -23,5 +23,6 @@ pub fn number_of(refusal: Refusal) -> u32
         Refusal::Misgrouped => 13,
         Refusal::GivenTwice => 14,
         Refusal::NotGiven => 15,
+        Refusal::NotWritten => 16,
     }
 }

@@ -1,4 +1,4 @@
-// The rules engine: one request on a lent table and tally, proved equal to the definitions of the crate `model`. It works in place.
+// The rules engine: one request on a lent table, its written bits and a tally, proved equal to the definitions of the crate `model`. It works in place.
 use model::Answer;
 use model::Tally;
 

@@ -79,16 +79,17 @@ fn store(table: &mut [Cap], n: usize, rows: &[Row; 1024])
 fn request_first(
     rows: &mut [Row],
     n: usize,
+    bits: &mut [u8],
     t: Tally,
     sheet: &SheetBytes,
     asked: Asked,
     names: &[u32],
 ) -> Outcome
     requires { ⌜ length (now rows) ≡ 1024 ⌝ }
-    ensures { λ r. ⌜ Requested (sheetIn (now (sheet .entry))) (now (rows .entry)) n t (requestOf asked (now (names .entry))) (now (rows .exit)) r ⌝ }
+    ensures { λ r. ⌜ Requested (sheetIn (now (sheet .entry))) (now (rows .entry)) n (now (bits .entry)) t (requestOf asked (now (names .entry))) (now (rows .exit)) (now (bits .exit)) r ⌝ }
 {
     if n <= 1024 {
-        return step(&mut rows[..n], t, sheet, asked, names);
+        return step(&mut rows[..n], bits, t, sheet, asked, names);
     }
     Outcome {
         tally: t,
@@ -100,35 +101,38 @@ fn request_first(
 fn request_held(
     rows: &mut [Row; 1024],
     n: usize,
+    bits: &mut [u8],
     t: Tally,
     sheet: Sheet,
     asked: Asked,
     names: &[u32],
 ) -> Outcome
     requires { ⌜ length (now rows) ≡ 1024 ⌝ }
-    ensures { λ r. ⌜ Requested sheet (now (rows .entry)) n t (requestOf asked (now (names .entry))) (now (rows .exit)) r ⌝ }
+    ensures { λ r. ⌜ Requested sheet (now (rows .entry)) n (now (bits .entry)) t (requestOf asked (now (names .entry))) (now (rows .exit)) (now (bits .exit)) r ⌝ }
 {
     let bytes = bytes_of(sheet);
-    request_first(rows, n, t, &bytes, asked, names)
+    request_first(rows, n, bits, t, &bytes, asked, names)
 }
 
-// A request on the table and the tally that are lent, by a sheet; the names are those of names dropped together.
+// A request on the table, the bits and the tally that are lent, by a sheet; the names are those of names dropped together.
 pub fn apply(
     table: &mut [Cap],
+    bits: &mut [u8],
     tally: &mut Tally,
     sheet: Sheet,
     asked: Asked,
     names: &[u32],
 ) -> Answer
-    ensures { λ r. ⌜ (now (table .exit) ≡ Step.after sheet (lends (now (table .entry)) (now (tally .entry))) (requestOf asked (now (names .entry))) .table)
-        × (now (tally .exit) ≡ Step.after sheet (lends (now (table .entry)) (now (tally .entry))) (requestOf asked (now (names .entry))) .tally)
-        × (verdictOf r ≡ Step.answer (lends (now (table .entry)) (now (tally .entry))) (requestOf asked (now (names .entry)))) ⌝ }
+    ensures { λ r. ⌜ (now (table .exit) ≡ Step.after sheet (lends (now (table .entry)) (now (bits .entry)) (now (tally .entry))) (requestOf asked (now (names .entry))) .memory .table)
+        × (now (bits .exit) ≡ Step.after sheet (lends (now (table .entry)) (now (bits .entry)) (now (tally .entry))) (requestOf asked (now (names .entry))) .memory .bits)
+        × (now (tally .exit) ≡ Step.after sheet (lends (now (table .entry)) (now (bits .entry)) (now (tally .entry))) (requestOf asked (now (names .entry))) .tally)
+        × (verdictOf r ≡ Step.answer (lends (now (table .entry)) (now (bits .entry)) (now (tally .entry))) (requestOf asked (now (names .entry)))) ⌝ }
 {
     let mut rows = [[0u32; WIDTH]; 1024];
     let n = table.len();
     let m = held(n);
     load(table, m, &mut rows);
-    let out = request_held(&mut rows, n, *tally, sheet, asked, names);
+    let out = request_held(&mut rows, n, bits, *tally, sheet, asked, names);
     store(table, m, &rows);
     *tally = out.tally;
     out.answer

@@ -32,6 +32,7 @@ fn marked_row(c: Cap, mark: u8) -> Cap
             right: 1,
             depth: c.depth,
             kind: c.kind,
+            fresh: c.fresh,
         }
     } else {
         c

@@ -1,4 +1,4 @@
-// One request on a lent table and a tally.
+// One request on a lent table, its written bits and a tally.
 use crate::Outcome;
 use crate::Progress;
 use crate::count::count_allowed;
@@ -22,6 +22,7 @@ use model::Span;
 use model::Tally;
 use table::Row;
 use table::SheetBytes;
+use table::bits::put_span;
 use table::find::find;
 use table::ordered::Look;
 use table::ordered::look_at;
@@ -30,25 +31,25 @@ use table::words::row_at;
 use table::words::set_row;
 ghost use mathlib.Core.Path.{_≡_};
 ghost use mathlib.Core.Bool.{true, false};
-ghost use mathlib.Core.List.{_∷_};
-ghost use Prim.Native.Nat.{_<_, _≤_};
+ghost use mathlib.Core.List.{List, _∷_};
+ghost use Prim.Native.Nat.{ℕ, _<_, _≤_};
 ghost use lib.ListN.{length};
 ghost use Rattle.model.specs.Lists.{any};
 ghost use Rattle.model.specs.Table.{row, named, lookup};
 ghost use Rattle.model.specs.Effects.{afterAccess, rowsWithout, rowsAfter};
-ghost use Rattle.model.specs.Refusals;
-ghost use Rattle.model.specs.Refusals.{viewOf};
+ghost use Rattle.model.specs.Answers.{verdictOf};
+ghost use Rattle.model.specs.Bits.{bitsAfter};
 ghost use Rattle.model.specs.Requests.{Single, requestOf};
 ghost use Rattle.table.specs.Words.{rowsIn};
 ghost use Rattle.table.specs.Sheets.{sheetIn};
 ghost use Rattle.table.specs.Rows.{before, Rise, Found, Places, Orderly};
-ghost use Rattle.table.specs.Known.{Known};
+ghost use Rattle.table.specs.Known.{Known, Sized};
 ghost use Rattle.rules.specs.Engine.{Ready, Downward, Quiet, Most, kept, Settled};
-ghost use Rattle.rules.specs.Steps.{Stepped};
+ghost use Rattle.rules.specs.Steps.{Stepped, AllowedOn};
 
 // The row of a new capability.
-fn new_row(name: u32, parent: u32, s: Span, right: u32, depth: u32, kind: u32) -> Cap
-    ensures { λ r. ⌜ r ≡ row (record { name = name; parent = parent; span = s; kind = kind }) right depth ⌝ }
+fn new_row(name: u32, parent: u32, s: Span, depth: u32, right: u8, kind: u8, fresh: u32) -> Cap
+    ensures { λ r. ⌜ r ≡ row (record { name = name; parent = parent; span = s; kind = kind; fresh = fresh }) right depth ⌝ }
 {
     let start = s.start;
     Cap {
@@ -56,9 +57,10 @@ fn new_row(name: u32, parent: u32, s: Span, right: u32, depth: u32, kind: u32) -
         parent: Name(parent),
         start,
         length: s.length,
-        right,
+        right: right as u32,
         depth,
-        kind,
+        kind: kind as u32,
+        fresh,
     }
 }
 
@@ -73,13 +75,12 @@ fn append(table: &mut [Row], k: usize, places: &mut [u16; 1024], c: Cap, q: usiz
     k + 1
 }
 
-// The depth of a name that is there, at q.
-fn depth_at(table: &[Row], k: usize, u: u32, q: usize) -> u32
+// The row of a name that is there, at q.
+fn row_of(table: &[Row], k: usize, u: u32, q: usize) -> Cap
     requires { ⌜ (k ≤ 1024) × Rise (rowsIn (now table)) k × (any (named u) (before (rowsIn (now table)) k) ≡ true) × Found (rowsIn (now table)) k u q ⌝ }
-    ensures { λ r. ⌜ r ≡ lookup u (before (rowsIn (now (table .entry))) k) .depth ⌝ }
+    ensures { λ r. ⌜ r ≡ lookup u (before (rowsIn (now (table .entry))) k) ⌝ }
 {
-    let c = row_at(table, q);
-    c.depth
+    row_at(table, q)
 }
 
 // The first k rows after their marks, of which none is above `most`; the answer is how many are left. Where no row ends, each parent stays
@@ -157,19 +158,19 @@ fn change_event(
     issued: u32,
     e: Event,
 ) -> usize
-    requires { ⌜ Orderly (rowsIn (now table)) (length (now table)) k issued × (Refusals.judge (viewOf (rowsIn (now table)) issued) (Single e) ≡ 0) × Places (rowsIn (now table)) k (now places) ⌝ }
+    requires { ⌜ Orderly (rowsIn (now table)) (length (now table)) k issued × AllowedOn (rowsIn (now table)) issued (Single e) × Places (rowsIn (now table)) k (now places) ⌝ }
     ensures { λ r. ⌜ Settled (rowsIn (now (table .exit))) (length (now (table .entry))) r (rowsAfter (sheetIn (now (sheet .entry))) issued (before (rowsIn (now (table .entry))) k) (Single e)) (now (places .exit)) ⌝ }
 {
     match e {
         Event::Create(_, s, r) => {
-            let c = new_row(issued + 1, 0, s, r as u32, 1, 0);
+            let c = new_row(issued + 1, 0, s, 1, r.right, 0, r.fresh as u32);
             let left = access_rows(table, k, places, sheet, Access::Writing, issued + 1, s);
             append(table, left, places, c, left)
         }
-        Event::Borrow(_, u, s, r, kind) => {
+        Event::Borrow(_, u, s, r) => {
             let q = find(table, k, u.0);
-            let d = depth_at(table, k, u.0, q);
-            let c = new_row(issued + 1, u.0, s, r as u32, d + 1, kind as u32);
+            let p = row_of(table, k, u.0, q);
+            let c = new_row(issued + 1, u.0, s, p.depth + 1, r.right, r.kind, p.fresh);
             append(table, k, places, c, q)
         }
         Event::Read(u, s) => access_rows(table, k, places, sheet, Access::Reading, u.0, s),
@@ -191,7 +192,7 @@ fn change(
     asked: Asked,
     names: &[u32],
 ) -> usize
-    requires { ⌜ Known (now table) k issued (now places) × (Refusals.judge (viewOf (rowsIn (now table)) issued) (requestOf asked (now names)) ≡ 0) ⌝ }
+    requires { ⌜ Known (now table) k issued (now places) × AllowedOn (rowsIn (now table)) issued (requestOf asked (now names)) ⌝ }
     ensures { λ r. ⌜ Settled (rowsIn (now (table .exit))) (length (now (table .entry))) r (rowsAfter (sheetIn (now (sheet .entry))) issued (before (rowsIn (now (table .entry))) k) (requestOf asked (now (names .entry)))) (now (places .exit)) ⌝ }
 {
     match asked {
@@ -200,22 +201,48 @@ fn change(
     }
 }
 
-// A request on a table in order, of which it is known how many rows live and where each row's parent stands. Both are known after it too,
-// so that a run of requests looks for them once. The names are those of names dropped together.
+// What an allowed event does to the bits: a create clears those of its addresses, and a write sets them.
+fn event_bits(bits: &mut [u8], e: Event)
+    requires { ⌜ Sized (now bits) ⌝ }
+    ensures { λ _. ⌜ now (bits .exit) ≡ bitsAfter (now (bits .entry)) (Single e) ⌝ }
+{
+    match e {
+        Event::Create(_, s, _) => put_span(bits, false, s),
+        Event::Borrow(_, _, _, _) => {}
+        Event::Read(_, _) => {}
+        Event::Write(_, s) => put_span(bits, true, s),
+        Event::Drop(_) => {}
+    }
+}
+
+// What an allowed request does to them. Names dropped together leave them as they are.
+fn change_bits(bits: &mut [u8], asked: Asked)
+    requires { ⌜ Sized (now bits) ⌝ }
+    ensures { λ _. ⌜ ((names : List ℕ) → now (bits .exit) ≡ bitsAfter (now (bits .entry)) (requestOf asked names)) ⌝ }
+{
+    match asked {
+        Asked::Single(e) => event_bits(bits, e),
+        Asked::Group => {}
+    }
+}
+
+// A request on a table in order, of which it is known how many rows live and where each row's parent stands, with as many bits as there
+// are to be. All that is known after it too, so that a run of requests looks for it once. The names are those of names dropped together.
 pub fn take(
     table: &mut [Row],
     k: usize,
     places: &mut [u16; 1024],
+    bits: &mut [u8],
     t: Tally,
     sheet: &SheetBytes,
     asked: Asked,
     names: &[u32],
 ) -> Progress
-    requires { ⌜ Known (now table) k (t .issued) (now places) ⌝ }
-    ensures { λ r. ⌜ Stepped (sheetIn (now (sheet .entry))) (now (table .entry)) t (requestOf asked (now (names .entry))) (now (table .exit)) (r .outcome)
-        × Known (now (table .exit)) (r .live) (r .outcome .tally .issued) (now (places .exit)) ⌝ }
+    requires { ⌜ Known (now table) k (t .issued) (now places) × Sized (now bits) ⌝ }
+    ensures { λ r. ⌜ Stepped (sheetIn (now (sheet .entry))) (now (table .entry)) (now (bits .entry)) t (requestOf asked (now (names .entry))) (now (table .exit)) (now (bits .exit)) (r .outcome)
+        × Known (now (table .exit)) (r .live) (r .outcome .tally .issued) (now (places .exit)) × Sized (now (bits .exit)) ⌝ }
 {
-    let a = judge_request(table, k, t.issued, asked, names);
+    let a = judge_request(table, k, bits, t.issued, asked, names);
     match a {
         Answer::Refused(x) => {
             let outcome = Outcome {
@@ -226,6 +253,7 @@ pub fn take(
         }
         Answer::Allowed(x) => {
             let live = change(table, k, places, sheet, t.issued, asked, names);
+            change_bits(bits, asked);
             let outcome = Outcome {
                 tally: count_allowed(asked, t),
                 answer: Answer::Allowed(x),
@@ -235,27 +263,39 @@ pub fn take(
     }
 }
 
-// A request on any table; one that is not in order, as above 1,024 rows, is refusal 1.
+// What a request that is refused 1 leaves.
+fn disordered(t: Tally) -> Outcome
+    ensures { λ r. ⌜ (r .tally ≡ t) × (verdictOf (r .answer) ≡ record { refusal = 1; name = 0 }) ⌝ }
+{
+    Outcome {
+        tally: t,
+        answer: Answer::Refused(Refusal::Disordered),
+    }
+}
+
+// A request on any table and any bits: a table that is not in order, as above 1,024 rows, is refusal 1, and so is another number of bytes than
+// 8,192.
 pub(crate) fn step(
     table: &mut [Row],
+    bits: &mut [u8],
     t: Tally,
     sheet: &SheetBytes,
     asked: Asked,
     names: &[u32],
 ) -> Outcome
-    ensures { λ r. ⌜ Stepped (sheetIn (now (sheet .entry))) (now (table .entry)) t (requestOf asked (now (names .entry))) (now (table .exit)) r ⌝ }
+    ensures { λ r. ⌜ Stepped (sheetIn (now (sheet .entry))) (now (table .entry)) (now (bits .entry)) t (requestOf asked (now (names .entry))) (now (table .exit)) (now (bits .exit)) r ⌝ }
 {
+    if bits.len() != 8192 {
+        return disordered(t);
+    }
     let mut places = [0u16; 1024];
     let found = look_at(table, t.issued, &mut places);
     match found {
         Look::InOrder(live) => {
-            let p = take(table, live, &mut places, t, sheet, asked, names);
+            let p = take(table, live, &mut places, bits, t, sheet, asked, names);
             let outcome = p.outcome;
             outcome
         }
-        Look::Disordered => Outcome {
-            tally: t,
-            answer: Answer::Refused(Refusal::Disordered),
-        },
+        Look::Disordered => disordered(t),
     }
 }

@@ -16,6 +16,10 @@ pub record Known (ws : List (List ℕ)) (live issued : ℕ) (places : List ℕ) 
   pub orderly : Orderly (rowsIn ws) (length ws) live issued
   pub placed : Places (rowsIn ws) live places
 
+-- written bits of the one length that is taken
+abbrev pub Sized : List ℕ → Type 0
+Sized bits = length bits ≡ 8192
+
 -- what a look at a table finds
 abbrev pub Looks : List (List ℕ) → ℕ → List ℕ → Look → Type 0
 Looks ws issued places (InOrder live) = Known ws live issued places

@@ -1,4 +1,4 @@
--- What the caller lends: a table of seven words a row, and a tally of seven words, in the record's order of the fields.
+-- What the caller lends: a table of eight words a row, the written bits, and a tally of seven words, in the record's order of the fields.
 -- Assumes nothing.
 use Prim.Native.Nat.{ℕ}
 use mathlib.Core.List.{List}
@@ -11,5 +11,5 @@ use Rattle.table.specs.Words.{rowsIn}
 abbrev pub tallyIn : List ℕ → Tally
 tallyIn w = tally (getD w 0 0) (getD w 1 0) (getD w 2 0) (getD w 3 0) (getD w 4 0) (getD w 5 0) (getD w 6 0)
 
-abbrev pub lent : List (List ℕ) → List ℕ → State
-lent ws w = record { table = rowsIn ws; tally = tallyIn w }
+abbrev pub lent : List (List ℕ) → List ℕ → List ℕ → State
+lent ws bits w = record { memory = record { table = rowsIn ws; bits = bits }; tally = tallyIn w }

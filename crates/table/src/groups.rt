@@ -7,14 +7,14 @@ use model::Name;
 use model::Refusal;
 ghost use mathlib.Core.Path.{_≡_};
 ghost use Prim.Native.Nat.{_≤_};
-ghost use lib.ListN.{length};
 ghost use Rattle.model.specs.Lists.{first};
 ghost use Rattle.model.specs.Step.{verdict};
 ghost use Rattle.model.specs.Answers.{verdictOf};
-ghost use Rattle.model.specs.Requests.{Group, isGroup};
-ghost use Rattle.model.specs.Refusals.{judge, standings, viewOf};
+ghost use Rattle.model.specs.Requests.{isGroup};
+ghost use Rattle.model.specs.Refusals.{standings};
 ghost use Rattle.table.specs.Words.{rowsIn};
-ghost use Rattle.table.specs.Rows.{before, Rise, Orderly};
+ghost use Rattle.table.specs.Rows.{before, Rise};
+ghost use Rattle.table.specs.Stands.{groupChecks};
 
 // Whether names are a group: 1 to 64 of them, strictly rising.
 pub fn is_group(names: &[u32]) -> bool
@@ -52,10 +52,10 @@ fn judge_names(table: &[Row], k: usize, issued: u32, names: &[u32]) -> Answer
     Answer::Allowed(Name(0))
 }
 
-// The answer to a group of names. Internal: the caller shows that the table is in order.
+// The answer to a group of names.
 pub(crate) fn judge_group(table: &[Row], k: usize, issued: u32, names: &[u32]) -> Answer
-    requires { ⌜ Orderly (rowsIn (now table)) (length (now table)) k issued ⌝ }
-    ensures { λ a. ⌜ verdictOf a ≡ verdict (judge (viewOf (rowsIn (now (table .entry))) issued) (Group (now (names .entry)))) 0 ⌝ }
+    requires { ⌜ (k ≤ 1024) × Rise (rowsIn (now table)) k ⌝ }
+    ensures { λ a. ⌜ verdictOf a ≡ verdict (first (groupChecks (before (rowsIn (now (table .entry))) k) issued (now (names .entry)))) 0 ⌝ }
 {
     if !is_group(names) {
         return Answer::Refused(Refusal::Misgrouped);

@@ -2,6 +2,7 @@
 use crate::Row;
 use crate::find::find_near;
 use crate::find::live_count;
+use crate::spans::end;
 use crate::spans::is_inside;
 use crate::spans::is_legal;
 use crate::spans::span_of;
@@ -13,7 +14,7 @@ ghost use Prim.Native.Nat.{suc, _<_, _≤_};
 ghost use lib.Dec.{eqb};
 ghost use lib.ListN.{length, drop};
 ghost use Rattle.model.specs.Lists.{all};
-ghost use Rattle.model.specs.Table.{isEmptyRow, isRight, isKind, rowFitsParent, rowInOrder, rowsInOrder, inOrder};
+ghost use Rattle.model.specs.Table.{derivation, isEmptyRow, isRight, isKind, isMark, termsInOrder, rowFitsParent, rowInOrder, rowsInOrder, inOrder};
 ghost use Rattle.table.specs.Words.{rowsIn};
 ghost use Rattle.table.specs.Rows.{before, Filled, Rise, Front, Found, PlacesIf};
 ghost use Rattle.table.specs.Known.{Looks};
@@ -39,7 +40,10 @@ fn is_empty_row(c: Cap) -> bool
     if c.depth != 0 {
         return false;
     }
-    c.kind == 0
+    if c.kind != 0 {
+        return false;
+    }
+    c.fresh == 0
 }
 
 // The rows from k on are all zeros.
@@ -72,6 +76,23 @@ pub fn is_kind(k: u32) -> bool
     k <= 2
 }
 
+// Whether this is a mark.
+pub fn is_mark(m: u32) -> bool
+    ensures { λ b. ⌜ b ≡ isMark m ⌝ }
+{
+    m <= 1
+}
+
+// The mark of a row: a marked one ends at 65,536 or below.
+fn mark_in_order(c: Cap) -> bool
+    ensures { λ r. ⌜ r ≡ termsInOrder (derivation c) ⌝ }
+{
+    if c.fresh == 1 {
+        return end(span_of(c)) <= 65536;
+    }
+    is_mark(c.fresh)
+}
+
 // A row without a parent.
 fn root_in_order(c: Cap) -> bool
     ensures { λ r. ⌜ r ≡ eqb (c .depth) 1 && eqb (c .kind) 0 ⌝ }
@@ -92,7 +113,10 @@ fn row_fits_parent(c: Cap, p: Cap) -> bool
     if c.depth as u64 != p.depth as u64 + 1 {
         return false;
     }
-    c.depth <= 64
+    if 64 < c.depth {
+        return false;
+    }
+    c.fresh == p.fresh
 }
 
 // A row against the i rows before it, where q is its parent's place.
@@ -107,6 +131,9 @@ fn row_in_order(table: &[Row], i: usize, c: Cap, q: usize) -> bool
         return false;
     }
     if !is_kind(c.kind) {
+        return false;
+    }
+    if !mark_in_order(c) {
         return false;
     }
     if c.parent.0 == 0 {

@@ -23,6 +23,7 @@ pub fn row_at(table: &[Row], i: usize) -> Cap
         right: row[4],
         depth: row[5],
         kind: row[6],
+        fresh: row[7],
     }
 }
 
@@ -39,6 +40,7 @@ pub fn set_row(table: &mut [Row], i: usize, c: Cap)
         c.right,
         c.depth,
         c.kind,
+        c.fresh,
     ];
 }
 
@@ -54,5 +56,6 @@ pub fn empty_row() -> Cap
         right: 0,
         depth: 0,
         kind: 0,
+        fresh: 0,
     }
 }

@@ -9,7 +9,7 @@ pub use Rattle.text.proofs.Laws.Number.{Stops, digit-class, digit-small
 pub use Rattle.text.proofs.Laws.OneLine.{Ends, header-is-no-event, spell-is-line}
 pub use Rattle.text.proofs.Laws.OneSpelling.{read-is-spelling, spelling-reads-back}
 pub use Rattle.text.proofs.Laws.Put.{put-length, put-next, put-two, sets-first}
-pub use Rattle.text.proofs.Laws.Range.{kind-short, right-length}
+pub use Rattle.text.proofs.Laws.Range.{fresh-short, kind-short, right-length}
 pub use Rattle.text.proofs.Laws.Read.{same-is, same-refl, same-true}
-pub use Rattle.text.proofs.Laws.Words.{kind-back, kinds, next, number-is, plain-decimal, right-back, right-stops, rights}
+pub use Rattle.text.proofs.Laws.Words.{fresh-back, kind-back, kinds, marks, next, number-is, plain-decimal, right-back, right-stops, rights}
 pub use Rattle.text.proofs.Laws.Write.{Wrote, writes-none, writes-put, wrote, wrote-none}

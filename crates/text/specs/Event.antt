@@ -1,14 +1,15 @@
--- Document 01, "The bracket text", and cards 1 and 6: the one spelling of an event, where no name is written and where names are written out.
+-- Document 01, "The bracket text", and cards 1, 6 and 9: the one spelling of an event, where no name is written and where names are written out.
 -- Assumes nothing.
 use Prim.Native.Nat.{ℕ, _^_, _<_}
 use Prim.Native.Char.{code}
 use Prim.Native.String as text
 use Prim.Native.String.{String}
-use mathlib.Core.Bool.{Bool, true, false, cond, _&&_}
+use mathlib.Core.Bool.{Bool, true, false, not, cond, _&&_}
 use mathlib.Core.List.{List, [], _∷_, _++_}
 use lib.Dec.{eqb}
-use Rattle.model.specs.Table.{isRight, isKind}
+use Rattle.model.specs.Refusals.{unfitRoot, unfitChild}
 use Rattle.model.specs.declared.Span.{Span}
+use Rattle.model.specs.declared.Terms.{Terms}
 use Rattle.model.specs.declared.NewName.{NewName}
 use Rattle.model.specs.declared.NewName.the-variants.{Unwritten, Written}
 use Rattle.model.specs.declared.Event.{Event}
@@ -39,9 +40,13 @@ rightWord r = cond (eqb r 1) (bytes " ro") (bytes " rw")
 abbrev pub kindWord : ℕ → List ℕ
 kindWord k = cond (eqb k 0) [] (cond (eqb k 1) (bytes " raw") (bytes " cell"))
 
--- the ending of a line that has a right and a kind
-abbrev pub ending : ℕ → ℕ → List ℕ
-ending r k = rightWord r ++ (kindWord k ++ bytes ")\n")
+-- Card 9: "the word `fresh`", with a space before it; what is not marked has none
+abbrev pub freshWord : ℕ → List ℕ
+freshWord m = cond (eqb m 1) (bytes " fresh") []
+
+-- the ending of a line that has a right, a kind and a mark
+abbrev pub ending : Terms → List ℕ
+ending r = rightWord (r .right) ++ (kindWord (r .kind) ++ (freshWord (r .fresh) ++ bytes ")\n"))
 
 -- START LENGTH
 abbrev pub spanNumbers : Span → List ℕ
@@ -54,10 +59,10 @@ writtenNumbers (Written x) = x .0 ∷ []
 
 -- "One form a line, ended by byte 10: `(create START LENGTH RIGHT)`, `(borrow NAME START LENGTH RIGHT)`, `(read NAME START LENGTH)`,
 -- `(write NAME START LENGTH)`, `(drop NAME)`." Card 1: `(create 1 0 64 rw)`, `(borrow 2 1 0 8 rw)`. Card 6: a borrow's kind is its last
--- word, and creates make references, whose kind is 0.
+-- word, and creates make references, whose kind is 0. Card 9: "A create may end in the word `fresh`", and borrows have no such word.
 unfoldable pub spell : Event → List ℕ
-spell (Create w s r) = line "(create" (writtenNumbers w ++ spanNumbers s) (ending r 0)
-spell (Borrow w n s r kind) = line "(borrow" (writtenNumbers w ++ (n .0 ∷ spanNumbers s)) (ending r kind)
+spell (Create w s r) = line "(create" (writtenNumbers w ++ spanNumbers s) (ending r)
+spell (Borrow w n s r) = line "(borrow" (writtenNumbers w ++ (n .0 ∷ spanNumbers s)) (ending r)
 spell (Read n s) = line "(read" (n .0 ∷ spanNumbers s) (bytes ")\n")
 spell (Write n s) = line "(write" (n .0 ∷ spanNumbers s) (bytes ")\n")
 spell (Drop n) = line "(drop" (n .0 ∷ []) (bytes ")\n")
@@ -69,12 +74,11 @@ writesName Plain (Written x) = false
 writesName Named Unwritten = false
 writesName Named (Written x) = true
 
--- An event has a spelling in one of the two when its name is written as there, and it is not refused in itself, that is not
--- refusal 2 as an "event whose right is neither 1 nor 2", or as a borrow whose kind is "any other kind number". What `spell` gives of
--- any other event is the spelling of none, and no line is read as it.
+-- An event has a spelling in one of the two when its name is written as there, and it is not refused in itself, that is not refusal 2 for
+-- its right, its kind or its mark. What `spell` gives of any other event is the spelling of none, and no line is read as it.
 unfoldable pub hasSpelling : Spelling → Event → Bool
-hasSpelling k (Create w s r) = writesName k w && isRight r
-hasSpelling k (Borrow w n s r kind) = writesName k w && (isKind kind && isRight r)
+hasSpelling k (Create w s r) = writesName k w && not (unfitRoot r)
+hasSpelling k (Borrow w n s r) = writesName k w && not (unfitChild r)
 hasSpelling k (Read n s) = true
 hasSpelling k (Write n s) = true
 hasSpelling k (Drop n) = true
@@ -87,7 +91,7 @@ Below32 (n ∷ ns) = (n < 2 ^ 32) × Below32 ns
 
 abbrev pub InRange : Event → Type 0
 InRange (Create w s r) = Below32 (writtenNumbers w ++ spanNumbers s)
-InRange (Borrow w n s r kind) = Below32 (writtenNumbers w ++ (n .0 ∷ spanNumbers s))
+InRange (Borrow w n s r) = Below32 (writtenNumbers w ++ (n .0 ∷ spanNumbers s))
 InRange (Read n s) = Below32 (n .0 ∷ spanNumbers s)
 InRange (Write n s) = Below32 (n .0 ∷ spanNumbers s)
 InRange (Drop n) = Below32 (n .0 ∷ [])

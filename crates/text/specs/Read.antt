@@ -1,4 +1,4 @@
--- Document 01, "The bracket text", and cards 1 and 6: what a line reads as in one of the two spellings, the event whose one spelling it is.
+-- Document 01, "The bracket text", and cards 1, 6 and 9: what a line reads as in one of the two spellings, the event whose one spelling it is.
 -- Assumes nothing.
 use Prim.Native.Nat.{ℕ}
 use mathlib.Core.Bool.{Bool, true, false, cond, _&&_}
@@ -43,6 +43,10 @@ rightOf w = cond (eqb (getD w 1 0) 111) 1 2
 abbrev pub kindOf : List ℕ → ℕ
 kindOf w = cond (eqb (getD w 3 0) 114) 1 (cond (eqb (getD w 3 0) 99) 2 0)
 
+-- the mark, at a place of such a text: behind a space `fresh` has an f, which is byte 102
+abbrev pub freshAt : List ℕ → ℕ → ℕ
+freshAt w k = cond (eqb (getD w k 0) 102) 1 0
+
 -- the line of a create or borrow from its new name on, where the spelling writes one, and else the whole line: behind its first space
 -- stand the words that both spellings have
 abbrev pub fromName : Spelling → List ℕ → List ℕ
@@ -56,12 +60,14 @@ newNameOf Named t = Written (nameOf t)
 
 abbrev pub createOf : Spelling → List ℕ → Event
 createOf k t =
-    Create (newNameOf k t) (spanOf (afterSpace t) (afterSpace (afterSpace t))) (rightOf (afterSpace (afterSpace (afterSpace t))))
+    let right = afterSpace (afterSpace (afterSpace t)) in
+    Create (newNameOf k t) (spanOf (afterSpace t) (afterSpace (afterSpace t))) (record { right = rightOf right; kind = 0; fresh = freshAt right 3 })
 
 abbrev pub borrowOf : Spelling → List ℕ → Event
 borrowOf k t =
+    let right = afterSpace (afterSpace (afterSpace (afterSpace t))) in
     Borrow (newNameOf k t) (nameOf (afterSpace t)) (spanOf (afterSpace (afterSpace t)) (afterSpace (afterSpace (afterSpace t))))
-    (rightOf (afterSpace (afterSpace (afterSpace (afterSpace t))))) (kindOf (afterSpace (afterSpace (afterSpace (afterSpace t)))))
+    (record { right = rightOf right; kind = kindOf right; fresh = 0 })
 
 -- The one event whose spelling a line can be: its second byte tells the kind (c, b, r, w, or else d). Nothing is refused here. That it
 -- misses no spelling is proved in proofs/Laws/OneSpelling.

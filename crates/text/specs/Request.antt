@@ -33,7 +33,7 @@ spellingWith (Written x) = Named
 
 abbrev pub spellingOf : Event → Spelling
 spellingOf (Create w s r) = spellingWith w
-spellingOf (Borrow w n s r kind) = spellingWith w
+spellingOf (Borrow w n s r) = spellingWith w
 spellingOf (Read n s) = Plain
 spellingOf (Write n s) = Plain
 spellingOf (Drop n) = Plain

@@ -11,11 +11,12 @@ use model::Name;
 use model::NewName;
 use model::Refusal;
 use model::Span;
+use model::Terms;
 ghost use mathlib.Core.Path.{_≡_};
 ghost use Prim.Native.Nat.{_≤_};
 ghost use lib.ListN.{length, getD};
 ghost use Rattle.text.specs.Event.{spell};
-ghost use Rattle.text.specs.Read.{nameOf, spanOf, rightOf, kindOf, fromName, newNameOf, createOf, borrowOf, guess, isSpelling, readAnswer, readEvent};
+ghost use Rattle.text.specs.Read.{nameOf, spanOf, rightOf, kindOf, freshAt, fromName, newNameOf, createOf, borrowOf, guess, isSpelling, readAnswer, readEvent};
 
 // What a line reads as: the event whose spelling it is, or refusal 2.
 pub enum EventRead {
@@ -67,6 +68,13 @@ pub fn kind_of(word: &[u8]) -> u8
     }
 }
 
+// Internal. The mark that such a text spells, where the letter behind the space that may come before it is at this place.
+pub fn fresh_at(word: &[u8], index: usize) -> u8
+    ensures { λ r. ⌜ r ≡ freshAt (now (word .entry)) index ⌝ }
+{
+    if byte_at(word, index) == b'f' { 1 } else { 0 }
+}
+
 // The line of a create or borrow from its new name on; the whole line where the spelling writes none.
 fn from_name(spelling: Spelling, line: &[u8]) -> &[u8]
     ensures { λ r. ⌜ now r ≡ fromName spelling (now (line .entry)) ⌝ }
@@ -93,11 +101,12 @@ fn create_of(spelling: Spelling, part: &[u8]) -> Event
     let start = lines::after_space(part);
     let length = lines::after_space(start);
     let right = lines::after_space(length);
-    Event::Create(
-        new_name_of(spelling, part),
-        span_of(start, length),
-        right_of(right),
-    )
+    let terms = Terms {
+        right: right_of(right),
+        kind: 0,
+        fresh: fresh_at(right, 3),
+    };
+    Event::Create(new_name_of(spelling, part), span_of(start, length), terms)
 }
 
 fn borrow_of(spelling: Spelling, part: &[u8]) -> Event
@@ -107,12 +116,16 @@ fn borrow_of(spelling: Spelling, part: &[u8]) -> Event
     let start = lines::after_space(name);
     let length = lines::after_space(start);
     let right = lines::after_space(length);
+    let terms = Terms {
+        right: right_of(right),
+        kind: kind_of(right),
+        fresh: 0,
+    };
     Event::Borrow(
         new_name_of(spelling, part),
         name_of(name),
         span_of(start, length),
-        right_of(right),
-        kind_of(right),
+        terms,
     )
 }
 

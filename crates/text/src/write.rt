@@ -7,13 +7,14 @@ use model::Name;
 use model::NewName;
 use model::Refusal;
 use model::Span;
-use table::ordered::is_kind;
-use table::ordered::is_right;
+use model::Terms;
+use table::terms::fit_child;
+use table::terms::fit_root;
 ghost use mathlib.Core.Path.{_≡_};
-ghost use mathlib.Core.Bool.{true, _&&_};
+ghost use mathlib.Core.Bool.{true, not, _&&_};
 ghost use mathlib.Core.List.{[], _++_};
-ghost use Rattle.model.specs.Table.{isRight, isKind};
-ghost use Rattle.text.specs.Event.{spaced, ending};
+ghost use Rattle.model.specs.Refusals.{unfitRoot, unfitChild};
+ghost use Rattle.text.specs.Event.{spaced, writesName, ending};
 ghost use Rattle.text.specs.Write.{Short, Writes, outcome, writeEvent};
 
 // What a writer answers: the length of the text, or a refusal.
@@ -37,58 +38,72 @@ pub(crate) fn write_line(word: &[u8], numbers: &[u32], ending: &[u8], out: &mut 
     Written::Length(end)
 }
 
-// Whether these are a right and a kind.
-fn are_right_and_kind(right: u8, kind: u8) -> bool
-    ensures { λ r. ⌜ r ≡ (isKind kind && isRight right) ⌝ }
-{
-    if is_kind(kind as u32) {
-        is_right(right as u32)
-    } else {
-        false
-    }
-}
-
-// Writes a line with a right and a kind: their words, the bracket and the newline are its ending, 5 bytes and the kind's word. Any other
-// number for a right or a kind is refused, as is a line that is not spelled so.
-fn write_with_right(
+// Writes a line with a right, a kind and a mark: their words, the bracket and the newline are its ending, 5 bytes and the words of the kind
+// and the mark. A line that is not spelled so is refused.
+fn write_with_terms(
     spelled: bool,
     word: &[u8],
     numbers: &[u32],
-    right: u8,
-    kind: u8,
+    terms: Terms,
     out: &mut [u8],
 ) -> Written
     requires { ⌜ Short (now word) (now numbers) [] ⌝ }
-    ensures { λ r. ⌜ Writes (spelled && (isKind kind && isRight right)) (now (word .entry) ++ (spaced (now (numbers .entry)) ++ ending right kind)) (now (out .entry)) (now (out .exit)) r ⌝ }
+    ensures { λ r. ⌜ Writes spelled (now (word .entry) ++ (spaced (now (numbers .entry)) ++ ending terms)) (now (out .entry)) (now (out .exit)) r ⌝ }
 {
     if !spelled {
         return Written::Refused(Refusal::Misspelt);
     }
-    if !are_right_and_kind(right, kind) {
-        return Written::Refused(Refusal::Misspelt);
-    }
-    let total = word.len() + pieces::spaced_length(numbers) + pieces::kind_length(kind as u32) + 5;
+    let words = pieces::kind_length(terms.kind as u32) + pieces::fresh_length(terms.fresh as u32);
+    let total = word.len() + pieces::spaced_length(numbers) + words + 5;
     if out.len() < total {
         return Written::Refused(Refusal::BufferTooShort);
     }
     let past_word = pieces::put_bytes(out, 0, word);
     let past_numbers = pieces::put_numbers(out, past_word, numbers);
-    let end = pieces::put_ending(out, past_numbers, right as u32, kind as u32);
+    let end = pieces::put_ending(out, past_numbers, terms);
     Written::Length(end)
 }
 
-fn write_create(spelling: Spelling, new: NewName, span: Span, right: u8, out: &mut [u8]) -> Written
-    ensures { λ r. ⌜ outcome r (now (out .exit)) ≡ writeEvent spelling (Event.Create new span right) (now (out .entry)) ⌝ }
+// Whether a create has a spelling.
+fn spells_create(spelling: Spelling, new: NewName, terms: Terms) -> bool
+    ensures { λ r. ⌜ r ≡ (writesName spelling new && not (unfitRoot terms)) ⌝ }
 {
-    let spelled = spelling::writes_name(spelling, new);
+    if spelling::writes_name(spelling, new) {
+        fit_root(terms)
+    } else {
+        false
+    }
+}
+
+// Whether a borrow has one.
+fn spells_borrow(spelling: Spelling, new: NewName, terms: Terms) -> bool
+    ensures { λ r. ⌜ r ≡ (writesName spelling new && not (unfitChild terms)) ⌝ }
+{
+    if spelling::writes_name(spelling, new) {
+        fit_child(terms)
+    } else {
+        false
+    }
+}
+
+fn write_create(
+    spelling: Spelling,
+    new: NewName,
+    span: Span,
+    terms: Terms,
+    out: &mut [u8],
+) -> Written
+    ensures { λ r. ⌜ outcome r (now (out .exit)) ≡ writeEvent spelling (Event.Create new span terms) (now (out .entry)) ⌝ }
+{
+    let spelled = spells_create(spelling, new, terms);
     match new {
         NewName::Unwritten => {
             let numbers = [span.start.0, span.length];
-            write_with_right(spelled, b"(create", &numbers, right, 0, out)
+            write_with_terms(spelled, b"(create", &numbers, terms, out)
         }
         NewName::Written(made) => {
             let numbers = [made.0, span.start.0, span.length];
-            write_with_right(spelled, b"(create", &numbers, right, 0, out)
+            write_with_terms(spelled, b"(create", &numbers, terms, out)
         }
     }
 }
@@ -98,35 +113,34 @@ fn write_borrow(
     new: NewName,
     name: Name,
     span: Span,
-    right: u8,
-    kind: u8,
+    terms: Terms,
     out: &mut [u8],
 ) -> Written
-    ensures { λ r. ⌜ outcome r (now (out .exit)) ≡ writeEvent spelling (Event.Borrow new name span right kind) (now (out .entry)) ⌝ }
+    ensures { λ r. ⌜ outcome r (now (out .exit)) ≡ writeEvent spelling (Event.Borrow new name span terms) (now (out .entry)) ⌝ }
 {
-    let spelled = spelling::writes_name(spelling, new);
+    let spelled = spells_borrow(spelling, new, terms);
     match new {
         NewName::Unwritten => {
             let numbers = [name.0, span.start.0, span.length];
-            write_with_right(spelled, b"(borrow", &numbers, right, kind, out)
+            write_with_terms(spelled, b"(borrow", &numbers, terms, out)
         }
         NewName::Written(made) => {
             let numbers = [made.0, name.0, span.start.0, span.length];
-            write_with_right(spelled, b"(borrow", &numbers, right, kind, out)
+            write_with_terms(spelled, b"(borrow", &numbers, terms, out)
         }
     }
 }
 
 // Writes the line of an event in one of the two spellings at the buffer's first bytes and answers its length; refusal 2 for a right
-// that is neither 1 nor 2, for a kind above 2 and for a name that is not written as in this spelling, and 11 where the line is longer
-// than the buffer.
+// that is neither 1 nor 2, for a kind above 2 or a create's above 0, for a mark above 1 or a borrow's above 0, and for a name that is not
+// written as in this spelling; and 11 where the line is longer than the buffer.
 pub fn write_event(spelling: Spelling, event: Event, out: &mut [u8]) -> Written
     ensures { λ r. ⌜ outcome r (now (out .exit)) ≡ writeEvent spelling event (now (out .entry)) ⌝ }
 {
     match event {
-        Event::Create(new, span, right) => write_create(spelling, new, span, right, out),
-        Event::Borrow(new, name, span, right, kind) => {
-            write_borrow(spelling, new, name, span, right, kind, out)
+        Event::Create(new, span, terms) => write_create(spelling, new, span, terms, out),
+        Event::Borrow(new, name, span, terms) => {
+            write_borrow(spelling, new, name, span, terms, out)
         }
         Event::Read(name, span) => {
             let numbers = [name.0, span.start.0, span.length];

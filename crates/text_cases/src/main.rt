@@ -1,4 +1,4 @@
-// Runs the public calls on event lines, document 01, "The bracket text", and card 1: the examples for refusals 2 and 11, and a table
+// Runs the public calls on event lines, document 01, "The bracket text", and cards 1, 6 and 9: the examples for refusals 2 and 11, and a table
 // of good and bad lines, which is standard input. Each case is one line of output: what it is, and what was answered; a line that is
 // read is answered in both spellings. Last comes the class of each of the 256 byte values, 64 to a line.
 mod classes;
@@ -14,5 +14,6 @@ fn main() {
     reading::next_lines();
     writing::lengths();
     writing::refusals();
+    writing::mark_refusals();
     classes::all();
 }

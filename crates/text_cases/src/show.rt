@@ -5,6 +5,7 @@ use model::Name;
 use model::NewName;
 use model::Refusal;
 use model::Span;
+use model::Terms;
 ghost use mathlib.Core.Path.{_≡_};
 ghost use Rattle.model.specs.Answers.{number};
 
@@ -56,6 +57,7 @@ fn number_of(refusal: Refusal) -> u32
         Refusal::Misgrouped => 13,
         Refusal::GivenTwice => 14,
         Refusal::NotGiven => 15,
+        Refusal::NotWritten => 16,
     }
 }
 
@@ -71,22 +73,28 @@ fn say_new(new: NewName) {
     }
 }
 
-// An event: its word, its new name where that is written, and its values, the right as 1 or 2 and a borrow's kind as 0, 1 or 2.
+// A right, a kind and a mark, each as a number.
+fn say_terms(terms: Terms) {
+    say_byte(terms.right);
+    say_byte(terms.kind);
+    say_byte(terms.fresh);
+}
+
+// An event: its word, its new name where that is written, and its values.
 pub fn say_event(event: Event) {
     match event {
-        Event::Create(new, span, right) => {
+        Event::Create(new, span, terms) => {
             say(b" create");
             say_new(new);
             say_span(span);
-            say_byte(right);
+            say_terms(terms);
         }
-        Event::Borrow(new, name, span, right, kind) => {
+        Event::Borrow(new, name, span, terms) => {
             say(b" borrow");
             say_new(new);
             say_name(name);
             say_span(span);
-            say_byte(right);
-            say_byte(kind);
+            say_terms(terms);
         }
         Event::Read(name, span) => {
             say(b" read");

@@ -20,7 +20,7 @@ answerLine refusal number =
 
 -- ", then the listing"
 abbrev pub listingOf : Ran State → List ℕ
-listingOf r = listing (r .state .table) (r .state .tally .issued)
+listingOf r = listing (r .state .memory .table) (r .state .tally .issued)
 
 abbrev pub report : Ran State → List ℕ
 report r = answerLine (r .refusal) (r .number) ++ listingOf r
@@ -28,7 +28,7 @@ report r = answerLine (r .refusal) (r .number) ++ listingOf r
 abbrev pub noCounts : Tally
 noCounts = tally 0 0 0 0 0 0 0
 
--- "uses 1,024 empty rows", and card 6's sheet; "Input above 65,536 bytes gives the one line `(long)`."
+-- "uses 1,024 empty rows", card 6's sheet, and written bits that are zeros; "Input above 65,536 bytes gives the one line `(long)`."
 unfoldable pub checkText : List ℕ → List ℕ
 checkText input =
     let text = report (run sheet6 (initial 1024 noCounts) input) in

@@ -3,15 +3,15 @@
 -- Assumes nothing.
 use Prim.Native.Nat.{ℕ, _+_}
 use mathlib.Core.Path.{_≡_}
-use mathlib.Core.Bool.{Bool, cond}
+use mathlib.Core.Bool.{Bool, not, cond}
 use mathlib.Core.List.{List, [], _∷_}
 use lib.Dec.{eqb}
 use Rattle.model.specs.declared.Sheet.{Sheet}
 use Rattle.model.specs.Requests.{Request}
 use Rattle.model.specs.declared.Tally.{Tally}
-use Rattle.model.specs.Table.{inOrder}
+use Rattle.model.specs.Refusals.{unfit}
 use Rattle.model.specs.Counts.{countRefused}
-use Rattle.model.specs.Step.{Verdict, State}
+use Rattle.model.specs.Step.{Verdict, State, view}
 use Rattle.model.specs.Step
 use Rattle.model.specs.Answers.{number, verdictOf}
 use Rattle.rules.specs.declared.Outcome.{Outcome}
@@ -33,7 +33,7 @@ use Rattle.trace.specs.declared.run.RunOutcome.{RunOutcome}
 abbrev pub header : List ℕ
 header = bytes "(trace 2)\n"
 
--- What takes the events of a run, over its own states: whether its table is in order, its answer to an event, and the state after an
+-- What takes the events of a run, over its own states: whether what it is lent is in order, its answer to an event, and the state after an
 -- event and after a line that is refused for its spelling.
 pub record Checker (S : Type 0) : Type 0 where
   pub ordered : S → Bool
@@ -89,30 +89,30 @@ module _ (sheet : Sheet) where
   -- what the caller lends, by a conflict sheet: "Refusals 2 to 10 of .. a line in a run add one to the refused count and change no more"
   abbrev pub lent : Checker State
   lent = record {
-    ordered = λ h. inOrder (h .table) (h .tally .issued);
+    ordered = λ h. not (unfit (view h));
     answer = Step.answer;
     after = Step.after sheet;
-    misspelt = λ h. record { table = h .table; tally = countRefused (h .tally) };
+    misspelt = λ h. record { memory = h .memory; tally = countRefused (h .tally) };
   }
 
   -- a run of a text on what the caller lends
   abbrev pub run : State → List ℕ → Ran State
   run = runFrom lent
 
-  -- a run on the words ws of a table leaves the words ws′
-  pub record Runs (ws : List (List ℕ)) (t : Tally) (text : List ℕ) (ws′ : List (List ℕ)) (r : RunOutcome) : Type 0 where
-    pub ran : ranOf (r .answer) (lends (rowsIn ws′) (r .tally)) ≡ run (lends (rowsIn ws) t) text
+  -- a run on the words ws of a table and the bits bs leaves the words ws′ and the bits bs′
+  pub record Runs (ws : List (List ℕ)) (bs : List ℕ) (t : Tally) (text : List ℕ) (ws′ : List (List ℕ)) (bs′ : List ℕ) (r : RunOutcome) : Type 0 where
+    pub ran : ranOf (r .answer) (lends (rowsIn ws′) bs′ (r .tally)) ≡ run (lends (rowsIn ws) bs t) text
 
-  -- the lines of a text on the words ws, in one spelling, where so many lines were taken before them
-  pub record RunsLines (k : Spelling) (before : ℕ) (ws : List (List ℕ)) (t : Tally) (text : List ℕ) (ws′ : List (List ℕ)) (r : RunOutcome) : Type 0 where
-    pub ran : ranOf (r .answer) (lends (rowsIn ws′) (r .tally)) ≡ runLines lent k before (lends (rowsIn ws) t) (linesOf text)
+  -- the lines of a text on them, in one spelling, where so many lines were taken before
+  pub record RunsLines (k : Spelling) (before : ℕ) (ws : List (List ℕ)) (bs : List ℕ) (t : Tally) (text : List ℕ) (ws′ : List (List ℕ)) (bs′ : List ℕ) (r : RunOutcome) : Type 0 where
+    pub ran : ranOf (r .answer) (lends (rowsIn ws′) bs′ (r .tally)) ≡ runLines lent k before (lends (rowsIn ws) bs t) (linesOf text)
 
-  -- a line that is no event, on the words ws of a table, leaves the words ws′
-  pub record TakesGroup (ws : List (List ℕ)) (t : Tally) (line : List ℕ) (ws′ : List (List ℕ)) (r : Outcome) : Type 0 where
-    pub refusal : verdictOf (r .answer) .refusal ≡ takeRead lent (lends (rowsIn ws) t) (groupOf (readGroup line)) .refusal
-    pub state : lends (rowsIn ws′) (r .tally) ≡ takeRead lent (lends (rowsIn ws) t) (groupOf (readGroup line)) .state
+  -- a line that is no event, on them: its refusal, and the state after it
+  pub record TakesGroup (ws : List (List ℕ)) (bs : List ℕ) (t : Tally) (line : List ℕ) (ws′ : List (List ℕ)) (bs′ : List ℕ) (r : Outcome) : Type 0 where
+    pub refusal : verdictOf (r .answer) .refusal ≡ takeRead lent (lends (rowsIn ws) bs t) (groupOf (readGroup line)) .refusal
+    pub state : lends (rowsIn ws′) bs′ (r .tally) ≡ takeRead lent (lends (rowsIn ws) bs t) (groupOf (readGroup line)) .state
 
-  -- a line on the words ws of a table leaves the words ws′: its refusal, and the state after it
-  pub record Takes (k : Spelling) (ws : List (List ℕ)) (t : Tally) (line : List ℕ) (ws′ : List (List ℕ)) (r : Outcome) : Type 0 where
-    pub refusal : verdictOf (r .answer) .refusal ≡ takeLine lent k (lends (rowsIn ws) t) line .refusal
-    pub state : lends (rowsIn ws′) (r .tally) ≡ takeLine lent k (lends (rowsIn ws) t) line .state
+  -- any line on them
+  pub record Takes (k : Spelling) (ws : List (List ℕ)) (bs : List ℕ) (t : Tally) (line : List ℕ) (ws′ : List (List ℕ)) (bs′ : List ℕ) (r : Outcome) : Type 0 where
+    pub refusal : verdictOf (r .answer) .refusal ≡ takeLine lent k (lends (rowsIn ws) bs t) line .refusal
+    pub state : lends (rowsIn ws′) bs′ (r .tally) ≡ takeLine lent k (lends (rowsIn ws) bs t) line .state

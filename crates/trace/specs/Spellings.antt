@@ -68,7 +68,7 @@ pub data Rests : List ℕ → List ℕ → Type 0 where
 abbrev pub OldTrace : List ℕ → Type 0
 OldTrace text = same (nextLine text) header ≡ false
 
--- the verdicts of the two traces, by any sheet on any lent table and tally
+-- the verdicts of the two traces, by any sheet on whatever is lent
 pub record SameVerdicts (sheet : Sheet) (h : State) (plain named : List ℕ) : Type 0 where
   pub same-refusal : run sheet h named .refusal ≡ run sheet h plain .refusal
   pub one-higher : run sheet h named .number ≡ oneHigher (run sheet h plain .refusal) (run sheet h plain .number)

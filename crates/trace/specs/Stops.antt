@@ -3,14 +3,13 @@
 -- Assumes nothing.
 use Prim.Native.Nat.{ℕ, suc, pred, _≤_}
 use mathlib.Core.Path.{_≡_}
-use mathlib.Core.Bool.{not}
 use mathlib.Core.List.{List, flatMap}
 use lib.Dec.{eqb}
 use lib.ListN.{length, take}
-use Rattle.model.specs.Table.{inOrder}
+use Rattle.model.specs.Refusals.{unfit}
 use Rattle.model.specs.Counts.{countRefused}
 use Rattle.model.specs.declared.Sheet.{Sheet}
-use Rattle.model.specs.Step.{State}
+use Rattle.model.specs.Step.{State, view}
 use Rattle.text.specs.Line.{linesOf}
 use Rattle.trace.specs.Run.{Ran, run}
 
@@ -27,23 +26,24 @@ module _ (sheet : Sheet) where
   abbrev pub runBefore : State → List ℕ → Ran State
   runBefore h text = run sheet h (firstLines (pred (run sheet h text .number)) text)
 
-  -- "(0 for refusal 1)": of refusals, 1 and no other has line 0; and 1 is given exactly where the table is not in order, before any line
+  -- "(0 for refusal 1)": of refusals, 1 and no other has line 0; and 1 is given exactly where what is lent is unfit for any event, before
+  -- any line
   pub record LineZero (h : State) (text : List ℕ) : Type 0 where
-    pub given-1 : eqb (run sheet h text .refusal) 1 ≡ not (inOrder (h .table) (h .tally .issued))
+    pub given-1 : eqb (run sheet h text .refusal) 1 ≡ unfit (view h)
     pub line-0 : run sheet h text .refusal ≡ 1 → run sheet h text .number ≡ 0
     pub only-1 : (k : ℕ) → run sheet h text .refusal ≡ suc k → run sheet h text .number ≡ 0 → k ≡ 0
 
-  -- Any other refusal is of the line of its number: all lines before that one are allowed, and the table is as after them. The tally has
-  -- besides one refused event.
+  -- Any other refusal is of the line of its number: all lines before that one are allowed, and table and bits are as after them. The tally
+  -- has besides one refused event.
   pub record RefusedLine (h : State) (text : List ℕ) : Type 0 where
     pub from-1 : 1 ≤ run sheet h text .number
     pub a-line : run sheet h text .number ≤ length (linesOf text)
     pub before-allowed : runBefore h text .refusal ≡ 0
     pub before-number : runBefore h text .number ≡ pred (run sheet h text .number)
-    pub same-table : run sheet h text .state .table ≡ runBefore h text .state .table
+    pub same-memory : run sheet h text .state .memory ≡ runBefore h text .state .memory
     pub counted : run sheet h text .state .tally ≡ countRefused (runBefore h text .state .tally)
 
-  -- a run of a text on any lent table and tally
+  -- a run of a text on whatever is lent
   pub record Stops (h : State) (text : List ℕ) : Type 0 where
     -- "takes lines until one is refused": what stands behind the line of its number changes nothing
     pub until : run sheet h (firstLines (run sheet h text .number) text) ≡ run sheet h text

@@ -90,7 +90,7 @@ fn write_long(out: &mut [u8]) -> Written
     Written::Length(pieces::put_bytes(out, 0, b"(long)\n"))
 }
 
-// Runs an input on 1,024 empty rows, by card 6's sheet, and writes what `capcheck` prints of it at the buffer's first bytes.
+// Runs an input on 1,024 empty rows, with nothing written, by card 6's sheet, and writes what `capcheck` prints of it at the buffer's first bytes.
 pub fn check(input: &[u8], out: &mut [u8]) -> Written
     ensures { λ r. ⌜ Writes true (checkText (now (input .entry))) (now (out .entry)) (now (out .exit)) r ⌝ }
 {
@@ -107,8 +107,9 @@ pub fn check(input: &[u8], out: &mut [u8]) -> Written
         refused: 0,
     };
     let mut table = [[0u32; WIDTH]; 1024];
+    let mut bits = [0u8; 8192];
     let sheet = card6();
-    let ran = run::run_lent(&mut table, none, &sheet, input);
+    let ran = run::run_lent(&mut table, &mut bits, none, &sheet, input);
     let answer = ran.answer;
     let issued = ran.tally.issued;
     match answer {

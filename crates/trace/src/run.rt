@@ -24,9 +24,11 @@ ghost use Prim.Native.Nat.{_≤_};
 ghost use Rattle.text.specs.Line.{nextLine};
 ghost use Rattle.text.specs.Read.{same};
 ghost use Rattle.table.specs.Lent;
-ghost use Rattle.table.specs.Known.{Known};
+ghost use Rattle.table.specs.Known.{Known, Sized};
 ghost use Rattle.table.specs.Sheets.{sheetIn};
+ghost use Rattle.model.specs.declared.Refusal.the-variants.{Disordered};
 ghost use Rattle.trace.specs.Run;
+ghost use Rattle.trace.specs.declared.run.RunAnswer.the-variants.{Refused};
 ghost use Rattle.trace.specs.Run.{header, ranOf, TakesGroup, Takes, RunsLines, Runs};
 
 // What a run answers: the number of lines allowed, or the refusal and its line number from 1 (0 for refusal 1).
@@ -46,13 +48,14 @@ fn take_group(
     table: &mut [Row],
     live: usize,
     places: &mut [u16; 1024],
+    bits: &mut [u8],
     tally: Tally,
     sheet: &SheetBytes,
     line: &[u8],
 ) -> Progress
-    requires { ⌜ Known (now table) live (tally .issued) (now places) ⌝ }
-    ensures { λ r. ⌜ TakesGroup (sheetIn (now (sheet .entry))) (now (table .entry)) tally (now (line .entry)) (now (table .exit)) (r .outcome)
-        × Known (now (table .exit)) (r .live) (r .outcome .tally .issued) (now (places .exit)) ⌝ }
+    requires { ⌜ Known (now table) live (tally .issued) (now places) × Sized (now bits) ⌝ }
+    ensures { λ r. ⌜ TakesGroup (sheetIn (now (sheet .entry))) (now (table .entry)) (now (bits .entry)) tally (now (line .entry)) (now (table .exit)) (now (bits .exit)) (r .outcome)
+        × Known (now (table .exit)) (r .live) (r .outcome .tally .issued) (now (places .exit)) × Sized (now (bits .exit)) ⌝ }
 {
     let mut names = [0u32; 64];
     let found = group::read_group(line, &mut names);
@@ -62,6 +65,7 @@ fn take_group(
                 table,
                 live,
                 places,
+                bits,
                 tally,
                 sheet,
                 Asked::Group,
@@ -84,14 +88,15 @@ fn take_line(
     table: &mut [Row],
     live: usize,
     places: &mut [u16; 1024],
+    bits: &mut [u8],
     tally: Tally,
     sheet: &SheetBytes,
     spelling: Spelling,
     line: &[u8],
 ) -> Progress
-    requires { ⌜ Known (now table) live (tally .issued) (now places) ⌝ }
-    ensures { λ r. ⌜ Takes (sheetIn (now (sheet .entry))) spelling (now (table .entry)) tally (now (line .entry)) (now (table .exit)) (r .outcome)
-        × Known (now (table .exit)) (r .live) (r .outcome .tally .issued) (now (places .exit)) ⌝ }
+    requires { ⌜ Known (now table) live (tally .issued) (now places) × Sized (now bits) ⌝ }
+    ensures { λ r. ⌜ Takes (sheetIn (now (sheet .entry))) spelling (now (table .entry)) (now (bits .entry)) tally (now (line .entry)) (now (table .exit)) (now (bits .exit)) (r .outcome)
+        × Known (now (table .exit)) (r .live) (r .outcome .tally .issued) (now (places .exit)) × Sized (now (bits .exit)) ⌝ }
 {
     let found = read::read_event(spelling, line);
     match found {
@@ -102,13 +107,14 @@ fn take_line(
                 table,
                 live,
                 places,
+                bits,
                 tally,
                 sheet,
                 Asked::Single(event),
                 &none,
             )
         }
-        EventRead::Refused(_) => take_group(table, live, places, tally, sheet, line),
+        EventRead::Refused(_) => take_group(table, live, places, bits, tally, sheet, line),
     }
 }
 
@@ -118,14 +124,15 @@ fn run_ordered(
     table: &mut [Row],
     live: usize,
     places: &mut [u16; 1024],
+    bits: &mut [u8],
     tally: Tally,
     sheet: &SheetBytes,
     spelling: Spelling,
     before: usize,
     text: &[u8],
 ) -> RunOutcome
-    requires { ⌜ Known (now table) live (tally .issued) (now places) × (before ≤ 1) ⌝ }
-    ensures { λ r. ⌜ RunsLines (sheetIn (now (sheet .entry))) spelling before (now (table .entry)) tally (now (text .entry)) (now (table .exit)) r ⌝ }
+    requires { ⌜ Known (now table) live (tally .issued) (now places) × Sized (now bits) × (before ≤ 1) ⌝ }
+    ensures { λ r. ⌜ RunsLines (sheetIn (now (sheet .entry))) spelling before (now (table .entry)) (now (bits .entry)) tally (now (text .entry)) (now (table .exit)) (now (bits .exit)) r ⌝ }
 {
     let mut left = tally;
     let mut alive = live;
@@ -133,7 +140,7 @@ fn run_ordered(
     let mut count = before;
     while at < text.len() {
         let line = lines::next_line(&text[at..]);
-        let taken = take_line(table, alive, places, left, sheet, spelling, line);
+        let taken = take_line(table, alive, places, bits, left, sheet, spelling, line);
         let outcome = taken.outcome;
         alive = taken.live;
         left = outcome.tally;
@@ -166,18 +173,20 @@ fn run_text(
     table: &mut [Row],
     live: usize,
     places: &mut [u16; 1024],
+    bits: &mut [u8],
     tally: Tally,
     sheet: &SheetBytes,
     text: &[u8],
 ) -> RunOutcome
-    requires { ⌜ Known (now table) live (tally .issued) (now places) ⌝ }
-    ensures { λ r. ⌜ Runs (sheetIn (now (sheet .entry))) (now (table .entry)) tally (now (text .entry)) (now (table .exit)) r ⌝ }
+    requires { ⌜ Known (now table) live (tally .issued) (now places) × Sized (now bits) ⌝ }
+    ensures { λ r. ⌜ Runs (sheetIn (now (sheet .entry))) (now (table .entry)) (now (bits .entry)) tally (now (text .entry)) (now (table .exit)) (now (bits .exit)) r ⌝ }
 {
     if is_named(text) {
         run_ordered(
             table,
             live,
             places,
+            bits,
             tally,
             sheet,
             Spelling::Named,
@@ -185,31 +194,64 @@ fn run_text(
             &text[10..],
         )
     } else {
-        run_ordered(table, live, places, tally, sheet, Spelling::Plain, 0, text)
+        run_ordered(
+            table,
+            live,
+            places,
+            bits,
+            tally,
+            sheet,
+            Spelling::Plain,
+            0,
+            text,
+        )
     }
 }
 
-// A run on any table and a tally by value; one that is not in order, as above 1,024 rows, is refusal 1.
-pub fn run_lent(table: &mut [Row], tally: Tally, sheet: &SheetBytes, text: &[u8]) -> RunOutcome
-    ensures { λ r. ⌜ Runs (sheetIn (now (sheet .entry))) (now (table .entry)) tally (now (text .entry)) (now (table .exit)) r ⌝ }
+// What a run that is refused 1 leaves.
+fn disordered(tally: Tally) -> RunOutcome
+    ensures { λ r. ⌜ (r .tally ≡ tally) × (r .answer ≡ Refused Disordered 0) ⌝ }
 {
+    RunOutcome {
+        tally,
+        answer: RunAnswer::Refused(Refusal::Disordered, 0),
+    }
+}
+
+// A run on any table and bits, and a tally by value: a table that is not in order, as above 1,024 rows, is refusal 1, and so is another number
+// of bytes than 8,192.
+pub fn run_lent(
+    table: &mut [Row],
+    bits: &mut [u8],
+    tally: Tally,
+    sheet: &SheetBytes,
+    text: &[u8],
+) -> RunOutcome
+    ensures { λ r. ⌜ Runs (sheetIn (now (sheet .entry))) (now (table .entry)) (now (bits .entry)) tally (now (text .entry)) (now (table .exit)) (now (bits .exit)) r ⌝ }
+{
+    if bits.len() != 8192 {
+        return disordered(tally);
+    }
     let mut places = [0u16; 1024];
     let found = ordered::look_at(table, tally.issued, &mut places);
     match found {
-        Look::InOrder(live) => run_text(table, live, &mut places, tally, sheet, text),
-        Look::Disordered => RunOutcome {
-            tally,
-            answer: RunAnswer::Refused(Refusal::Disordered, 0),
-        },
+        Look::InOrder(live) => run_text(table, live, &mut places, bits, tally, sheet, text),
+        Look::Disordered => disordered(tally),
     }
 }
 
-// A run of a text on the table and the tally that are lent, by a sheet: the number of lines allowed, or the refusal and its line.
-pub fn run(table: &mut [Row], tally: &mut [u32; 7], sheet: &SheetBytes, text: &[u8]) -> RunAnswer
-    ensures { λ r. ⌜ ranOf r (Lent.lent (now (table .exit)) (now (tally .exit))) ≡ Run.run (sheetIn (now (sheet .entry))) (Lent.lent (now (table .entry)) (now (tally .entry))) (now (text .entry)) ⌝ }
+// A run of a text on the table, the bits and the tally that are lent, by a sheet: the number of lines allowed, or the refusal and its line.
+pub fn run(
+    table: &mut [Row],
+    bits: &mut [u8],
+    tally: &mut [u32; 7],
+    sheet: &SheetBytes,
+    text: &[u8],
+) -> RunAnswer
+    ensures { λ r. ⌜ ranOf r (Lent.lent (now (table .exit)) (now (bits .exit)) (now (tally .exit))) ≡ Run.run (sheetIn (now (sheet .entry))) (Lent.lent (now (table .entry)) (now (bits .entry)) (now (tally .entry))) (now (text .entry)) ⌝ }
 {
     let t = tally_at(tally);
-    let out = run_lent(table, t, sheet, text);
+    let out = run_lent(table, bits, t, sheet, text);
     let after = out.tally;
     set_tally(tally, after);
     let answer = out.answer;

@@ -1,5 +1,5 @@
-// Document 01's traces and examples of refusals, and those of cards 1 and 7, run and printed. The file `stdout` beside src/ has what the papers say
-// of them.
+// Document 01's traces and examples of refusals, and those of cards 1, 7 and 9, run and printed. The file `stdout` beside src/ has what the papers
+// say of them.
 use libc::STDOUT_FILENO;
 use listing::reading;
 use model::Tally;
@@ -42,12 +42,18 @@ fn print_answer(answer: RunAnswer) {
     }
 }
 
-// Runs a trace on a table, and prints the refusal, 0 where every line is allowed, and the number of lines or the line.
-fn run_on(table: &mut [Row], issued: u32, input: &[u8]) {
+// Runs a trace on a table and bits, and prints the refusal, 0 where every line is allowed, and the number of lines or the line.
+fn run_with(table: &mut [Row], bits: &mut [u8], issued: u32, input: &[u8]) {
     let sheet = card6();
-    let ran = run::run_lent(table, issued_so_far(issued), &sheet, input);
+    let ran = run::run_lent(table, bits, issued_so_far(issued), &sheet, input);
     let answer = ran.answer;
     print_answer(answer);
+}
+
+// The same with nothing written.
+fn run_on(table: &mut [Row], issued: u32, input: &[u8]) {
+    let mut bits = [0u8; 8192];
+    run_with(table, &mut bits, issued, input);
 }
 
 // The same on the first rows of a table, or on all where it has no more.
@@ -68,19 +74,21 @@ fn run_on_empty(rows: usize, issued: u32, input: &[u8]) {
 // The table of refusal 1: rows both named 3.
 fn run_on_disordered(input: &[u8]) {
     let mut table = [[0u32; WIDTH]; 2];
-    table[0] = [3, 0, 0, 0, 0, 0, 0];
-    table[1] = [3, 0, 0, 0, 0, 0, 0];
+    table[0] = [3, 0, 0, 0, 0, 0, 0, 0];
+    table[1] = [3, 0, 0, 0, 0, 0, 0, 0];
     run_on(&mut table, 3, input);
 }
 
 // Trace 11, its second half: the listing of an empty table with all names but one issued is read, and two are asked for.
 fn last_name() {
     let mut table = [[0u32; WIDTH]; 1024];
+    let mut bits = [0u8; 8192];
     let mut tally = [0u32; 7];
     reading::read_listing(b"(issued 999999)\n", &mut table, &mut tally);
     let sheet = card6();
     let answer = run::run(
         &mut table,
+        &mut bits,
         &mut tally,
         &sheet,
         b"(create 0 8 rw)\n(create 0 8 rw)\n",
@@ -97,7 +105,8 @@ fn run_by(text: &[u8], input: &[u8]) {
         SheetRead::Refused(refusal) => print_numbers(trace::number_of(refusal), 0),
     }
     let mut table = [[0u32; WIDTH]; 1024];
-    let ran = run::run_lent(&mut table, issued_so_far(0), &sheet, input);
+    let mut bits = [0u8; 8192];
+    let ran = run::run_lent(&mut table, &mut bits, issued_so_far(0), &sheet, input);
     let answer = ran.answer;
     print_answer(answer);
 }
@@ -190,6 +199,27 @@ fn named() {
     console::print_check(b"(trace 2)\n(trace 2)\n");
 }
 
+// Card 9: a read before any write; a read of one byte more than was written through a child; a create that ends above 65,536, and one that
+// ends there; and with its names written out.
+fn written_first() {
+    console::print_check(b"(create 0 8 rw fresh)\n(read 1 0 1)\n");
+    console::print_check(
+        b"(create 0 8 rw fresh)\n(borrow 1 0 4 rw)\n(write 2 0 2)\n(read 1 0 2)\n(read 1 0 3)\n",
+    );
+    console::print_check(b"(create 65528 9 rw fresh)\n");
+    console::print_check(b"(create 65528 8 rw fresh)\n");
+    console::print_check(
+        b"(trace 2)\n(create 1 0 8 rw fresh)\n(write 1 0 1)\n(borrow 2 1 0 8 ro)\n(read 2 0 1)\n(read 2 0 2)\n",
+    );
+}
+
+// Card 9: bits that are a byte short.
+fn few_bits() {
+    let mut table = [[0u32; WIDTH]; 2];
+    let mut bits = [0u8; 8191];
+    run_with(&mut table, &mut bits, 0, b"(create 0 8 rw)\n");
+}
+
 fn main() {
     traces();
     named();
@@ -197,4 +227,6 @@ fn main() {
     refusals();
     last_name();
     sheets();
+    written_first();
+    few_bits();
 }

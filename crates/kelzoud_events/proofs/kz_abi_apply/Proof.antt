@@ -8,8 +8,8 @@ use Rattle.kelzoud_events.proofs.kz_abi_apply.Tie as tie
 
 returns : tie.Need-returns
 returns c =
-    let e = rw (c .before .before .before .before .before .before .before .before .asked-in .ensures, c .before .before .before .before .before .before .before .names-in .ensures, c .before .before .before .before .before .before .sheet-lent .ensures) at (c .before .before .apply .ensures) in
-    (e .0, e .1, c .packed-answer .ensures ∙ ap packedVerdict (e .2))
+    let e = rw (c .before .before .before .before .before .before .before .before .before .before .before .asked-in .ensures, c .before .before .before .before .before .before .before .before .before .before .names-in .ensures, c .before .before .before .before .before .before .before .before .before .sheet-lent .ensures) at (c .before .before .before .before .apply .ensures) in
+    (e .0, e .1, e .2, c .packed-answer .ensures ∙ ap packedVerdict (e .3))
 
 pub kz-abi-apply-spec : {M : Type 1} → statement M
 kz-abi-apply-spec =
@@ -20,5 +20,6 @@ kz-abi-apply-spec =
     (λ c κs. search needs)
     (λ c κs. search needs)
     (λ c κs. search needs)
+    (λ c. search needs)
     (λ c. search needs)
     returns)

@@ -1,6 +1,6 @@
 -- What is written is read back: the forms of rows by rising name read as those rows, in the order of the listing.
 -- Assumes nothing.
-use mathlib.Core.Path.{_≡_, refl, sym, ap, _∙_}
+use mathlib.Core.Path.{_≡_, refl, sym, ap, ap₂, _∙_}
 use mathlib.Core.Bool.{Bool, true, false, cond, _&&_}
 use mathlib.Core.Logic.{_⊎_, inl, inr, ⊎-elim}
 use mathlib.Core.List.{List, [], _∷_, _++_, reverseAux, append-assoc}
@@ -8,28 +8,30 @@ use Prim.Native.Nat.{ℕ, zero, suc, _+_, _*_, _^_, _≤_, _<_}
 use native.Mathlib.Omega.{arith}
 use lib.Dec.{ltb, eqb}
 use lib.ListN.{length, getD, drop, length-append, length-reverseAux}
+use lib.Seq.{drop-at}
 use borrow.Author.Tests.{lt-ltb, eqb-true}
 use Rattle.model.specs.declared.Cap.{Cap}
+use Rattle.model.specs.Table.{isMark}
 use Rattle.model.proofs.Offered.{All, test}
 use Rattle.text.specs.Class.{classOf, newline}
 use Rattle.text.specs.Line.{through, afterSpace}
 use Rattle.text.specs.Decimal.{decimal, numberFrom}
-use Rattle.text.specs.Event.{bytes, spaced, rightWord, kindWord}
-use Rattle.text.specs.Read.{rightOf, kindOf}
+use Rattle.text.specs.Event.{bytes, spaced, rightWord, kindWord, freshWord}
+use Rattle.text.specs.Read.{rightOf, kindOf, freshAt}
 use Rattle.listing.specs.Listing.{pieces, form, children, roots, issuedLine, listed, formLength, total, formsLength}
 use Rattle.listing.proofs.Laws.Sorted.{preorder}
-use Rattle.listing.specs.Forms.{Reading, childrenText, rowOf, childFollows, readForm, readRun, readLine, readLines, guessIssued}
-use Rattle.text.proofs.Offered.{digits, digitAt, decimal-width, Stops, digit-class, digit-small, plain-decimal, next, number-is, rights, kinds, right-stops, right-back, kind-back}
+use Rattle.listing.specs.Forms.{Reading, rightText, markOf, childrenText, rowOf, childFollows, readForm, readRun, readLine, readLines, guessIssued}
+use Rattle.text.proofs.Offered.{digits, digitAt, decimal-width, Stops, digit-class, digit-small, plain-decimal, next, number-is, rights, marks, right-stops, right-back, kind-back, fresh-back}
 use Rattle.listing.proofs.Laws.Listing.{length-form, length-children}
 use Rattle.listing.proofs.Laws.Reading.{run-on, run-off}
 use Rattle.listing.proofs.Laws.Roots.{goes-on, line-more}
 use Rattle.listing.proofs.Laws.Nested.{Fields, Deeper, Nested}
 
--- ---- where no kind is written
+-- ---- where no kind and no mark is written
 
--- none is found behind the two letters of a right, in front of the text x
-abbrev NoKind : List ℕ → Type 0
-NoKind x = kindOf (0 ∷ 0 ∷ x) ≡ 0
+-- neither is found in front of the text x
+abbrev NoWord : List ℕ → Type 0
+NoWord x = (kindOf (0 ∷ 0 ∷ x) ≡ 0) × (freshAt x 1 ≡ 0)
 
 -- children are none, or begin with a space and a bracket
 abbrev Begins : List ℕ → Type 0
@@ -44,28 +46,32 @@ begins p (c ∷ rows) = go (eqb (c .parent .0) p) (begins p rows)
     go true h = inr (_, refl)
     go false h = h
 
--- so no kind is found in front of them, nor in front of the bracket that they stand behind
-none-inside : (s y : List ℕ) → Begins s → NoKind (41 ∷ y) → NoKind (s ++ (41 ∷ y))
+-- so neither is found in front of them, nor in front of the bracket that they stand behind
+none-inside : (s y : List ℕ) → Begins s → NoWord (41 ∷ y) → NoWord (s ++ (41 ∷ y))
 none-inside s y (inl e) h = rw e h
-none-inside s y (inr t) h = rw (t .1)
+none-inside s y (inr t) h = rw (t .1) (refl, refl)
 
-none-beside : (s u : List ℕ) → Begins s → getD u 0 0 ≡ 41 → NoKind (41 ∷ (s ++ u))
-none-beside s u (inl e) h = rw (e, h)
-none-beside s u (inr t) h = rw (t .1)
+none-beside : (s u : List ℕ) → Begins s → getD u 0 0 ≡ 41 → NoWord (41 ∷ (s ++ u))
+none-beside s u (inl e) h = rw (e, h) (refl, refl)
+none-beside s u (inr t) h = rw (t .1) (refl, refl)
+
+-- a mark is not taken for a kind
+none-marked : (m : ℕ) (x : List ℕ) → isMark m ≡ true → NoWord x → kindOf (0 ∷ 0 ∷ (freshWord m ++ x)) ≡ 0
+none-marked m x h none = ⊎-elim (λ zero. rw zero (none .0)) (λ one. rw one) (marks m h)
 
 -- ---- a form
 
 -- the words behind a form's bracket, in front of the text x
 module _ (c : Cap) (x : List ℕ) where
   abbrev behind : List ℕ
-  behind = rightWord (c .right) ++ (kindWord (c .kind) ++ x)
+  behind = rightWord (c .right) ++ (kindWord (c .kind) ++ (freshWord (c .fresh) ++ x))
 
   abbrev text : List ℕ
   text = decimal (c .name .0) ++ (spaced (c .start .0 ∷ c .length ∷ []) ++ behind)
 
-  module _ (f : Fields c) (none : NoKind x) where
+  module _ (f : Fields c) (none : NoWord x) where
     stop : Stops behind
-    stop = right-stops (c .right) (kindWord (c .kind) ++ x)
+    stop = right-stops (c .right) (kindWord (c .kind) ++ (freshWord (c .fresh) ++ x))
 
     start-is : afterSpace text ≡ decimal (c .start .0) ++ (spaced (c .length ∷ []) ++ behind)
     start-is = next behind stop (decimal (c .name .0)) (plain-decimal (c .name .0)) (c .start .0) (c .length ∷ [])
@@ -77,16 +83,29 @@ module _ (c : Cap) (x : List ℕ) where
     unfolding spaced
     right-is = ap afterSpace length-is ∙ plain-decimal (c .length) behind
 
-    kind-found : kindOf (afterSpace behind) ≡ c .kind
-    kind-found = kind-back x none (c .right) (c .kind) (f .right) (f .kind)
+    kind-is : kindOf (rightText (40 ∷ text)) ≡ c .kind
+    kind-is =
+        ap kindOf right-is
+        ∙ kind-back (freshWord (c .fresh) ++ x) (none-marked (c .fresh) x (f .fresh) none) (c .right) (c .kind) (f .right) (f .kind)
 
-    -- what stands behind the two letters of a right and the word of a kind
-    kind-passed : (a b : ℕ) → drop (2 + length (kindWord (c .kind))) (a ∷ b ∷ (kindWord (c .kind) ++ x)) ≡ x
-    kind-passed a b = ⊎-elim (λ zero. rw zero) (⊎-elim (λ one. rw one) (λ two. rw two)) (kinds (c .kind) (f .kind))
+    mark-is : markOf (40 ∷ text) ≡ c .fresh
+    mark-is =
+        ap₂ (λ (w : List ℕ) (k : ℕ). freshAt w (3 + length (kindWord k))) right-is kind-is
+        ∙ fresh-back x (none .1) (c .fresh) (f .fresh) (c .right) (c .kind)
 
-    inner-back : drop (2 + length (kindWord (c .kind))) (afterSpace behind) ≡ x
+    -- how many bytes the two letters of a right and the words of a kind and a mark have, and what stands behind them
+    abbrev words : ℕ
+    words = 2 + (length (kindWord (c .kind)) + length (freshWord (c .fresh)))
+
+    words-passed : (a b : ℕ) → drop words (a ∷ b ∷ (kindWord (c .kind) ++ (freshWord (c .fresh) ++ x))) ≡ x
+    words-passed a b =
+        let w = a ∷ b ∷ (kindWord (c .kind) ++ freshWord (c .fresh)) in
+        let long : length w ≡ words = simp length-append (omega arith) in
+        rw (← append-assoc) (drop-at w x words long)
+
+    inner-back : drop words (afterSpace behind) ≡ x
     unfolding through classOf
-    inner-back = ⊎-elim (λ one. rw one (kind-passed 114 111)) (λ two. rw two (kind-passed 114 119)) (rights (c .right) (f .right))
+    inner-back = ⊎-elim (λ one. rw one (words-passed 114 111)) (λ two. rw two (words-passed 114 119)) (rights (c .right) (f .right))
 
     row-back : rowOf (40 ∷ text) (c .parent .0) (c .depth) ≡ c
     row-back = λ i. record {
@@ -94,16 +113,14 @@ module _ (c : Cap) (x : List ℕ) where
       parent = c .parent;
       start = record { 0 = number-is behind stop (c .start .0) (c .length ∷ []) (f .start) start-is i };
       length = number-is behind stop (c .length) [] (f .length) length-is i;
-      right = (ap rightOf right-is ∙ right-back (c .right) (kindWord (c .kind) ++ x) (f .right)) i;
+      right = (ap rightOf right-is ∙ right-back (c .right) (kindWord (c .kind) ++ (freshWord (c .fresh) ++ x)) (f .right)) i;
       depth = c .depth;
-      kind = (ap kindOf right-is ∙ kind-found) i;
+      kind = kind-is i;
+      fresh = mark-is i;
     }
 
     children-back : childrenText (40 ∷ text) ≡ x
-    children-back =
-        ap (λ (w : List ℕ). drop (2 + length (kindWord (kindOf w))) w) right-is
-        ∙ ap (λ (k : ℕ). drop (2 + length (kindWord k)) (afterSpace behind)) kind-found
-        ∙ inner-back
+    children-back = (λ i. drop (2 + (length (kindWord (kind-is i)) + length (freshWord (mark-is i)))) (right-is i)) ∙ inner-back
 
     -- a form, read from its bracket on, where its run of children is read back
     form-back : (k : ℕ) (y : List ℕ) (acc after : List Cap) → readRun k (c .name .0) (c .depth) (record { rest = x; rows = c ∷ acc }) ≡ record { rest = 41 ∷ y; rows = after }
@@ -129,7 +146,7 @@ no-child u acc d h = rw h (go (ltb d 64) (ltb (length acc) 1024))
     go false b = refl
 
 -- a form behind a space, and the run behind it
-one-back : (c : Cap) (k p d : ℕ) (acc mid after : List Cap) (inner beside u : List ℕ) → Fields c → NoKind (inner ++ (41 ∷ (beside ++ u))) → c .parent .0 ≡ p → c .depth ≡ d + 1 → d < 64 → length acc < 1024
+one-back : (c : Cap) (k p d : ℕ) (acc mid after : List Cap) (inner beside u : List ℕ) → Fields c → NoWord (inner ++ (41 ∷ (beside ++ u))) → c .parent .0 ≡ p → c .depth ≡ d + 1 → d < 64 → length acc < 1024
     → readRun k (c .name .0) (c .depth) (record { rest = inner ++ (41 ∷ (beside ++ u)); rows = c ∷ acc }) ≡ record { rest = 41 ∷ (beside ++ u); rows = mid }
     → readRun (suc k) p d (record { rest = beside ++ u; rows = mid }) ≡ record { rest = u; rows = after }
     → readRun (suc (suc k)) p d (record { rest = (32 ∷ (form c inner ++ beside)) ++ u; rows = acc }) ≡ record { rest = u; rows = after }
@@ -204,7 +221,7 @@ no-line zero acc = refl
 no-line (suc k) acc = refl
 
 -- a root's line
-line-back : (c : Cap) (acc mid : List Cap) (inner after : List ℕ) → Fields c → NoKind (inner ++ (41 ∷ (10 ∷ after))) → c .parent .0 ≡ 0 → c .depth ≡ 1
+line-back : (c : Cap) (acc mid : List Cap) (inner after : List ℕ) → Fields c → NoWord (inner ++ (41 ∷ (10 ∷ after))) → c .parent .0 ≡ 0 → c .depth ≡ 1
     → ((k : ℕ) → 2 * length inner < k → readRun k (c .name .0) (c .depth) (record { rest = inner ++ (41 ∷ (10 ∷ after)); rows = c ∷ acc }) ≡ record { rest = 41 ∷ (10 ∷ after); rows = mid })
     → readLine (record { rest = form c inner ++ (10 ∷ after); rows = acc }) ≡ record { rest = after; rows = mid }
 line-back c acc mid inner after f none ep ed one =
@@ -243,7 +260,7 @@ lines-back (c ∷ rows) ne fs ds k acc h len = go (test (eqb (c .parent .0) 0)) 
         let mid : List Cap = reverseAux a (c ∷ acc) in
         let long : length mid ≡ length a + suc (length acc) = length-reverseAux a (c ∷ acc) in
         let short : length a ≤ length (children n rows) = omega (arith, length-children n rows, forms-long a) in
-        let none = none-inside (children n rows) (10 ∷ roots rows) (begins n rows) refl in
+        let none = none-inside (children n rows) (10 ∷ roots rows) (begins n rows) (refl, refl) in
         let one = line-back c acc mid (children n rows) (roots rows) (fs .0) none e (ds .0 e) (λ j big. run-back rows (ne .1) (fs .1) j n (c .depth) (c ∷ acc) (41 ∷ (10 ∷ roots rows)) (ne .0) (omega arith) (omega (arith, count)) refl) in
         let start : Reading = record { rest = form c (children n rows) ++ (10 ∷ roots rows); rows = acc } in
         let some : 0 < length (form c (children n rows) ++ (10 ∷ roots rows)) = omega (arith, length-append (form c (children n rows)) (10 ∷ roots rows)) in

@@ -11,24 +11,39 @@ use lib.Dec.{eqb}
 use borrow.Author.Tests.{leb-true, eqb-true}
 use Rattle.model.specs.declared.Cap.{Cap}
 use Rattle.model.specs.Values.{end}
-use Rattle.model.specs.Table.{span, liveRows, parentInOrder, rowInOrder, rowsInOrder, inOrder}
-use Rattle.model.proofs.Offered.{test, clash, and-both, length-live, rises, place}
+use Rattle.model.specs.Table.{span, derivation, liveRows, isMarked, parentInOrder, rowInOrder, rowsInOrder, inOrder}
+use Rattle.model.proofs.Offered.{Place, test, clash, and-both, length-live, marked-low, rises, place}
 use Rattle.text.specs.Decimal.{decimal}
-use Rattle.text.specs.Event.{spaced, kindWord}
-use Rattle.text.proofs.Offered.{decimal-under, kind-short}
+use Rattle.text.specs.Event.{spaced, kindWord, freshWord}
+use Rattle.text.proofs.Offered.{decimal-under, fresh-short, kind-short}
 use Rattle.listing.specs.Listing.{listing, listed, formLength, total, formsLength}
 use Rattle.listing.specs.Links.{Live}
 use Rattle.listing.proofs.Laws.Live.{live-order}
 use Rattle.listing.proofs.Laws.Listing.{form-length, forms-append, listed-length}
 use Rattle.listing.proofs.Laws.Front.{order, order-live}
 
--- A row has 28 bytes besides its name and its kind: two brackets, three spaces, the space or newline, two bytes of its right, and two
--- numbers of ten digits, for a legal span ends at 4,294,967,296 at most.
+-- A legal span ends at 4,294,967,296 at most, so it has two numbers of ten digits. A marked one ends at 65,536 at most: two numbers of five
+-- digits, so that there is room for the mark's six bytes.
+span-fits : (c : Cap) (earlier : List Cap) → rowInOrder c earlier ≡ true → length (decimal (c .start .0)) + length (decimal (c .length)) + length (freshWord (c .fresh)) ≤ 20
+span-fits c earlier h = go (test (isMarked (derivation c)))
+  where
+    p : Place c earlier
+    p = place c earlier h
+
+    go : (isMarked (derivation c) ≡ true) ⊎ (isMarked (derivation c) ≡ false) → length (decimal (c .start .0)) + length (decimal (c .length)) + length (freshWord (c .fresh)) ≤ 20
+    go (inl t) =
+        let ends = marked-low (derivation c) (p .has-terms) t in
+        omega (arith, fresh-short (c .fresh), decimal-under (c .start .0) 4 (omega arith), decimal-under (c .length) 4 (omega arith))
+    go (inr f) =
+        let ends = leb-true (end (span c)) 4294967296 (p .is-legal) in
+        let none : length (freshWord (c .fresh)) ≡ 0 = rw f in
+        omega (arith, decimal-under (c .start .0) 9 (omega arith), decimal-under (c .length) 9 (omega arith))
+
+-- A row has 28 bytes besides its name and its kind: two brackets, three spaces, the space or newline, two bytes of its right, and 20 of its
+-- span and its mark.
 row-fits : (c : Cap) (earlier : List Cap) → rowInOrder c earlier ≡ true → formLength c ≤ 28 + length (decimal (c .name .0)) + length (kindWord (c .kind))
 unfolding spaced
-row-fits c earlier h =
-    let ends = leb-true (end (span c)) 4294967296 (place c earlier h .is-legal) in
-    simp (form-length, length-append) (omega (arith, decimal-under (c .start .0) 9 (omega arith), decimal-under (c .length) 9 (omega arith)))
+row-fits c earlier h = simp (form-length, length-append) (omega (arith, span-fits c earlier h))
 
 -- the oldest row has none before it, so it is a root, and no root has a word of a kind
 oldest-kind : (c : Cap) → rowInOrder c [] ≡ true → c .kind ≡ 0

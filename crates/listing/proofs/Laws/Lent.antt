@@ -10,17 +10,16 @@ use Rattle.model.specs.declared.Cap.{Cap}
 use Rattle.model.specs.declared.Refusal.{Refusal}
 use Rattle.model.specs.declared.Refusal.the-variants.{Disordered}
 use Rattle.model.specs.Answers.{number}
-use Rattle.model.specs.Step.{State}
 use Rattle.model.specs.Table.{inOrder}
 use Rattle.table.specs.Words.{rowsIn}
-use Rattle.table.specs.Lent.{tallyIn, lent}
+use Rattle.table.specs.Lent.{tallyIn}
 use Rattle.table.proofs.Offered.{length-in}
 use Rattle.text.specs.Result.{Result, value, refused}
 use Rattle.text.specs.declared.write.Written.the-variants.{Refused}
 use Rattle.listing.specs.declared.reading.ListingRead.the-variants.{Issued, Refused as ReadRefused}
 use Rattle.listing.specs.WriteListing.{listingWritten, listingStored, WritesListing}
 use Rattle.listing.specs.ReadListing.{Listed, readListing}
-use Rattle.listing.specs.ReadInto.{readTable, withIssued, issuedRead, stateRead, ReadsInto}
+use Rattle.listing.specs.ReadInto.{readTable, withIssued, issuedRead, Target, target, targetRead, ReadsInto}
 
 -- nothing is written of a table out of order
 pub not-written : (rows : List Cap) (issued : ℕ) (out : List ℕ) → inOrder rows issued ≡ false → WritesListing rows issued out out (Refused Disordered)
@@ -30,14 +29,14 @@ not-written rows issued out h = record { answer = sym (rw h); buffer = sym (rw h
 -- ---- reading
 
 module _ (s : List ℕ) (ws : List (List ℕ)) (w : List ℕ) where
-  abbrev before : State
-  before = lent ws w
+  abbrev before : Target
+  before = target ws w
 
   abbrev Is : Result Listed → Type 0
   Is z = z ≡ readTable s (length (rowsIn ws))
 
   unchanged : (x : Refusal) → Is (refused (number x)) → ReadsInto s before before (ReadRefused x)
-  unchanged x e = record { answer = ap issuedRead e; table = ap (λ (z : Result Listed). stateRead z before .table) e; tally = ap (λ (z : Result Listed). stateRead z before .tally) e }
+  unchanged x e = record { answer = ap issuedRead e; table = ap (λ (z : Result Listed). targetRead z before .table) e; tally = ap (λ (z : Result Listed). targetRead z before .tally) e }
 
   pub read-many : 1024 < length ws → ReadsInto s before before (ReadRefused Disordered)
   unfolding readTable
@@ -52,7 +51,7 @@ module _ (s : List ℕ) (ws : List (List ℕ)) (w : List ℕ) where
     read-refused x h = unchanged x (read-as (refused (number x)) h)
 
     pub read-given : (ws′ : List (List ℕ)) (w′ : List ℕ) (i : ℕ) → _≡_ {A = Result Listed} (value (record { table = rowsIn ws′; issued = i })) (readListing s (length ws)) → tallyIn w′ ≡ withIssued i (tallyIn w)
-        → ReadsInto s before (lent ws′ w′) (Issued i)
+        → ReadsInto s before (target ws′ w′) (Issued i)
     read-given ws′ w′ i h t =
         let e = read-as (value (record { table = rowsIn ws′; issued = i })) h in
-        record { answer = ap issuedRead e; table = ap (λ (z : Result Listed). stateRead z before .table) e; tally = t ∙ ap (λ (z : Result Listed). stateRead z before .tally) e }
+        record { answer = ap issuedRead e; table = ap (λ (z : Result Listed). targetRead z before .table) e; tally = t ∙ ap (λ (z : Result Listed). targetRead z before .tally) e }

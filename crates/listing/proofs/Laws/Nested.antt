@@ -10,17 +10,18 @@ use lib.Dec.{leb, eqb}
 use borrow.Author.Tests.{leb-true, eqb-true, eqb-false, eq-eqb}
 use Rattle.model.specs.declared.Cap.{Cap}
 use Rattle.model.specs.Values.{inside}
-use Rattle.model.specs.Table.{span, named, lookup, isRight, isKind, rowFitsParent, parentInOrder, rowsInOrder}
-use Rattle.model.proofs.Offered.{All, All-map, All-append, All-reverse, test, and-both, rises, place, parentInOrder-rowFitsParent, lookup-each, All-zip}
+use Rattle.model.specs.Table.{span, derivation, named, lookup, isRight, isKind, isMark, rowFitsParent, parentInOrder, rowsInOrder}
+use Rattle.model.proofs.Offered.{All, All-map, All-append, All-reverse, test, and-both, fitting, rises, place, parentInOrder-rowFitsParent, lookup-each, All-zip}
 use Rattle.listing.specs.Listable.{SmallRows}
 
--- numbers of 32 bits, a right, and a kind
+-- numbers of 32 bits, a right, a kind, and a mark
 pub record Fields (c : Cap) : Type 0 where
   pub name : c .name .0 < 2 ^ 32
   pub start : c .start .0 < 2 ^ 32
   pub length : c .length < 2 ^ 32
   pub right : isRight (c .right) ≡ true
   pub kind : isKind (c .kind) ≡ true
+  pub fresh : isMark (c .fresh) ≡ true
 
 -- a row of the parent p, whose depth is d, is one deeper, and not too deep
 abbrev pub Deeper : ℕ → ℕ → Cap → Type 0
@@ -39,7 +40,8 @@ nested-snoc (x ∷ xs) c n d = (All-append (Deeper (x .name .0) (x .depth)) xs (
 under-depth : (c p : Cap) → rowFitsParent c p ≡ true → (c .depth ≡ p .depth + 1) × (p .depth < 64)
 unfolding rowFitsParent
 under-depth c p h =
-    let a = and-both (inside (span c) (span p) && leb (c .right) (p .right) && eqb (c .depth) (p .depth + 1)) (leb (c .depth) 64) h in
+    let m = and-both (inside (span c) (span p) && leb (c .right) (p .right) && eqb (c .depth) (p .depth + 1) && leb (c .depth) 64) (eqb (c .fresh) (p .fresh)) h in
+    let a = and-both (inside (span c) (span p) && leb (c .right) (p .right) && eqb (c .depth) (p .depth + 1)) (leb (c .depth) 64) (m .0) in
     let b = and-both (inside (span c) (span p) && leb (c .right) (p .right)) (eqb (c .depth) (p .depth + 1)) (a .0) in
     let e = eqb-true (c .depth) (p .depth + 1) (b .1) in
     (e, omega (arith, leb-true (c .depth) 64 (a .1)))
@@ -84,7 +86,7 @@ fields bound l [] small h = tt
 fields bound l (c ∷ rows) small h =
     let r = rises bound c rows h in
     let p = place c rows (r .in-place) in
-    (record { name = omega (arith, r .below-bound); start = small .0 .0; length = small .0 .1; right = p .has-right; kind = p .has-kind }, fields (c .name .0) (omega (arith, r .below-bound)) rows (small .1) (r .rest))
+    (record { name = omega (arith, r .below-bound); start = small .0 .0; length = small .0 .1; right = p .has-right; kind = p .has-kind; fresh = fitting (derivation c) (p .has-terms) .has-mark }, fields (c .name .0) (omega (arith, r .below-bound)) rows (small .1) (r .rest))
 
 pub fields-reverse : (rows : List Cap) → SmallRows rows → (bound : ℕ) → bound ≤ 1000001 → rowsInOrder bound rows ≡ true → All Fields (reverse rows)
 fields-reverse rows small bound l h = All-reverse Fields rows (fields bound l rows small h)

@@ -12,10 +12,9 @@ use borrow.Author.Tests.{leb-true, leb-false, ltb-true, eqb-true}
 use Rattle.model.proofs.Offered.{and-both}
 use Rattle.text.specs.Class.{space}
 use Rattle.text.specs.Line.{through}
-use Rattle.text.specs.Event.{kindWord}
-use Rattle.text.specs.Read.{kindOf}
+use Rattle.text.specs.Event.{freshWord}
 use Rattle.model.specs.declared.Cap.{Cap}
-use Rattle.listing.specs.Forms.{Reading, nameText, startText, lengthText, rightText, childrenText, rowOf, follows, childFollows, readForm, readRun}
+use Rattle.listing.specs.Forms.{Reading, nameText, startText, lengthText, kindLength, markOf, childrenText, rowOf, follows, childFollows, readForm, readRun}
 use Rattle.listing.specs.Stored.{Reads}
 
 -- ---- a part of a text that reaches to its end, by how many bytes it has
@@ -59,7 +58,7 @@ children-part s =
     let b = through space (nameText s) in
     let c = through space (startText s) in
     let d = through space (lengthText s) in
-    let e = 2 + length (kindWord (kindOf (rightText s))) in
+    let e = 2 + (kindLength s + length (freshWord (markOf s))) in
     (a + b + c + d + e, further s (a + b + c + d) e (further s (a + b + c) d (further s (a + b) c (further s a b refl))))
 
 pub children-short : (s : List ℕ) {t : List ℕ} → t ≡ childrenText s → length t ≤ length s

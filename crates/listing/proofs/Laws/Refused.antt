@@ -13,7 +13,6 @@ use borrow.Author.Tests.{leb-true, leb-false, ltb-true, lt-ltb, le-ltb, not-true
 use Rattle.model.specs.declared.Cap.{Cap}
 use Rattle.model.specs.Lists.{first}
 use Rattle.model.specs.Refusals.{place}
-use Rattle.model.specs.Step.{State}
 use Rattle.model.specs.Table.{liveRows, lentTable, inOrder}
 use Rattle.model.proofs.Offered.{listed, test, clash, unless, and-both, risesFrom, first-lowest, first-holds}
 use Rattle.text.specs.Result.{Result, value, refused, refusalOf}
@@ -23,7 +22,7 @@ use Rattle.listing.specs.Listing.{listing}
 use Rattle.listing.specs.Forms.{guessIssued}
 use Rattle.listing.specs.ReadListing.{isListing, guessTable, Listed, readListing}
 use Rattle.listing.specs.WriteListing.{listingWritten}
-use Rattle.listing.specs.ReadInto.{readTable, issuedRead, answerInto}
+use Rattle.listing.specs.ReadInto.{readTable, issuedRead, Target, answerInto}
 use Rattle.listing.specs.Listable.{ListingOf, Overfull}
 use Rattle.listing.specs.Refusals.{noListing, tooManyCapabilities, readRefusals, writeRefusals}
 use Rattle.text.proofs.Offered.{same-true}
@@ -56,7 +55,7 @@ read-first s rows =
     go false is fits = refl
 
 -- the answer to a caller has that refusal
-pub answer-first : (s : List ℕ) (h : State) → refusalOf (answerInto s h) ≡ first (readRefusals s (length (h .table)))
+pub answer-first : (s : List ℕ) (h : Target) → refusalOf (answerInto s h) ≡ first (readRefusals s (length (h .table)))
 answer-first s h = same-refusal (readTable s (length (h .table))) ∙ read-first s (length (h .table))
   where
     same-refusal : (r : Result Listed) → refusalOf (issuedRead r) ≡ refusalOf r

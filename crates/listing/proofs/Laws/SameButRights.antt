@@ -13,7 +13,7 @@ use Rattle.model.specs.Table.{liveRows}
 use Rattle.model.specs.Effects.{lowered}
 use Rattle.model.proofs.Offered.{lower, live-lower, map-reverse}
 use Rattle.text.specs.Decimal.{decimal}
-use Rattle.text.specs.Event.{bytes, spaced, rightWord, kindWord}
+use Rattle.text.specs.Event.{bytes, spaced, rightWord, kindWord, freshWord}
 use Rattle.listing.specs.Listing.{pieces, form, children, roots, issuedLine, listed, listing}
 use Rattle.listing.specs.SameButRights.{SameButRights, done, byte, right}
 
@@ -54,6 +54,10 @@ one-lowered = join (same (bytes "(issued 1)\n(1 0 8")) (right (same (bytes ")\n"
 child-lowered : SameButRights (bytes "(issued 2)\n(1 0 8 rw (2 0 4 ro cell))\n") (bytes "(issued 2)\n(1 0 8 rw (2 0 4 rw cell))\n")
 child-lowered = join (same (bytes "(issued 2)\n(1 0 8 rw (2 0 4")) (right (same (bytes " cell))\n")))
 
+-- one that is marked
+marked-lowered : SameButRights (bytes "(issued 1)\n(1 0 8 ro fresh)\n") (bytes "(issued 1)\n(1 0 8 rw fresh)\n")
+marked-lowered = join (same (bytes "(issued 1)\n(1 0 8")) (right (same (bytes " fresh)\n")))
+
 -- a right that is raised is another text
 none-raised : SameButRights (bytes "(1 0 8 rw)") (bytes "(1 0 8 ro)") → ⊥
 none-raised p = ⊎-elim (λ (e : 119 ≡ 111). omega arith) (λ e. let z = e .0 in omega arith) (each-byte p 8)
@@ -73,7 +77,7 @@ module _ (hit : ℕ → Bool) where
   unfolding pieces
   pieces-lowered c =
       join (same (decimal (c .name .0)))
-      (join (same (spaced (c .start .0 ∷ c .length ∷ []))) (join (right-lowered (hit (c .name .0)) (c .right)) (same (kindWord (c .kind)))))
+      (join (same (spaced (c .start .0 ∷ c .length ∷ []))) (join (right-lowered (hit (c .name .0)) (c .right)) (same (kindWord (c .kind) ++ freshWord (c .fresh)))))
 
   form-lowered : (c : Cap) {inner inner′ : List ℕ} → SameButRights inner inner′ → SameButRights (form (lower hit c) inner) (form c inner′)
   unfolding form

@@ -16,18 +16,18 @@ use Rattle.model.specs.declared.Sheet.{Sheet}
 use Rattle.model.specs.declared.Tally.{Tally}
 use Rattle.model.specs.declared.Answer.the-variants.{Refused}
 use Rattle.model.specs.declared.Refusal.the-variants.{Disordered}
-use Rattle.model.specs.Table.{emptyRow}
+use Rattle.model.specs.Table.{emptyRow, inOrder}
 use Rattle.model.specs.Requests.{Request}
-use Rattle.model.specs.Step.{State, after}
+use Rattle.model.specs.Step.{Verdict, State, after}
 use Rattle.model.specs.Step
 use Rattle.model.specs.Answers.{verdictOf}
-use Rattle.model.proofs.Offered.{test}
+use Rattle.model.specs.Refusals.{refusals, judge}
+use Rattle.model.proofs.Offered.{test, disordered-keeps}
 use Rattle.table.specs.Words.{capOf, wordsOf, rowsIn}
-use Rattle.table.proofs.Offered.{length-in, too-many}
+use Rattle.table.proofs.Offered.{length-in}
 use Rattle.rules.specs.declared.Outcome.{Outcome}
 use Rattle.rules.specs.Steps.{lends, Stepped}
 use Rattle.rules.specs.Records.{held, Requested}
-use Rattle.rules.proofs.Laws.Steps.{stepped-disordered}
 
 map-append : {A B : Type 0} (f : A → B) (xs ys : List A) → map f (xs ++ ys) ≡ map f xs ++ map f ys
 map-append f [] ys = refl
@@ -101,22 +101,30 @@ held-least n = go (test (leb n 1024))
     go (inl y) = let l : n ≤ 1024 = leb-true n 1024 y in (omega (arith, held-few n l), omega (arith, held-few n l))
     go (inr f) = let l : 1024 < n = leb-false n 1024 f in (omega (arith, held-many n l), omega (arith, held-many n l))
 
-pub requested-few : (sheet : Sheet) (ws zs : List (List ℕ)) (n : ℕ) (t : Tally) (q : Request) (r : Outcome) → length ws ≡ 1024 → n ≤ 1024 → length zs ≡ n → Stepped sheet (take n ws) t q zs r → Requested sheet ws n t q (zs ++ drop n ws) r
-requested-few sheet ws zs n t q r full l long s = record {
+pub requested-few : (sheet : Sheet) (ws zs : List (List ℕ)) (n : ℕ) (bs bs′ : List ℕ) (t : Tally) (q : Request) (r : Outcome) → length ws ≡ 1024 → n ≤ 1024 → length zs ≡ n → Stepped sheet (take n ws) bs t q zs bs′ r
+    → Requested sheet ws n bs t q (zs ++ drop n ws) bs′ r
+requested-few sheet ws zs n bs bs′ t q r full l long s = record {
   long = omega (arith, length-append zs (drop n ws), length-drop n ws);
-  few = λ _. subst (λ (z : List (List ℕ)). Stepped sheet (take n ws) t q z r) (sym (take-at zs (drop n ws) n long)) s;
+  few = λ _. subst (λ (z : List (List ℕ)). Stepped sheet (take n ws) bs t q z bs′ r) (sym (take-at zs (drop n ws) n long)) s;
   many = λ m. absurd (omega arith);
 }
 
-pub requested-many : (sheet : Sheet) (ws : List (List ℕ)) (n : ℕ) (t : Tally) (q : Request) → 1024 < n → Requested sheet ws n t q ws (record { tally = t; answer = Refused Disordered })
-requested-many sheet ws n t q l = record { long = refl; few = λ h. absurd (omega arith); many = λ _. (refl, refl) }
+pub requested-many : (sheet : Sheet) (ws : List (List ℕ)) (n : ℕ) (bs : List ℕ) (t : Tally) (q : Request) → 1024 < n → Requested sheet ws n bs t q ws bs (record { tally = t; answer = Refused Disordered })
+requested-many sheet ws n bs t q l = record { long = refl; few = λ h. absurd (omega arith); many = λ _. (refl, refl, refl) }
+
+-- a longer table is not in order, whatever its bits: refusal 1, which changes nothing
+too-long : (ys : List Cap) (bs : List ℕ) (t : Tally) (q : Request) → 1024 < length ys → Step.answer (lends ys bs t) q ≡ record { refusal = 1; name = 0 }
+unfolding judge refusals inOrder Step.answer
+too-long ys bs t q l = rw (lt-leb (length ys) 1024 l) refl
 
 -- what is left of the records, by way of rows
-module _ (sheet : Sheet) (ys : List Cap) (t : Tally) (q : Request) (w ws : List (List ℕ)) (r : Outcome) (s : Requested sheet (loaded ys w (held (length ys))) (length ys) t q ws r) where
+module _ (sheet : Sheet) (ys : List Cap) (bs : List ℕ) (t : Tally) (q : Request) (w ws : List (List ℕ)) (bs′ : List ℕ) (r : Outcome) (s : Requested sheet (loaded ys w (held (length ys))) (length ys) bs t q ws bs′ r) where
+  -- what is lent
+  abbrev h : State
+  h = lends ys bs t
+
   abbrev Left : Type 0
-  Left =
-      (stored ys ws (held (length ys)) ≡ after sheet (lends ys t) q .table) × (r .tally ≡ after sheet (lends ys t) q .tally)
-      × (verdictOf (r .answer) ≡ Step.answer (lends ys t) q)
+  Left = (stored ys ws (held (length ys)) ≡ after sheet h q .memory .table) × (bs′ ≡ after sheet h q .memory .bits) × (r .tally ≡ after sheet h q .tally) × (verdictOf (r .answer) ≡ Step.answer h q)
 
   module _ (l : length ys ≤ 1024) where
     abbrev w₁ : List (List ℕ)
@@ -138,18 +146,15 @@ module _ (sheet : Sheet) (ys : List Cap) (t : Tally) (q : Request) (w ws : List 
 
     left-few : Left
     left-few =
-        let a : Stepped sheet w₁ t q (take (length ys) ws) r = s .few l in
-        let h : lends (rowsIn w₁) t ≡ lends ys t = ap (λ (rows : List Cap). lends rows t) all-loaded in
-        (all-stored ∙ a .table ∙ ap (λ (x : State). after sheet x q .table) h, a .tally ∙ ap (λ (x : State). after sheet x q .tally) h, a .answer ∙ ap (λ (x : State). Step.answer x q) h)
+        let a : Stepped sheet w₁ bs t q (take (length ys) ws) bs′ r = s .few l in
+        let e : lends (rowsIn w₁) bs t ≡ h = ap (λ (rows : List Cap). lends rows bs t) all-loaded in
+        (all-stored ∙ a .table ∙ ap (λ (x : State). after sheet x q .memory .table) e, a .bits ∙ ap (λ (x : State). after sheet x q .memory .bits) e, a .tally ∙ ap (λ (x : State). after sheet x q .tally) e, a .answer ∙ ap (λ (x : State). Step.answer x q) e)
 
-  -- a longer table is not in order
   left-many : 1024 < length ys → Left
   left-many l =
-      let long : 1024 < length (map wordsOf ys) = omega (arith, length-map ys wordsOf) in
-      let d : Stepped sheet (map wordsOf ys) t q (map wordsOf ys) (record { tally = t; answer = Refused Disordered }) = stepped-disordered sheet (map wordsOf ys) t q (too-many (map wordsOf ys) (t .issued) long) in
-      let h : lends (rowsIn (map wordsOf ys)) t ≡ lends ys t = ap (λ (rows : List Cap). lends rows t) (rows-words ys) in
-      let kept : stored ys ws (held (length ys)) ≡ rowsIn (map wordsOf ys) = ap (stored ys ws) (held-many (length ys) l) ∙ sym (rows-words ys) in
-      (kept ∙ d .table ∙ ap (λ (x : State). after sheet x q .table) h, s .many l .0 ∙ d .tally ∙ ap (λ (x : State). after sheet x q .tally) h, s .many l .1 ∙ d .answer ∙ ap (λ (x : State). Step.answer x q) h)
+      let one : Step.answer h q ≡ record { refusal = 1; name = 0 } = too-long ys bs t q l in
+      let same : h ≡ after sheet h q = sym (disordered-keeps sheet h q (ap (λ (v : Verdict). v .refusal) one)) in
+      (ap (stored ys ws) (held-many (length ys) l) ∙ ap (λ (x : State). x .memory .table) same, s .many l .0 ∙ ap (λ (x : State). x .memory .bits) same, s .many l .1 ∙ ap (λ (x : State). x .tally) same, s .many l .2 ∙ sym one)
 
   pub left : Left
   left = go (test (leb (length ys) 1024))

@@ -14,6 +14,7 @@ use Rattle.model.specs.declared.Name.{Name}
 use Rattle.model.specs.declared.NewName.{NewName}
 use Rattle.model.specs.declared.Span.{Span}
 use Rattle.model.specs.declared.Cap.{Cap}
+use Rattle.model.specs.declared.Terms.{Terms}
 use Rattle.model.specs.declared.Access.{Access}
 use Rattle.model.specs.declared.Sheet.{Sheet}
 use Rattle.model.specs.declared.Access.the-variants.{Reading, Writing}
@@ -21,24 +22,25 @@ use Rattle.model.specs.declared.Tally.{Tally}
 use Rattle.rules.specs.declared.Outcome.{Outcome}
 use Rattle.model.specs.declared.Event.the-variants.{Create, Borrow, Read, Write, Drop}
 use Rattle.model.specs.declared.Refusal.{Refusal}
-use Rattle.model.specs.declared.Refusal.the-variants.{Disordered}
 use Rattle.model.specs.declared.Answer.the-variants.{Allowed, Refused}
 use Rattle.model.specs.Lists.{any, all}
 use Rattle.model.specs.Strike.{isEnd, isLower, struck}
-use Rattle.model.specs.Step.{Verdict, State, verdict, outcome, after, answer}
+use Rattle.model.specs.Step.{Verdict, Memory, State, verdict, outcome, after, answer}
 use Rattle.model.specs.Table.{row, emptyRow, derivations, named, liveRows, lookup, lentTable, inOrder}
 use Rattle.model.specs.declared.Asked.{Asked}
 use Rattle.model.specs.declared.Asked.the-variants as ask
 use Rattle.model.specs.Requests.{Request, Single, Group, requestOf}
-use Rattle.model.specs.Refusals.{viewOf, refusals, judge}
+use Rattle.model.specs.Refusals.{unfit, viewOf, refusals, judge}
+use Rattle.model.specs.Bits.{bitsAfter}
 use Rattle.model.specs.Effects.{newName, afterAccess, rowsWithout, rowsAfter}
 use Rattle.model.specs.Counts.{countAllowed, countRefused}
 use Rattle.model.specs.Answers.{number, verdictOf}
 use Rattle.table.specs.Words.{rowsIn}
+use Rattle.table.specs.Known.{Sized}
 use Rattle.table.specs.Rows.{nameAt, before, Filled, Front, Found, Places, Orderly}
 use Rattle.rules.specs.Engine.{Marked, kept, Ready, Settled}
-use Rattle.rules.specs.Steps.{lends, Stepped}
-use Rattle.model.proofs.Offered.{allowed, ordered-not-1, access-fits, Named, live-lent, ordered, live-named, access-inOrder, access-named, order-after}
+use Rattle.rules.specs.Steps.{lends, Stepped, AllowedOn}
+use Rattle.model.proofs.Offered.{allowed, fit-not-1, access-fits, Named, live-lent, ordered, live-named, access-inOrder, access-named, order-after}
 use Rattle.table.proofs.Offered.{length-in, before-suc, before-same, length-before, extend, Alike, places-more, found-zero, numbered, orderly-live, orderly-rise, orderly-standing, orderly-zeros}
 use Rattle.rules.proofs.Laws.Settle.{before-lent, kept-revoke}
 
@@ -88,21 +90,21 @@ module _ (ws : List (List ℕ)) (k issued : ℕ) (o : Orderly (rowsIn ws) (lengt
   room-of : leb (length T) (length (liveRows T)) ≡ false → k < length ws
   room-of h = omega (arith, leb-false (length T) (length (liveRows T)) h, o .all, ap length live-is ∙ length-before T k)
 
-  pub room-create : (w : NewName) (s : Span) (r : ℕ) → judge (viewOf T issued) (Single (Create w s r)) ≡ 0 → k < length ws
+  pub room-create : (w : NewName) (s : Span) (r : Terms) → AllowedOn T issued (Single (Create w s r)) → k < length ws
   unfolding refusals
-  room-create w s r h = room-of (allowed (viewOf T issued) (Single (Create w s r)) h 10)
+  room-create w s r h = room-of (allowed (viewOf T (h .bits) issued) (Single (Create w s r)) (h .judged) 10)
 
-  pub room-borrow : (w : NewName) (u : Name) (s : Span) (r kind : ℕ) → judge (viewOf T issued) (Single (Borrow w u s r kind)) ≡ 0 → k < length ws
+  pub room-borrow : (w : NewName) (u : Name) (s : Span) (r : Terms) → AllowedOn T issued (Single (Borrow w u s r)) → k < length ws
   unfolding refusals
-  room-borrow w u s r kind h = room-of (allowed (viewOf T issued) (Single (Borrow w u s r kind)) h 10)
+  room-borrow w u s r h = room-of (allowed (viewOf T (h .bits) issued) (Single (Borrow w u s r)) (h .judged) 10)
 
-  pub there-borrow : (w : NewName) (u : Name) (s : Span) (r kind : ℕ) → judge (viewOf T issued) (Single (Borrow w u s r kind)) ≡ 0 → any (named (u .0)) (before T k) ≡ true
+  pub there-borrow : (w : NewName) (u : Name) (s : Span) (r : Terms) → AllowedOn T issued (Single (Borrow w u s r)) → any (named (u .0)) (before T k) ≡ true
   unfolding refusals
-  there-borrow w u s r kind h = rw live-is at (not-false (any (named (u .0)) (liveRows T)) (allowed (viewOf T issued) (Single (Borrow w u s r kind)) h 5))
+  there-borrow w u s r h = rw live-is at (not-false (any (named (u .0)) (liveRows T)) (allowed (viewOf T (h .bits) issued) (Single (Borrow w u s r)) (h .judged) 5))
 
-  pub depth-borrow : (w : NewName) (u : Name) (s : Span) (r kind : ℕ) → judge (viewOf T issued) (Single (Borrow w u s r kind)) ≡ 0 → lookup (u .0) (before T k) .depth < 64
+  pub depth-borrow : (w : NewName) (u : Name) (s : Span) (r : Terms) → AllowedOn T issued (Single (Borrow w u s r)) → lookup (u .0) (before T k) .depth < 64
   unfolding refusals
-  depth-borrow w u s r kind h = leb-false 64 (lookup (u .0) (before T k) .depth) (rw live-is at (allowed (viewOf T issued) (Single (Borrow w u s r kind)) h 8))
+  depth-borrow w u s r h = leb-false 64 (lookup (u .0) (before T k) .depth) (rw live-is at (allowed (viewOf T (h .bits) issued) (Single (Borrow w u s r)) (h .judged) 8))
 
 -- after an access through any name the table is in order, its live rows are those that are left, and they are no more than before
 module _ (ws : List (List ℕ)) (k issued : ℕ) (o : Orderly (rowsIn ws) (length ws) k issued) (sheet : Sheet) (a : Access) (u : ℕ) (s : Span) (ws′ : List (List ℕ)) {r : ℕ} {places : List ℕ}
@@ -120,7 +122,7 @@ module _ (ws : List (List ℕ)) (k issued : ℕ) (o : Orderly (rowsIn ws) (lengt
     front = rw long (left .front);
     ordered =
         ap (λ (t : List Cap). inOrder t issued) (left .table ∙ ap₂ (λ (m : ℕ) (rows : List Cap). lentTable m (afterAccess sheet a u s rows)) (sym (o .all)) (sym live-old))
-        ∙ access-inOrder sheet (viewOf (rowsIn ws) issued) (ordered (rowsIn ws) issued (o .ordered)) a u s;
+        ∙ access-inOrder sheet (viewOf (rowsIn ws) [] issued) (ordered (rowsIn ws) issued (o .ordered)) a u s;
   }
 
   pub access-rows : before (rowsIn ws′) r ≡ afterAccess sheet a u s old
@@ -140,74 +142,76 @@ module _ (ws : List (List ℕ)) (k issued : ℕ) (o : Orderly (rowsIn ws) (lengt
 
 -- ---- the whole step
 
-settled-refused : (sheet : Sheet) (h : State) (req : Request) (j : ℕ) → (j ≡ 0 → ⊥) → (j ≡ 1 → ⊥) → (outcome sheet j h req .table ≡ h .table) × (outcome sheet j h req .tally ≡ countRefused (h .tally))
+settled-refused : (sheet : Sheet) (h : State) (req : Request) (j : ℕ) → (j ≡ 0 → ⊥) → (j ≡ 1 → ⊥) → (outcome sheet j h req .memory ≡ h .memory) × (outcome sheet j h req .tally ≡ countRefused (h .tally))
 settled-refused sheet h req zero a b = absurd (a refl)
 settled-refused sheet h req (suc zero) a b = absurd (b refl)
 settled-refused sheet h req (suc (suc j)) a b = (refl, refl)
 
-module _ (sheet : Sheet) (ws : List (List ℕ)) (t : Tally) (req : Request) where
-  -- a table out of order
-  pub stepped-disordered : inOrder (rowsIn ws) (t .issued) ≡ false → Stepped sheet ws t req ws (record { tally = t; answer = Refused Disordered })
+module _ (sheet : Sheet) (ws : List (List ℕ)) (bs : List ℕ) (t : Tally) (req : Request) where
+  abbrev judged : ℕ
+  judged = judge (viewOf (rowsIn ws) bs (t .issued)) req
+
+  -- a table out of order, or another number of bytes
+  pub stepped-unfit : unfit (viewOf (rowsIn ws) bs (t .issued)) ≡ true → (r : Outcome) → r .tally ≡ t → verdictOf (r .answer) ≡ record { refusal = 1; name = 0 } → Stepped sheet ws bs t req ws bs r
   unfolding judge refusals after answer
-  stepped-disordered h = record { table = rw h; tally = rw h; answer = rw h }
+  stepped-unfit h r y a = record { table = rw h; bits = rw h; tally = y ∙ rw h; answer = a ∙ rw h }
+
+  pub allowed-zero : (x : Name) → verdictOf (Allowed x) ≡ verdict judged (newName (t .issued) req) → judged ≡ 0
+  allowed-zero x q = sym (ap (λ (r : Verdict). r .refusal) q)
 
   module _ (k : ℕ) (o : Orderly (rowsIn ws) (length ws) k (t .issued)) where
-    pub allowed-zero : (x : Name) → verdictOf (Allowed x) ≡ verdict (judge (viewOf (rowsIn ws) (t .issued)) req) (newName (t .issued) req) → judge (viewOf (rowsIn ws) (t .issued)) req ≡ 0
-    allowed-zero x q = sym (ap (λ (r : Verdict). r .refusal) q)
-
-    -- an allowed event
-    pub stepped-allowed : (ws′ : List (List ℕ)) (y : Tally) (x : Name) → verdictOf (Allowed x) ≡ verdict (judge (viewOf (rowsIn ws) (t .issued)) req) (newName (t .issued) req)
-        → rowsIn ws′ ≡ lentTable (length ws) (rowsAfter sheet (t .issued) (before (rowsIn ws) k) req) → y ≡ countAllowed req t → Stepped sheet ws t req ws′ (record { tally = y; answer = Allowed x })
+    -- an allowed request
+    pub stepped-allowed : (ws′ : List (List ℕ)) (bs′ : List ℕ) (y : Tally) (x : Name) → verdictOf (Allowed x) ≡ verdict judged (newName (t .issued) req)
+        → rowsIn ws′ ≡ lentTable (length ws) (rowsAfter sheet (t .issued) (before (rowsIn ws) k) req) → bs′ ≡ bitsAfter bs req → y ≡ countAllowed req t → Stepped sheet ws bs t req ws′ bs′ (record { tally = y; answer = Allowed x })
     unfolding after answer
-    stepped-allowed ws′ y x q h c = record {
+    stepped-allowed ws′ bs′ y x q h b c = record {
       table = h ∙ rw zero-is (ap₂ (λ (m : ℕ) (rows : List Cap). lentTable m (rowsAfter sheet (t .issued) rows req)) (sym (o .all)) (sym (live-is ws k (t .issued) o)));
+      bits = b ∙ rw zero-is;
       tally = c ∙ rw zero-is;
       answer = q;
     }
       where
-        zero-is : judge (viewOf (rowsIn ws) (t .issued)) req ≡ 0
+        zero-is : judged ≡ 0
         zero-is = allowed-zero x q
 
     -- a refused one
-    pub stepped-refused : (y : Tally) (x : Refusal) → verdictOf (Refused x) ≡ verdict (judge (viewOf (rowsIn ws) (t .issued)) req) (newName (t .issued) req) → y ≡ countRefused t
-        → Stepped sheet ws t req ws (record { tally = y; answer = Refused x })
+    pub stepped-refused : Sized bs → (y : Tally) (x : Refusal) → verdictOf (Refused x) ≡ verdict judged (newName (t .issued) req) → y ≡ countRefused t → Stepped sheet ws bs t req ws bs (record { tally = y; answer = Refused x })
     unfolding after answer
-    stepped-refused y x q c = record {
-      table = sym (settled-refused sheet (lends (rowsIn ws) t) req (judge (viewOf (rowsIn ws) (t .issued)) req) not-0 not-1 .0);
-      tally = c ∙ sym (settled-refused sheet (lends (rowsIn ws) t) req (judge (viewOf (rowsIn ws) (t .issued)) req) not-0 not-1 .1);
+    stepped-refused b y x q c = record {
+      table = ap (λ (m : Memory). m .table) (sym (left .0));
+      bits = ap (λ (m : Memory). m .bits) (sym (left .0));
+      tally = c ∙ sym (left .1);
       answer = q;
     }
       where
-        is : judge (viewOf (rowsIn ws) (t .issued)) req ≡ number x
+        is : judged ≡ number x
         is = sym (ap (λ (r : Verdict). r .refusal) q)
 
-        not-0 : judge (viewOf (rowsIn ws) (t .issued)) req ≡ 0 → ⊥
-        not-0 z = eqb-false (number x) 0 (numbered x) (sym is ∙ z)
-
-        not-1 : judge (viewOf (rowsIn ws) (t .issued)) req ≡ 1 → ⊥
-        not-1 = ordered-not-1 (viewOf (rowsIn ws) (t .issued)) req (o .ordered)
+        left : (outcome sheet judged (lends (rowsIn ws) bs t) req .memory ≡ lends (rowsIn ws) bs t .memory) × (outcome sheet judged (lends (rowsIn ws) bs t) req .tally ≡ countRefused t)
+        left = settled-refused sheet (lends (rowsIn ws) bs t) req judged (λ z. eqb-false (number x) 0 (numbered x) (sym is ∙ z)) (fit-not-1 (viewOf (rowsIn ws) bs (t .issued)) req (rw (o .ordered, b)))
 
 -- the table is in order after it too
-pub orderly-after : (sheet : Sheet) (ws : List (List ℕ)) (t : Tally) (req : Request) (k : ℕ) (ws′ : List (List ℕ)) (r : Outcome) (live : ℕ) → length ws′ ≡ length ws → Orderly (rowsIn ws) (length ws) k (t .issued) → Stepped sheet ws t req ws′ r → Front (rowsIn ws′) (length ws) live → Orderly (rowsIn ws′) (length ws′) live (r .tally .issued)
-orderly-after sheet ws t req k ws′ r live long o s f = record {
+pub orderly-after : (sheet : Sheet) (ws : List (List ℕ)) (bs : List ℕ) (t : Tally) (req : Request) (k : ℕ) (ws′ : List (List ℕ)) (bs′ : List ℕ) (r : Outcome) (live : ℕ) → length ws′ ≡ length ws → Orderly (rowsIn ws) (length ws) k (t .issued) → Stepped sheet ws bs t req ws′ bs′ r → Front (rowsIn ws′) (length ws) live → Orderly (rowsIn ws′) (length ws′) live (r .tally .issued)
+orderly-after sheet ws bs t req k ws′ bs′ r live long o s f = record {
   few = rw long (o .few);
   all = length-in ws′;
   front = rw long f;
   ordered =
       ap₂ (λ (rows : List Cap) (y : Tally). inOrder rows (y .issued)) (s .table) (s .tally)
-      ∙ order-after sheet (lends (rowsIn ws) t) req (o .ordered);
+      ∙ order-after sheet (lends (rowsIn ws) bs t) req (o .ordered);
 }
 
 -- ---- the rows after an event
 
 module _ (sheet : Sheet) (issued : ℕ) (rows : List Cap) where
-  pub next-create : (w : NewName) (s : Span) (r : ℕ) (c : Cap) → c ≡ row (record { name = issued + 1; parent = 0; span = s; kind = 0 }) r 1 → c ∷ afterAccess sheet Writing (issued + 1) s rows ≡ rowsAfter sheet issued rows (Single (Create w s r))
+  pub next-create : (w : NewName) (s : Span) (r : Terms) (c : Cap) → c ≡ row (record { name = issued + 1; parent = 0; span = s; kind = 0; fresh = r .fresh }) (r .right) 1 → c ∷ afterAccess sheet Writing (issued + 1) s rows ≡ rowsAfter sheet issued rows (Single (Create w s r))
   unfolding rowsAfter
   next-create w s r c e = rw (e, add-one)
 
-  pub next-borrow : (w : NewName) (u : Name) (s : Span) (r kind d : ℕ) (c : Cap) → d ≡ lookup (u .0) rows .depth → c ≡ row (record { name = issued + 1; parent = u .0; span = s; kind = kind }) r (d + 1) → c ∷ rows ≡ rowsAfter sheet issued rows (Single (Borrow w u s r kind))
+  -- the parent's row gives the depth and the mark
+  pub next-borrow : (w : NewName) (u : Name) (s : Span) (r : Terms) (p c : Cap) → p ≡ lookup (u .0) rows → c ≡ row (record { name = issued + 1; parent = u .0; span = s; kind = r .kind; fresh = p .fresh }) (r .right) (p .depth + 1) → c ∷ rows ≡ rowsAfter sheet issued rows (Single (Borrow w u s r))
   unfolding rowsAfter
-  next-borrow w u s r kind d c f e = rw (e, f, add-one, add-one)
+  next-borrow w u s r p c f e = rw (e, f, add-one issued, add-one)
 
   pub next-read : (u : Name) (s : Span) → afterAccess sheet Reading (u .0) s rows ≡ rowsAfter sheet issued rows (Single (Read u s))
   unfolding rowsAfter

@@ -12,11 +12,9 @@ use lib.Seq.{drop-cons}
 use borrow.Author.Tests.{lt-ltb, le-ltb}
 use Rattle.model.specs.declared.Cap.{Cap}
 use Rattle.model.specs.Lists.{first}
-use Rattle.model.specs.Refusals.{standing, judge, refusals, standings, viewOf}
-use Rattle.model.specs.Requests.{Group, isGroup, risesAbove, risesStrictly}
+use Rattle.model.specs.Refusals.{standing, standings}
+use Rattle.model.specs.Requests.{risesAbove, risesStrictly}
 use Rattle.model.proofs.Offered.{clash, name-refused, name-passed}
-use Rattle.table.specs.Rows.{before, Orderly}
-use Rattle.table.proofs.Laws.Judge.{orderly-live}
 
 -- ---- names that rise
 
@@ -54,9 +52,3 @@ module _ (rows : List Cap) (issued : ℕ) (names : List ℕ) (i : ℕ) where
   pub names-end : length names ≤ i → first (standings rows issued (drop i names)) ≡ 0
   unfolding standings
   names-end h = rw (drop-of-length-le names h)
-
--- a group is judged by its names alone, on a table in order
-pub group-judged : (T : List Cap) (n k issued : ℕ) → Orderly T n k issued → (names : List ℕ) → isGroup names ≡ true
-    → first (standings (before T k) issued names) ≡ judge (viewOf T issued) (Group names)
-unfolding judge refusals
-group-judged T n k issued o names g = rw (o .ordered, g, orderly-live T n k issued o)

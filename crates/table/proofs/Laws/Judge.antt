@@ -2,35 +2,37 @@
 -- Assumes nothing.
 use mathlib.Core.Path.{_≡_, refl, sym, ap, ap₂, _∙_}
 use mathlib.Core.Logic.{_⊎_, inl, inr}
-use mathlib.Core.Bool.{Bool, true, false, cond}
+use mathlib.Core.Bool.{Bool, true, false, not, cond}
 use mathlib.Core.List.{List, [], _∷_, _++_}
 use Prim.Native.Nat.{ℕ, zero, suc, _+_, _-_, _<_, _≤_}
 use native.Mathlib.Nat.{not-suc-le-zero, le-of-suc-le-suc}
 use native.Mathlib.Omega.{arith}
-use lib.Dec.{eqb, ltb}
+use lib.Dec.{eqb, leb, ltb}
 use lib.ListN.{length, getD, drop, length-drop}
 use lib.Seq.{getD-drop}
-use borrow.Author.Tests.{eqb-true, not-false, ltb-true, ne-eqb, le-ltb, lt-ltb, leb-true, le-leb, lt-leb}
+use borrow.Author.Tests.{eqb-true, eq-eqb, not-false, ltb-true, ne-eqb, le-ltb, lt-ltb, leb-true, le-leb, lt-leb}
 use Rattle.model.specs.declared.Name.{Name}
 use Rattle.model.specs.declared.NewName.{NewName}
 use Rattle.model.specs.declared.Span.{Span}
 use Rattle.model.specs.declared.Cap.{Cap}
-use Rattle.model.specs.declared.Event.{Event}
-use Rattle.model.specs.declared.Event.the-variants.{Create, Borrow, Read}
+use Rattle.model.specs.declared.Terms.{Terms}
+use Rattle.model.specs.declared.Event.the-variants.{Create}
 use Rattle.model.specs.declared.Refusal.{Refusal}
-use Rattle.model.specs.declared.Refusal.the-variants.{Disordered, Misspelt, IllegalSpan, Unissued, Ended, OutsideSpan, ReadOnly, TooDeep, NamesSpent, TableFull, BufferTooShort, Misnamed, Misgrouped, GivenTwice, NotGiven}
+use Rattle.model.specs.declared.Refusal.the-variants.{Disordered, Misspelt, IllegalSpan, Unissued, Ended, OutsideSpan, ReadOnly, TooDeep, NamesSpent, TableFull, BufferTooShort, Misnamed, Misgrouped, GivenTwice, NotGiven, NotWritten}
 use Rattle.table.specs.declared.judge.Place.{Place}
 use Rattle.table.specs.declared.judge.Place.the-variants.{At, Not}
 use Rattle.model.specs.Lists.{first, any, all}
-use Rattle.model.specs.Values.{legal, inside}
-use Rattle.model.specs.Table.{emptyRow, span, named, liveRows, lookup, isRight, isKind, isEmptyRow, rowsInOrder}
-use Rattle.model.specs.Refusals.{notARight, illegalSpan, outsideSpan, readOnly, tooDeep, standing, within, usable, room, checks, refusals, judge, viewOf}
+use Rattle.model.specs.Bits.{bitAt, spanWritten}
+use Rattle.model.specs.Values.{end, legal, inside}
+use Rattle.model.specs.Table.{emptyRow, span, derivation, named, liveRows, lookup, isEmptyRow, rowInOrder, rowsInOrder}
+use Rattle.model.specs.Refusals.{unfitRoot, unfitChild, misplaced, notWritten, outsideSpan, readOnly, tooDeep, standing, within, usable, room, checks, refusals, judge, viewOf}
 use Rattle.model.specs.Step.{verdict}
 use Rattle.model.specs.Answers.{number}
 use Rattle.model.specs.Requests.{Request, Single}
 use Rattle.table.specs.Rows.{before, Rise, LiveRows, Orderly}
-use Rattle.table.specs.Stands.{Passes, saidOf, roomFor}
-use Rattle.model.proofs.Offered.{test, and-both, first-none, emptyRow-empty, Ordered, ordered, place, right-positive}
+use Rattle.table.specs.Known.{Sized}
+use Rattle.table.specs.Stands.{Passes, Serves, saidOf, roomFor, borrowChecks, readChecks}
+use Rattle.model.proofs.Offered.{test, and-both, first-none, emptyRow-empty, Ordered, ordered, marked-low, place, right-positive}
 use Rattle.table.proofs.Laws.Prefix.{length-before, place-of}
 use Rattle.table.proofs.Laws.Ordered.{rowsInOrder-rise, rowsInOrder-at, lookup-place, liveRowsFirst-front, live-front}
 
@@ -60,6 +62,7 @@ numbered Misnamed = refl
 numbered Misgrouped = refl
 numbered GivenTwice = refl
 numbered NotGiven = refl
+numbered NotWritten = refl
 
 -- a name to be used
 module _ (rows : List Cap) (issued : ℕ) (u : Name) (s : Span) (r : ℕ) where
@@ -114,9 +117,10 @@ module _ (T : List Cap) (n k issued : ℕ) (o : Orderly T n k issued) where
   pub orderly-rise : Rise T k
   orderly-rise = rowsInOrder-rise T (suc issued) k (o .front .filled) orderly-rowsInOrder
 
-  pub orderly-judge : (q : Request) → judge (viewOf T issued) q ≡ first (checks (before T k) issued n q)
+  -- judging comes down to the request's own checks, where the bits have their length
+  pub orderly-judge : (bits : List ℕ) → Sized bits → (q : Request) → judge (viewOf T bits issued) q ≡ first (checks (before T k) issued (bitAt bits) n q)
   unfolding judge refusals
-  orderly-judge q = rw (o .ordered) (ap₂ (λ (rows : List Cap) (m : ℕ). first (checks rows issued m q)) orderly-live (o .all))
+  orderly-judge bits b q = rw (o .ordered, b) (ap₂ (λ (rows : List Cap) (m : ℕ). first (checks rows issued (bitAt bits) m q)) orderly-live (o .all))
 
   -- the rows after the live ones are zeros
   pub orderly-zeros : (j : ℕ) → k ≤ j → j < n → getD T j emptyRow ≡ emptyRow
@@ -131,9 +135,18 @@ module _ (T : List Cap) (n k issued : ℕ) (o : Orderly T n k issued) where
       all-at (c ∷ l) zero h m = and-both (isEmptyRow c) (all isEmptyRow l) h .0
       all-at (c ∷ l) (suc i) h m = all-at l i (and-both (isEmptyRow c) (all isEmptyRow l) h .1) (le-of-suc-le-suc m)
 
+  -- each live row fits those before it
+  orderly-row : (q : ℕ) → q < k → rowInOrder (getD T q emptyRow) (before T q) ≡ true
+  orderly-row q m = rowsInOrder-at T (suc issued) k orderly-rowsInOrder q m .1
+
   -- the right of a row is 1 or 2
   pub orderly-right : (q : ℕ) → q < k → 1 ≤ getD T q emptyRow .right
-  orderly-right q m = right-positive (getD T q emptyRow .right) (place (getD T q emptyRow) (before T q) (rowsInOrder-at T (suc issued) k orderly-rowsInOrder q m .1) .has-right)
+  orderly-right q m = right-positive (getD T q emptyRow .right) (place (getD T q emptyRow) (before T q) (orderly-row q m) .has-right)
+
+  -- a marked row ends at 65,536 or below
+  orderly-low : (q : ℕ) → q < k → getD T q emptyRow .fresh ≡ 1 → end (span (getD T q emptyRow)) ≤ 65536
+  orderly-low q m f =
+      marked-low (derivation (getD T q emptyRow)) (place (getD T q emptyRow) (before T q) (orderly-row q m) .has-terms) (eq-eqb (getD T q emptyRow .fresh) 1 f)
 
   -- a read needs no more than `ro`
   pub orderly-read : (u : Name) (s : Span) → first (usable (before T k) issued u s 1) ≡ first (within (before T k) issued u s)
@@ -150,34 +163,71 @@ module _ (T : List Cap) (n k issued : ℕ) (o : Orderly T n k issued) where
           rw y (ap (λ (c : Cap). first ((7, ltb (c .right) 1) ∷ [])) (lookup-place T k (p .0) (u .0) orderly-rise (p .1 .0) (p .1 .1) .1) ∙ low (getD T (p .0) emptyRow) (orderly-right (p .0) (p .1 .0)) ∙ sym z)
       go (inr f) = rw f
 
-  -- the answers of the events
-  pub answer-create : (w : NewName) (s : Span) (r y : ℕ) → verdict (first ((2, notARight r) ∷ (3, illegalSpan s) ∷ roomFor n k issued w)) y ≡ verdict (judge (viewOf T issued) (Single (Create w s r))) y
-  answer-create w s r y = ap (λ (j : ℕ). verdict j y) (sym (orderly-judge (Single (Create w s r)) ∙ rw (length-before T k)))
+  -- the answers of the requests
+  module _ (bits : List ℕ) (b : Sized bits) where
+    pub answer-create : (w : NewName) (s : Span) (r : Terms) (y : ℕ) → verdict (first ((2, unfitRoot r) ∷ (3, misplaced r s) ∷ roomFor n k issued w)) y ≡ verdict (judge (viewOf T bits issued) (Single (Create w s r))) y
+    answer-create w s r y = ap (λ (j : ℕ). verdict j y) (sym (orderly-judge bits b (Single (Create w s r)) ∙ rw (length-before T k)))
 
-  pub answer-other : (e : Event) (y : ℕ) → verdict (first (checks (before T k) issued n (Single e))) y ≡ verdict (judge (viewOf T issued) (Single e)) y
-  answer-other e y = ap (λ (j : ℕ). verdict j y) (sym (orderly-judge (Single e)))
-
-  pub answer-read : (u : Name) (s : Span) (y : ℕ) → verdict (first (usable (before T k) issued u s 1)) y ≡ verdict (judge (viewOf T issued) (Single (Read u s))) y
-  answer-read u s y = ap (λ (j : ℕ). verdict j y) (orderly-read u s ∙ sym (orderly-judge (Single (Read u s))))
+    pub answer-other : (q : Request) (y : ℕ) → verdict (first (checks (before T k) issued (bitAt bits) n q)) y ≡ verdict (judge (viewOf T bits issued) q) y
+    answer-other q y = ap (λ (j : ℕ). verdict j y) (sym (orderly-judge bits b q))
 
 -- ---- a borrow
 
-module _ (T : List Cap) (n k issued : ℕ) (w : NewName) (u : Name) (s : Span) (r kind : ℕ) (h : isRight r ≡ true) (g : isKind kind ≡ true) where
+module _ (T : List Cap) (n k issued : ℕ) (w : NewName) (u : Name) (s : Span) (r : Terms) (h : unfitChild r ≡ false) where
   abbrev rest : List (ℕ × Bool)
   rest = (8, tooDeep (before T k) issued u) ∷ room (before T k) issued n w
 
-  abbrev first-of : ℕ
-  first-of = first (checks (before T k) issued n (Single (Borrow w u s r kind)))
+  abbrev first-borrow : ℕ
+  first-borrow = first (borrowChecks (before T k) issued n w u s r)
 
-  pub borrow-not : (x : Refusal) → first (usable (before T k) issued u s r) ≡ number x → first-of ≡ number x
-  borrow-not x e = rw (h, g) (first-append (usable (before T k) issued u s r) rest refl ∙ rw (e, numbered x))
+  pub borrow-not : (x : Refusal) → first (usable (before T k) issued u s (r .right)) ≡ number x → first-borrow ≡ number x
+  borrow-not x e = rw h (first-append (usable (before T k) issued u s (r .right)) rest refl ∙ rw (e, numbered x))
 
-  module _ (c : Cap) (e : first (usable (before T k) issued u s r) ≡ 0) (f : lookup (u .0) (before T k) ≡ c) where
-    borrow-rest : first-of ≡ first rest
-    borrow-rest = rw (h, g) (first-append (usable (before T k) issued u s r) rest refl ∙ rw e)
+  module _ (c : Cap) (e : first (usable (before T k) issued u s (r .right)) ≡ 0) (f : lookup (u .0) (before T k) ≡ c) where
+    borrow-rest : first-borrow ≡ first rest
+    borrow-rest = rw h (first-append (usable (before T k) issued u s (r .right)) rest refl ∙ rw e)
 
-    pub borrow-deep : 64 ≤ c .depth → first-of ≡ 8
+    pub borrow-deep : 64 ≤ c .depth → first-borrow ≡ 8
     borrow-deep l = borrow-rest ∙ rw (f, le-leb 64 (c .depth) l)
 
-    pub borrow-room : c .depth < 64 → first-of ≡ first (roomFor n k issued w)
+    pub borrow-room : c .depth < 64 → first-borrow ≡ first (roomFor n k issued w)
     borrow-room l = borrow-rest ∙ rw (f, lt-leb 64 (c .depth) l, length-before T k)
+
+-- ---- a read
+
+module _ (T : List Cap) (n k issued : ℕ) (o : Orderly T n k issued) (isWritten : ℕ → Bool) (u : Name) (s : Span) where
+  abbrev unwritten : List (ℕ × Bool)
+  unwritten = (16, notWritten (before T k) issued isWritten u s) ∷ []
+
+  abbrev first-read : ℕ
+  first-read = first (readChecks (before T k) issued isWritten u s)
+
+  -- a read needs no more than `ro`, so what its place passes comes first
+  read-append : first-read ≡ cond (eqb (first (usable (before T k) issued u s 1)) 0) (first unwritten) (first (usable (before T k) issued u s 1))
+  read-append = rw (orderly-read T n k issued o u s) (first-append (within (before T k) issued u s) unwritten refl)
+
+  pub read-not : (x : Refusal) → first (usable (before T k) issued u s 1) ≡ number x → first-read ≡ number x
+  read-not x e = read-append ∙ rw (e, numbered x)
+
+  module _ (q : ℕ) (p : Serves T k issued u s 1 (At q)) where
+    found : lookup (u .0) (before T k) ≡ getD T q emptyRow
+    found = lookup-place T k q (u .0) (orderly-rise T n k issued o) (p .1) (p .2) .1
+
+    pub read-unmarked : (getD T q emptyRow .fresh ≡ 1 → ⊥) → first-read ≡ 0
+    unfolding notWritten
+    read-unmarked m = read-append ∙ rw (p .0, found, ne-eqb (getD T q emptyRow .fresh) 1 m)
+
+    pub read-marked : getD T q emptyRow .fresh ≡ 1 → first-read ≡ cond (spanWritten isWritten s) 0 16
+    unfolding notWritten
+    read-marked m = read-append ∙ rw (p .0, found, eq-eqb (getD T q emptyRow .fresh) 1 m) (go (spanWritten isWritten s))
+      where
+        go : (b : Bool) → _≡_ {A = ℕ} (cond (not b) 16 0) (cond b 0 16)
+        go true = refl
+        go false = refl
+
+    -- what is read of a marked capability is inside its span, and so has bits
+    pub read-low : getD T q emptyRow .fresh ≡ 1 → end s ≤ 65536
+    read-low m =
+        let i : inside s (span (getD T q emptyRow)) ≡ true = rw found at (not-false (inside s (span (lookup (u .0) (before T k)))) (first-none (usable (before T k) issued u s 1) refl (p .0) 6)) in
+        let c = getD T q emptyRow in
+        omega (arith, orderly-low T n k issued o q (p .1) m, leb-true (end s) (end (span c)) (and-both (leb (c .start .0) (s .start .0)) (leb (end s) (end (span c))) i .1))

@@ -1,15 +1,11 @@
--- Examples of lines, of document 01 and of cards 1, 5 and 6, computed by the definitions. The program `text_cases` runs these and more on the code.
+-- Examples of lines, of document 01 and of cards 1, 5, 6 and 9, computed by the definitions. The program `text_cases` runs these and more on the code.
 -- Assumes nothing.
 use mathlib.Core.Path.{_≡_, refl}
 use mathlib.Core.List.{List, [], _∷_, map}
 use Prim.Native.Nat.{ℕ}
 use Prim.Native.String.{String}
 use lib.ListN.{replicate}
-use Rattle.model.specs.declared.Name.{Name}
-use Rattle.model.specs.declared.Span.{Span}
 use Rattle.model.specs.declared.NewName.the-variants.{Unwritten, Written}
-use Rattle.model.specs.declared.Event.{Event}
-use Rattle.text.specs.declared.spelling.Spelling.{Spelling}
 use Rattle.text.specs.declared.spelling.Spelling.the-variants.{Plain, Named}
 use Rattle.model.specs.declared.Event.the-variants.{Create, Borrow, Read, Write, Drop}
 use Rattle.model.specs.Requests.{isGroup, risesAbove, risesStrictly}
@@ -21,20 +17,12 @@ use Rattle.text.specs.Event.{bytes, spaced, spell, writesName, hasSpelli
 use Rattle.text.specs.Write.{written, stored, writeEvent}
 use Rattle.text.specs.Read.{same, guess, readEvent}
 use Rattle.text.specs.Group.{spellGroup, namesFrom, guessNames, readGroup, writeGroup}
-
-abbrev name : ℕ → Name
-name n = record { 0 = n }
-
-abbrev span : ℕ → ℕ → Span
-span a l = record { start = record { 0 = a }; length = l }
-
-abbrev readings : Spelling → List String → List (Result Event)
-readings k = map (λ s. readEvent k (bytes s))
+use Rattle.text.proofs.Laws.Rights.{name, span, terms, readings}
 
 -- a line of each kind
 good : readings Plain ("(create 4294967295 1 rw)\n" ∷ "(borrow 1 16 16 ro)\n" ∷ "(read 1 0 4)\n" ∷ "(write 2 0 8)\n" ∷ "(drop 1)\n" ∷ [])
-    ≡ value (Create Unwritten (span 4294967295 1) 2)
-    ∷ value (Borrow Unwritten (name 1) (span 16 16) 1 0)
+    ≡ value (Create Unwritten (span 4294967295 1) (terms 2 0 0))
+    ∷ value (Borrow Unwritten (name 1) (span 16 16) (terms 1 0 0))
     ∷ value (Read (name 1) (span 0 4))
     ∷ value (Write (name 2) (span 0 8))
     ∷ value (Drop (name 1))
@@ -44,8 +32,8 @@ good = refl
 
 -- card 1: a line of each kind with names written out
 named : readings Named ("(create 1 0 64 rw)\n" ∷ "(borrow 2 1 0 8 rw)\n" ∷ "(read 1 0 8)\n" ∷ "(write 2 0 8)\n" ∷ "(drop 1)\n" ∷ [])
-    ≡ value (Create (Written (name 1)) (span 0 64) 2)
-    ∷ value (Borrow (Written (name 2)) (name 1) (span 0 8) 2 0)
+    ≡ value (Create (Written (name 1)) (span 0 64) (terms 2 0 0))
+    ∷ value (Borrow (Written (name 2)) (name 1) (span 0 8) (terms 2 0 0))
     ∷ value (Read (name 1) (span 0 8))
     ∷ value (Write (name 2) (span 0 8))
     ∷ value (Drop (name 1))
@@ -55,16 +43,24 @@ named = refl
 
 -- card 6: borrows of each kind, with names written out and without; proofs/Laws/Rights has more, and lines that are refused
 kinds : (readings Plain ("(borrow 1 0 8 rw)\n" ∷ "(borrow 1 0 8 rw raw)\n" ∷ "(borrow 1 0 8 ro cell)\n" ∷ [])
-    ≡ value (Borrow Unwritten (name 1) (span 0 8) 2 0)
-    ∷ value (Borrow Unwritten (name 1) (span 0 8) 2 1)
-    ∷ value (Borrow Unwritten (name 1) (span 0 8) 1 2)
+    ≡ value (Borrow Unwritten (name 1) (span 0 8) (terms 2 0 0))
+    ∷ value (Borrow Unwritten (name 1) (span 0 8) (terms 2 1 0))
+    ∷ value (Borrow Unwritten (name 1) (span 0 8) (terms 1 2 0))
     ∷ [])
     × (readings Named ("(borrow 2 1 0 8 ro raw)\n" ∷ "(borrow 2 1 0 8 ro cell)\n" ∷ [])
-    ≡ value (Borrow (Written (name 2)) (name 1) (span 0 8) 1 1)
-    ∷ value (Borrow (Written (name 2)) (name 1) (span 0 8) 1 2)
+    ≡ value (Borrow (Written (name 2)) (name 1) (span 0 8) (terms 1 1 0))
+    ∷ value (Borrow (Written (name 2)) (name 1) (span 0 8) (terms 1 2 0))
     ∷ [])
 unfolding readEvent guess through classOf numberFrom same hasSpelling writesName spell spaced decimal numeral
 kinds = (refl, refl)
+
+-- card 9: creates with the word `fresh`, with names written out and without, and each spelling's line in the other
+fresh : (readings Plain ("(create 0 8 rw fresh)\n" ∷ "(create 0 8 ro fresh)\n" ∷ "(create 1 0 8 rw fresh)\n" ∷ [])
+    ≡ value (Create Unwritten (span 0 8) (terms 2 0 1)) ∷ value (Create Unwritten (span 0 8) (terms 1 0 1)) ∷ refused 2 ∷ [])
+    × (readings Named ("(create 1 0 8 rw fresh)\n" ∷ "(create 1 0 8 ro fresh)\n" ∷ "(create 0 8 rw fresh)\n" ∷ [])
+    ≡ value (Create (Written (name 1)) (span 0 8) (terms 2 0 1)) ∷ value (Create (Written (name 1)) (span 0 8) (terms 1 0 1)) ∷ refused 2 ∷ [])
+unfolding readEvent guess through classOf numberFrom same hasSpelling writesName spell spaced decimal numeral
+fresh = (refl, refl)
 
 -- refusal 2: a leading zero, a number above the limit, two spaces, a tab, a missing newline, bytes after it, and an empty line
 bad : readings Plain ("(read 01 0 8)\n" ∷ "(drop 4294967296)\n" ∷ "(drop  1)\n" ∷ "(drop\t1)\n" ∷ "(drop 1)" ∷ "(drop 1)\n\n" ∷ "\n" ∷ [])
@@ -84,17 +80,24 @@ unfolding writeEvent written stored hasSpelling writesName spell spaced decimal 
 no-room = refl
 
 -- refusal 2: an event whose right is neither 1 nor 2
-no-right : writeEvent Plain (Create Unwritten (span 0 64) 3) (replicate 20 0) ≡ record { answer = refused 2; buffer = replicate 20 0 }
+no-right : writeEvent Plain (Create Unwritten (span 0 64) (terms 3 0 0)) (replicate 20 0) ≡ record { answer = refused 2; buffer = replicate 20 0 }
 unfolding writeEvent written stored hasSpelling writesName spell spaced decimal numeral
 no-right = refl
 
 -- refusal 2: a borrow of any other kind
-no-kind : writeEvent Plain (Borrow Unwritten (name 1) (span 0 8) 2 3) (replicate 25 0) ≡ record { answer = refused 2; buffer = replicate 25 0 }
+no-kind : writeEvent Plain (Borrow Unwritten (name 1) (span 0 8) (terms 2 3 0)) (replicate 25 0) ≡ record { answer = refused 2; buffer = replicate 25 0 }
 unfolding writeEvent written stored hasSpelling writesName spell spaced decimal numeral
 no-kind = refl
 
+-- refusal 2: a create of any other mark or of a kind, and a borrow with a mark
+no-mark : (writeEvent Plain (Create Unwritten (span 0 8) (terms 2 0 2)) (replicate 25 0) ≡ record { answer = refused 2; buffer = replicate 25 0 })
+    × (writeEvent Plain (Create Unwritten (span 0 8) (terms 2 1 0)) (replicate 25 0) ≡ record { answer = refused 2; buffer = replicate 25 0 })
+    × (writeEvent Plain (Borrow Unwritten (name 1) (span 0 8) (terms 2 0 1)) (replicate 25 0) ≡ record { answer = refused 2; buffer = replicate 25 0 })
+unfolding writeEvent written stored hasSpelling writesName spell spaced decimal numeral
+no-mark = (refl, refl, refl)
+
 -- refusal 2: an event whose name is not written as in the spelling, in no room too
-no-name : writeEvent Named (Create Unwritten (span 0 64) 2) [] ≡ record { answer = refused 2; buffer = [] }
+no-name : writeEvent Named (Create Unwritten (span 0 64) (terms 2 0 0)) [] ≡ record { answer = refused 2; buffer = [] }
 unfolding writeEvent written stored hasSpelling writesName spell spaced decimal numeral
 no-name = refl
 
@@ -104,16 +107,23 @@ unfolding writeEvent written stored hasSpelling writesName spell spaced decimal 
 room = refl
 
 -- the new name after the word
-name-written : writeEvent Named (Create (Written (name 1)) (span 0 64) 2) (bytes "....................")
+name-written : writeEvent Named (Create (Written (name 1)) (span 0 64) (terms 2 0 0)) (bytes "....................")
     ≡ record { answer = value 19; buffer = bytes "(create 1 0 64 rw)\n." }
 unfolding writeEvent written stored hasSpelling writesName spell spaced decimal numeral
 name-written = refl
 
 -- the kind behind the right
-kind-written : writeEvent Plain (Borrow Unwritten (name 1) (span 0 8) 2 1) (bytes ".........................")
+kind-written : writeEvent Plain (Borrow Unwritten (name 1) (span 0 8) (terms 2 1 0)) (bytes ".........................")
     ≡ record { answer = value 22; buffer = bytes "(borrow 1 0 8 rw raw)\n..." }
 unfolding writeEvent written stored hasSpelling writesName spell spaced decimal numeral
 kind-written = refl
+
+-- the mark behind the right, and refusal 11 in one byte less
+fresh-written : (writeEvent Plain (Create Unwritten (span 0 8) (terms 2 0 1)) (bytes ".........................")
+    ≡ record { answer = value 22; buffer = bytes "(create 0 8 rw fresh)\n..." })
+    × (writeEvent Plain (Create Unwritten (span 0 8) (terms 2 0 1)) (replicate 21 0) ≡ record { answer = refused 11; buffer = replicate 21 0 })
+unfolding writeEvent written stored hasSpelling writesName spell spaced decimal numeral
+fresh-written = (refl, refl)
 
 -- the next line of a trace
 line : nextLine (bytes "(drop 1)\n(drop 2)\n") ≡ bytes "(drop 1)\n"

@@ -1,24 +1,27 @@
 -- What is guessed of an event's spelling is that event: each of its words is found again.
 -- Assumes nothing.
-use mathlib.Core.Path.{_≡_, refl, ap, _∙_}
+use mathlib.Core.Path.{_≡_, refl, sym, ap, _∙_}
 use mathlib.Core.Bool.{true}
 use mathlib.Core.List.{List, [], _∷_, _++_}
-use Prim.Native.Nat.{ℕ, _^_, _<_}
+use Prim.Native.Nat.{ℕ, _+_, _^_, _<_}
+use lib.ListN.{length}
 use borrow.Author.Tests.{eqb-false}
 use Rattle.text.specs.Class.{classOf}
 use Rattle.text.specs.Line.{through, afterSpace}
 use Rattle.text.specs.Decimal.{decimal, numberFrom}
-use Rattle.model.specs.Table.{isRight, isKind}
-use Rattle.model.proofs.Offered.{and-both, clash}
-use Rattle.text.specs.Event.{bytes, spaced, kindWord, ending, spanNumbers, spell, writesName, hasSpelling, Below32, InRange}
-use Rattle.text.specs.Read.{nameOf, spanOf, rightOf, kindOf, newNameOf, createOf, borrowOf, guess}
+use Rattle.model.specs.Table.{isRight}
+use Rattle.model.proofs.Offered.{clash}
+use Rattle.text.specs.Event.{bytes, spaced, kindWord, freshWord, ending, spanNumbers, spell, writesName, hasSpelling, Below32, InRange}
+use Rattle.text.specs.Read.{nameOf, spanOf, rightOf, kindOf, freshAt, newNameOf, createOf, borrowOf, guess}
 use Rattle.text.specs.declared.spelling.Spelling.{Spelling}
 use Rattle.text.specs.declared.spelling.Spelling.the-variants.{Plain as Unnamed, Named}
 use Rattle.text.proofs.Laws.Number.{Stops}
-use Rattle.text.proofs.Laws.Words.{Plain, plain-decimal, next, number-is, right-stops, right-back, kind-back}
+use Rattle.text.proofs.Laws.Words.{Plain, plain-decimal, next, number-is, right-stops, right-back, kind-back, fresh-back}
+use Rattle.text.proofs.Laws.Terms.{RootTerms, root-terms, ChildTerms, child-terms}
 use Rattle.text.proofs.Laws.Read.{guess-create, guess-borrow, guess-read, guess-write, guess-drop}
 use Rattle.model.specs.declared.Name.{Name}
 use Rattle.model.specs.declared.Span.{Span}
+use Rattle.model.specs.declared.Terms.{Terms}
 use Rattle.model.specs.declared.NewName.{NewName}
 use Rattle.model.specs.declared.NewName.the-variants.{Unwritten, Written}
 use Rattle.model.specs.declared.Event.{Event}
@@ -43,8 +46,34 @@ module _ (e : List ℕ) (stop : Stops e) where
     third : (b c : ℕ) (ns : List ℕ) → afterSpace (afterSpace (afterSpace (w ++ (spaced (a ∷ b ∷ c ∷ ns) ++ e)))) ≡ decimal c ++ (spaced ns ++ e)
     third b c ns = ap afterSpace (second b (c ∷ ns)) ∙ next e stop (decimal b) (plain-decimal b) c ns
 
-ending-stops : (r k : ℕ) → Stops (ending r k)
-ending-stops r k = right-stops r (kindWord k ++ bytes ")\n")
+ending-stops : (r : Terms) → Stops (ending r)
+ending-stops r = right-stops (r .right) (kindWord (r .kind) ++ (freshWord (r .fresh) ++ bytes ")\n"))
+
+-- the right, the kind and the mark behind the numbers of a create and of a borrow
+module _ (r : Terms) {t : List ℕ} (is : t ≡ afterSpace (ending r)) where
+  abbrev behind : List ℕ
+  behind = freshWord (r .fresh) ++ bytes ")\n"
+
+  right-found : isRight (r .right) ≡ true → rightOf t ≡ r .right
+  right-found h = ap rightOf is ∙ right-back (r .right) (kindWord (r .kind) ++ behind) h
+
+  root-back : RootTerms r → record { right = rightOf t; kind = 0; fresh = freshAt t 3 } ≡ r
+  root-back f =
+      let fresh : freshAt t 3 ≡ r .fresh =
+      ap (λ (k : ℕ). freshAt t (3 + length (kindWord k))) (sym (f .kind))
+      ∙ ap (λ (x : List ℕ). freshAt x (3 + length (kindWord (r .kind)))) is
+      ∙ fresh-back (bytes ")\n") refl (r .fresh) (f .fresh) (r .right) (r .kind)
+      in
+      λ i. record { right = right-found (f .right) i; kind = sym (f .kind) i; fresh = fresh i }
+
+  child-back : ChildTerms r → record { right = rightOf t; kind = kindOf t; fresh = 0 } ≡ r
+  child-back f =
+      let none : kindOf (0 ∷ 0 ∷ behind) ≡ 0 = rw (f .fresh) in
+      λ i. record {
+        right = right-found (f .right) i;
+        kind = (ap kindOf is ∙ kind-back behind none (r .right) (r .kind) (f .right) (f .kind)) i;
+        fresh = sym (f .fresh) i;
+      }
 
 -- the name and the span of a line that has both
 module _ (e w : List ℕ) (stop : Stops e) (plain : Plain w) (n : Name) (s : Span) (h : Below32 (n .0 ∷ spanNumbers s)) where
@@ -59,63 +88,60 @@ module _ (e w : List ℕ) (stop : Stops e) (plain : Plain w) (n : Name) (s : Spa
       span-is e stop s [] (h .1 .0) (h .1 .1 .0) (second e stop w plain (n .0) (s .start .0) (s .length ∷ [])) (third e stop w plain (n .0) (s .start .0) (s .length) [])
 
 -- a create and a borrow from their new names on, or whole: w is the new name or the word
-module _ (k : Spelling) (new : NewName) (w : List ℕ) (plain : Plain w) (r kind : ℕ) (h : isRight r ≡ true) where
+module _ (k : Spelling) (new : NewName) (w : List ℕ) (plain : Plain w) (r : Terms) where
   abbrev part : List ℕ → List ℕ
-  part ns = w ++ (spaced ns ++ ending r kind)
+  part ns = w ++ (spaced ns ++ ending r)
 
-  create-back : (s : Span) → Below32 (spanNumbers s) → newNameOf k (part (spanNumbers s)) ≡ new
+  create-back : RootTerms r → (s : Span) → Below32 (spanNumbers s) → newNameOf k (part (spanNumbers s)) ≡ new
       → createOf k (part (spanNumbers s)) ≡ Create new s r
   unfolding spaced
-  create-back s b is =
-      let e = ending r kind in
-      let stop = ending-stops r kind in
+  create-back f s b is =
+      let e = ending r in
+      let stop = ending-stops r in
       let one = first e stop w plain (s .start .0) (s .length ∷ []) in
       let two = second e stop w plain (s .start .0) (s .length) [] in
       let three = ap afterSpace two ∙ plain-decimal (s .length) e in
-      λ i. Create (is i) (span-is e stop s [] (b .0) (b .1 .0) one two i) ((ap rightOf three ∙ right-back r (kindWord kind ++ bytes ")\n") h) i)
+      λ i. Create (is i) (span-is e stop s [] (b .0) (b .1 .0) one two i) (root-back r three f i)
 
-  borrow-back : isKind kind ≡ true → (n : Name) (s : Span) → Below32 (n .0 ∷ spanNumbers s) → newNameOf k (part (n .0 ∷ spanNumbers s)) ≡ new
-      → borrowOf k (part (n .0 ∷ spanNumbers s)) ≡ Borrow new n s r kind
+  borrow-back : ChildTerms r → (n : Name) (s : Span) → Below32 (n .0 ∷ spanNumbers s) → newNameOf k (part (n .0 ∷ spanNumbers s)) ≡ new
+      → borrowOf k (part (n .0 ∷ spanNumbers s)) ≡ Borrow new n s r
   unfolding spaced
-  borrow-back g n s b is =
-      let e = ending r kind in
-      let stop = ending-stops r kind in
+  borrow-back f n s b is =
+      let e = ending r in
+      let stop = ending-stops r in
       let three = third e stop w plain (n .0) (s .start .0) (s .length) [] in
       let four = ap afterSpace three ∙ plain-decimal (s .length) e in
-      λ i. Borrow (is i) (name-back e w stop plain n s b i) (span-back e w stop plain n s b i) ((ap rightOf four ∙ right-back r (kindWord kind ++ bytes ")\n") h) i)
-      ((ap kindOf four ∙ kind-back (bytes ")\n") refl r kind h g) i)
+      λ i. Borrow (is i) (name-back e w stop plain n s b i) (span-back e w stop plain n s b i) (child-back r four f i)
 
 -- the new name of a line, at its front
-new-back : (x : Name) (r kind : ℕ) (ns : List ℕ) → x .0 < 2 ^ 32
-    → newNameOf Named (decimal (x .0) ++ (spaced ns ++ ending r kind)) ≡ Written x
-new-back x r kind ns h = ap Written (name-is (ending r kind) (ending-stops r kind) x ns h refl)
+new-back : (x : Name) (r : Terms) (ns : List ℕ) → x .0 < 2 ^ 32 → newNameOf Named (decimal (x .0) ++ (spaced ns ++ ending r)) ≡ Written x
+new-back x r ns h = ap Written (name-is (ending r) (ending-stops r) x ns h refl)
 
 -- what is guessed of a spelling is its event
 pub guess-spell : (k : Spelling) (e : Event) → hasSpelling k e ≡ true → InRange e → guess k (spell e) ≡ e
 unfolding spell hasSpelling writesName spaced through classOf numberFrom
 guess-spell Unnamed (Create Unwritten s r) h b =
     guess-create Unnamed (spell (Create Unwritten s r)) refl
-    ∙ create-back Unnamed Unwritten (bytes "(create") (λ t. refl) r 0 h s b refl
+    ∙ create-back Unnamed Unwritten (bytes "(create") (λ t. refl) r (root-terms Unnamed Unwritten s r h) s b refl
 guess-spell Unnamed (Create (Written x) s r) h b = clash h refl
 guess-spell Named (Create Unwritten s r) h b = clash h refl
 guess-spell Named (Create (Written x) s r) h b =
     let ns = spanNumbers s in
     guess-create Named (spell (Create (Written x) s r)) refl
-    ∙ ap (createOf Named) (next (ending r 0) (ending-stops r 0) (bytes "(create") (λ t. refl) (x .0) ns)
-    ∙ create-back Named (Written x) (decimal (x .0)) (plain-decimal (x .0)) r 0 h s (b .1) (new-back x r 0 ns (b .0))
-guess-spell Unnamed (Borrow Unwritten n s r kind) h b =
-    let both = and-both (isKind kind) (isRight r) h in
-    guess-borrow Unnamed (spell (Borrow Unwritten n s r kind)) refl
-    ∙ borrow-back Unnamed Unwritten (bytes "(borrow") (λ t. refl) r kind (both .1) (both .0) n s b refl
-guess-spell Unnamed (Borrow (Written x) n s r kind) h b = clash h refl
-guess-spell Named (Borrow Unwritten n s r kind) h b = clash h refl
-guess-spell Named (Borrow (Written x) n s r kind) h b =
-    let both = and-both (isKind kind) (isRight r) h in
+    ∙ ap (createOf Named) (next (ending r) (ending-stops r) (bytes "(create") (λ t. refl) (x .0) ns)
+    ∙ create-back Named (Written x) (decimal (x .0)) (plain-decimal (x .0)) r (root-terms Named (Written x) s r h) s (b .1)
+    (new-back x r ns (b .0))
+guess-spell Unnamed (Borrow Unwritten n s r) h b =
+    guess-borrow Unnamed (spell (Borrow Unwritten n s r)) refl
+    ∙ borrow-back Unnamed Unwritten (bytes "(borrow") (λ t. refl) r (child-terms Unnamed Unwritten s r n h) n s b refl
+guess-spell Unnamed (Borrow (Written x) n s r) h b = clash h refl
+guess-spell Named (Borrow Unwritten n s r) h b = clash h refl
+guess-spell Named (Borrow (Written x) n s r) h b =
     let ns = n .0 ∷ spanNumbers s in
-    guess-borrow Named (spell (Borrow (Written x) n s r kind)) refl
-    ∙ ap (borrowOf Named) (next (ending r kind) (ending-stops r kind) (bytes "(borrow") (λ t. refl) (x .0) ns)
-    ∙ borrow-back Named (Written x) (decimal (x .0)) (plain-decimal (x .0)) r kind (both .1) (both .0) n s (b .1)
-    (new-back x r kind ns (b .0))
+    guess-borrow Named (spell (Borrow (Written x) n s r)) refl
+    ∙ ap (borrowOf Named) (next (ending r) (ending-stops r) (bytes "(borrow") (λ t. refl) (x .0) ns)
+    ∙ borrow-back Named (Written x) (decimal (x .0)) (plain-decimal (x .0)) r (child-terms Named (Written x) s r n h) n s (b .1)
+    (new-back x r ns (b .0))
 guess-spell k (Read n s) h b =
     let e = bytes ")\n" in
     let w = bytes "(read" in

@@ -8,7 +8,7 @@ use Rattle.text.specs.Result.{value, refused}
 use Rattle.text.specs.Class.{classOf}
 use Rattle.text.specs.Line.{through, push, linesOf, partsOf}
 use Rattle.text.specs.Decimal.{numeral, decimal, numberFrom}
-use Rattle.text.specs.Event.{bytes, spaced, kindWord, ending, spanNumbers, writtenNumbers, spell, hasSpelling}
+use Rattle.text.specs.Event.{bytes, spaced, kindWord, freshWord, ending, spanNumbers, writtenNumbers, spell, hasSpelling}
 use Rattle.text.specs.Read.{same, guess, readEvent}
 use Rattle.text.proofs.Laws.Digits.{digits, digitAt, decimal-width}
 use Rattle.text.proofs.Laws.Number.{digit-class, digit-small}
@@ -16,6 +16,7 @@ use Rattle.text.proofs.Laws.Words.{either}
 use Rattle.text.proofs.Laws.OneSpelling.{read-is-spelling}
 use Rattle.text.specs.declared.spelling.Spelling.{Spelling}
 use Rattle.text.specs.declared.spelling.Spelling.the-variants.{Plain, Named}
+use Rattle.model.specs.declared.Terms.{Terms}
 use Rattle.model.specs.declared.Event.{Event}
 use Rattle.model.specs.declared.Event.the-variants.{Create, Borrow, Read, Write, Drop}
 
@@ -41,22 +42,27 @@ numbers-end [] e ends t = ends t
 numbers-end (n ∷ ns) e ends t =
     rw (append-assoc (decimal n) (spaced ns) e) (ap (push 32) (decimal-end n (spaced ns ++ e) (numbers-end ns e ends) t))
 
-kind-ends : (k : ℕ) → Ends (kindWord k ++ bytes ")\n")
+fresh-ends : (m : ℕ) → Ends (freshWord m ++ bytes ")\n")
 unfolding partsOf push classOf
-kind-ends k =
-    let ends : List ℕ → Type 0 = λ s. Ends (s ++ bytes ")\n") in
-    either ends (eqb k 0) _ _ (λ t. refl) (either ends (eqb k 1) _ _ (λ t. refl) (λ t. refl))
+fresh-ends m = either (λ s. Ends (s ++ bytes ")\n")) (eqb m 1) _ _ (λ t. refl) (λ t. refl)
 
-ending-ends : (r k : ℕ) → Ends (ending r k)
+kind-ends : (k m : ℕ) → Ends (kindWord k ++ (freshWord m ++ bytes ")\n"))
 unfolding partsOf push classOf
-ending-ends r k =
-    either (λ s. Ends (s ++ (kindWord k ++ bytes ")\n"))) (eqb r 1) _ _ (λ t. rw (kind-ends k t)) (λ t. rw (kind-ends k t))
+kind-ends k m =
+    let ends : List ℕ → Type 0 = λ s. Ends (s ++ (freshWord m ++ bytes ")\n")) in
+    either ends (eqb k 0) _ _ (fresh-ends m) (either ends (eqb k 1) _ _ (λ t. rw (fresh-ends m t)) (λ t. rw (fresh-ends m t)))
+
+ending-ends : (r : Terms) → Ends (ending r)
+unfolding partsOf push classOf
+ending-ends r =
+    let last = kind-ends (r .kind) (r .fresh) in
+    either (λ s. Ends (s ++ (kindWord (r .kind) ++ (freshWord (r .fresh) ++ bytes ")\n")))) (eqb (r .right) 1) _ _ (λ t. rw (last t)) (λ t. rw (last t))
 
 -- the lines of a text that begins with an event's spelling are that and the lines of the rest
 pub spell-is-line : (e : Event) (t : List ℕ) → linesOf (spell e ++ t) ≡ spell e ∷ linesOf t
 unfolding spell partsOf push classOf
-spell-is-line (Create w s r) t = rw (numbers-end (writtenNumbers w ++ spanNumbers s) (ending r 0) (ending-ends r 0) t)
-spell-is-line (Borrow w n s r kind) t = rw (numbers-end (writtenNumbers w ++ (n .0 ∷ spanNumbers s)) (ending r kind) (ending-ends r kind) t)
+spell-is-line (Create w s r) t = rw (numbers-end (writtenNumbers w ++ spanNumbers s) (ending r) (ending-ends r) t)
+spell-is-line (Borrow w n s r) t = rw (numbers-end (writtenNumbers w ++ (n .0 ∷ spanNumbers s)) (ending r) (ending-ends r) t)
 spell-is-line (Read n s) t = rw (numbers-end (n .0 ∷ spanNumbers s) (bytes ")\n") (λ t. refl) t)
 spell-is-line (Write n s) t = rw (numbers-end (n .0 ∷ spanNumbers s) (bytes ")\n") (λ t. refl) t)
 spell-is-line (Drop n) t = rw (numbers-end (n .0 ∷ []) (bytes ")\n") (λ t. refl) t)

@@ -7,10 +7,11 @@ use Prim.Native.String.{String}
 use Rattle.model.specs.Lists.{all}
 use Rattle.model.specs.Derivation.{ancestry, onAncestry}
 use Rattle.model.specs.Strike.{origin, strike, reached, struck}
-use Rattle.model.specs.Table.{liveRows, lentTable, lookup, isEmptyRow, liveRowsFirst, rowFitsParent, parentInOrder, rowInOrder, rowsInOrder, inOrder}
+use Rattle.model.specs.Table.{termsInOrder, liveRows, lentTable, lookup, isEmptyRow, liveRowsFirst, rowFitsParent, parentInOrder, rowInOrder, rowsInOrder, inOrder}
 use Rattle.model.specs.Requests.{risesAbove, risesStrictly, isGroup}
-use Rattle.model.specs.Refusals.{standings, refusals, judge}
+use Rattle.model.specs.Refusals.{notWritten, standings, refusals, judge}
 use Rattle.model.specs.Effects.{revoke, afterAccess, rowsWithout, rowsAfter}
+use Rattle.model.specs.Bits.{hasBit, withBit, bitAt, putAt, putFrom, bitsAfter, allWritten}
 use Rattle.model.specs.Step.{answer, after}
 use Rattle.text.specs.Group.{spellGroup, namesFrom, guessNames, readGroup}
 use Rattle.text.specs.Class.{classOf}
@@ -58,6 +59,12 @@ thinned =
     ∷ ("(create 0 8 rw)\n(borrow 1 0 8 rw)\n(borrow 1 0 8 rw)\n(write 2 0 8)\n", "(allowed 4)\n(issued 3)\n(1 0 8 rw (2 0 8 rw))\n")
     ∷ []
 
-printed : all (λ e. same (checkText (bytes (e .0))) (bytes (e .1))) (examples ++ (kinds ++ thinned)) ≡ true
-unfolding examples kinds thinned ancestry onAncestry origin strike reached struck liveRows lentTable lookup isEmptyRow liveRowsFirst rowFitsParent parentInOrder rowInOrder rowsInOrder inOrder refusals judge revoke afterAccess rowsAfter answer after risesAbove risesStrictly isGroup standings rowsWithout spellGroup namesFrom guessNames readGroup classOf through push partsOf numeral decimal numberFrom spaced spell hasSpelling writesName same guess readEvent pieces form children roots listed runLines runTrace runFrom answerLine checkText
+-- card 9: memory that is used again after all of it was written, and is read where it is not yet written
+writtenFirst : List (String × String)
+writtenFirst =
+    ("(create 0 8 rw)\n(write 1 0 8)\n(create 0 8 rw fresh)\n(write 2 0 4)\n(borrow 2 0 8 ro)\n(read 3 0 4)\n(read 3 0 8)\n", "(refused 16 7)\n(issued 3)\n(2 0 8 rw fresh (3 0 8 ro fresh))\n")
+    ∷ []
+
+printed : all (λ e. same (checkText (bytes (e .0))) (bytes (e .1))) (examples ++ (kinds ++ (thinned ++ writtenFirst))) ≡ true
+unfolding examples kinds thinned writtenFirst ancestry onAncestry origin strike reached struck liveRows lentTable lookup isEmptyRow liveRowsFirst rowFitsParent parentInOrder rowInOrder rowsInOrder inOrder refusals judge revoke afterAccess rowsAfter answer after risesAbove risesStrictly isGroup standings rowsWithout spellGroup namesFrom guessNames readGroup classOf through push partsOf numeral decimal numberFrom spaced spell hasSpelling writesName same guess readEvent pieces form children roots listed runLines runTrace runFrom answerLine checkText termsInOrder notWritten hasBit withBit bitAt putAt putFrom bitsAfter allWritten
 printed = refl

@@ -1,7 +1,7 @@
 -- How long what `capcheck` prints can be.
 -- Assumes nothing.
 use mathlib.Core.Path.{_≡_, refl, ap, _∙_}
-use mathlib.Core.Bool.{Bool, true, false, cond}
+use mathlib.Core.Bool.{Bool, true, false, not, cond}
 use mathlib.Core.List.{List, [], _∷_, _++_}
 use Prim.Native.Nat.{ℕ, zero, suc, _+_, _≤_}
 use native.Mathlib.Omega.{arith}
@@ -14,10 +14,10 @@ use Rattle.model.specs.declared.Cap.{Cap}
 use Rattle.model.specs.declared.Event.{Event}
 use Rattle.model.specs.declared.Event.the-variants.{Create, Borrow, Read, Write, Drop}
 use Rattle.model.specs.Lists.{all, first}
-use Rattle.model.specs.Table.{liveRows, inOrder}
+use Rattle.model.specs.Table.{liveRows}
 use Rattle.model.specs.Requests.{Request, Single, Group}
-use Rattle.model.specs.Refusals.{viewOf, standings, refusals, judge}
-use Rattle.model.specs.Step.{State, initial, answer}
+use Rattle.model.specs.Refusals.{View, unfit, standings, refusals, judge}
+use Rattle.model.specs.Step.{State, view, initial, answer}
 use Rattle.model.proofs.Offered.{and-both}
 use Rattle.text.specs.Event.{spaced}
 use Rattle.text.specs.Line.{linesOf}
@@ -37,71 +37,71 @@ use Rattle.trace.specs.Check.{answerLine, noCounts, checkText}
 use Rattle.trace.proofs.Laws.Order.{turned, of-trace, number-run}
 use Rattle.trace.proofs.Laws.Report.{answer-allowed, answer-refused, long-text, ran-order, ran-report}
 
--- ---- no refusal has a number above 13
+-- ---- no refusal has a number above 16
 
-abbrev upTo13 : List (ℕ × Bool) → Bool
-upTo13 cs = all (λ c. leb (c .0) 13) cs
+abbrev upTo16 : List (ℕ × Bool) → Bool
+upTo16 cs = all (λ c. leb (c .0) 16) cs
 
-first-most : (cs : List (ℕ × Bool)) → upTo13 cs ≡ true → first cs ≤ 13
+first-most : (cs : List (ℕ × Bool)) → upTo16 cs ≡ true → first cs ≤ 16
 first-most [] h = omega arith
 first-most (c ∷ cs) h =
-    let p = and-both (leb (c .0) 13) (upTo13 cs) h in
-    go (c .1) (leb-true (c .0) 13 (p .0)) (first-most cs (p .1))
+    let p = and-both (leb (c .0) 16) (upTo16 cs) h in
+    go (c .1) (leb-true (c .0) 16 (p .0)) (first-most cs (p .1))
   where
-    go : (t : Bool) → c .0 ≤ 13 → first cs ≤ 13 → cond t (c .0) (first cs) ≤ 13
+    go : (t : Bool) → c .0 ≤ 16 → first cs ≤ 16 → cond t (c .0) (first cs) ≤ 16
     go true l ih = l
     go false l ih = ih
 
-standings-most : (rows : List Cap) (i : ℕ) (names : List ℕ) → upTo13 (standings rows i names) ≡ true
+standings-most : (rows : List Cap) (i : ℕ) (names : List ℕ) → upTo16 (standings rows i names) ≡ true
 unfolding standings
 standings-most rows i [] = refl
 standings-most rows i (u ∷ names) = standings-most rows i names
 
-refusals-most : (t : List Cap) (i : ℕ) (q : Request) → upTo13 (refusals (viewOf t i) q) ≡ true
+refusals-most : (v : View) (q : Request) → upTo16 (refusals v q) ≡ true
 unfolding refusals
-refusals-most t i (Single (Create w s r)) = refl
-refusals-most t i (Single (Borrow w u s r kind)) = refl
-refusals-most t i (Single (Read u s)) = refl
-refusals-most t i (Single (Write u s)) = refl
-refusals-most t i (Single (Drop u)) = refl
-refusals-most t i (Group names) = standings-most (liveRows t) i names
+refusals-most v (Single (Create w s r)) = refl
+refusals-most v (Single (Borrow w u s r)) = refl
+refusals-most v (Single (Read u s)) = refl
+refusals-most v (Single (Write u s)) = refl
+refusals-most v (Single (Drop u)) = refl
+refusals-most v (Group names) = standings-most (liveRows (v .table)) (v .issued) names
 
-judge-most : (t : List Cap) (i : ℕ) (q : Request) → judge (viewOf t i) q ≤ 13
+judge-most : (v : View) (q : Request) → judge v q ≤ 16
 unfolding judge
-judge-most t i q = first-most (refusals (viewOf t i) q) (refusals-most t i q)
+judge-most v q = first-most (refusals v q) (refusals-most v q)
 
 module _ (sheet : Sheet) where
-  line-most : (k : Spelling) (h : State) (l : List ℕ) → takeLine (lent sheet) k h l .refusal ≤ 13
+  line-most : (k : Spelling) (h : State) (l : List ℕ) → takeLine (lent sheet) k h l .refusal ≤ 16
   unfolding answer
   line-most k h l = event (readEvent k l)
     where
-      group : (r : Result (List ℕ)) → ((n : ℕ) → r ≡ refused n → n ≡ 2) → takeRead (lent sheet) h (groupOf r) .refusal ≤ 13
-      group (value names) two = judge-most (h .table) (h .tally .issued) (Group names)
+      group : (r : Result (List ℕ)) → ((n : ℕ) → r ≡ refused n → n ≡ 2) → takeRead (lent sheet) h (groupOf r) .refusal ≤ 16
+      group (value names) two = judge-most (view h) (Group names)
       group (refused n) two = omega (arith, two n refl)
 
-      event : (r : Result Event) → takeRead (lent sheet) h (orGroup l r) .refusal ≤ 13
-      event (value e) = judge-most (h .table) (h .tally .issued) (Single e)
+      event : (r : Result Event) → takeRead (lent sheet) h (orGroup l r) .refusal ≤ 16
+      event (value e) = judge-most (view h) (Single e)
       event (refused n) = group (readGroup l) (refused-group-is-2 l)
 
-  lines-most : (k : Spelling) (before : ℕ) (h : State) (ls : List (List ℕ)) → runLines (lent sheet) k before h ls .refusal ≤ 13
+  lines-most : (k : Spelling) (before : ℕ) (h : State) (ls : List (List ℕ)) → runLines (lent sheet) k before h ls .refusal ≤ 16
   unfolding runLines
   lines-most k before h [] = omega arith
   lines-most k before h (l ∷ ls) =
       let t = takeLine (lent sheet) k h l in
-      turned (λ (r : Ran State). r .refusal ≤ 13) (eqb (t .refusal) 0) (runLines (lent sheet) k (before + 1) (t .state) ls) (record { refusal = t .refusal; number = before + 1; state = t .state })
+      turned (λ (r : Ran State). r .refusal ≤ 16) (eqb (t .refusal) 0) (runLines (lent sheet) k (before + 1) (t .state) ls) (record { refusal = t .refusal; number = before + 1; state = t .state })
       (lines-most k (before + 1) (t .state) ls) (line-most k h l)
 
-  pub refusal-run : (h : State) (text : List ℕ) → run sheet h text .refusal ≤ 13
+  pub refusal-run : (h : State) (text : List ℕ) → run sheet h text .refusal ≤ 16
   unfolding runFrom
   refusal-run h text =
-      turned (λ (r : Ran State). r .refusal ≤ 13) (inOrder (h .table) (h .tally .issued)) (runTrace (lent sheet) h (linesOf text)) (record { refusal = 1; number = 0; state = h })
-      (of-trace sheet (λ (r : Ran State). r .refusal ≤ 13) h (linesOf text) (lines-most Plain 0 h (linesOf text)) (λ line rest e. lines-most Named 1 h rest))
+      turned (λ (r : Ran State). r .refusal ≤ 16) (not (unfit (view h))) (runTrace (lent sheet) h (linesOf text)) (record { refusal = 1; number = 0; state = h })
+      (of-trace sheet (λ (r : Ran State). r .refusal ≤ 16) h (linesOf text) (lines-most Plain 0 h (linesOf text)) (λ line rest e. lines-most Named 1 h rest))
       (omega arith)
 
 -- ---- the line of an answer, and all that is printed
 
--- at most `(refused 13 65536)` and a newline
-answer-fits : (r n : ℕ) → r ≤ 13 → n ≤ 65536 → length (answerLine r n) ≤ 19
+-- at most `(refused 16 65536)` and a newline
+answer-fits : (r n : ℕ) → r ≤ 16 → n ≤ 65536 → length (answerLine r n) ≤ 19
 unfolding spaced
 answer-fits zero n few lines = rw (answer-allowed 0 n refl) (simp length-append (omega (arith, decimal-under n 4 (omega arith))))
 answer-fits (suc r) n few lines =
@@ -116,8 +116,8 @@ check-fits input = go (leb (length input) 65536) refl
         let r = run sheet6 (initial 1024 noCounts) input in
         let few = leb-true (length input) 65536 e in
         let first = answer-fits (r .refusal) (r .number) (refusal-run sheet6 (initial 1024 noCounts) input) (omega (arith, number-run sheet6 (initial 1024 noCounts) input)) in
-        let second = listing-fits (r .state .table) (r .state .tally .issued) (ran-order input r refl) in
-        omega (arith, ap length (ran-report input r refl few), length-append (answerLine (r .refusal) (r .number)) (listing (r .state .table) (r .state .tally .issued)))
+        let second = listing-fits (r .state .memory .table) (r .state .tally .issued) (ran-order input r refl) in
+        omega (arith, ap length (ran-report input r refl few), length-append (answerLine (r .refusal) (r .number)) (listing (r .state .memory .table) (r .state .tally .issued)))
     go false e = omega (arith, ap length (long-text input (leb-false (length input) 65536 e)))
 
 -- ---- a buffer of 39,968 bytes

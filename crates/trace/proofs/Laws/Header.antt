@@ -9,7 +9,7 @@ use lib.ListN.{length, drop}
 use lib.Seq.{length-take-le}
 use Rattle.model.specs.declared.Sheet.{Sheet}
 use Rattle.model.specs.declared.Tally.{Tally}
-use Rattle.model.specs.Table.{inOrder}
+use Rattle.model.specs.Step.{State}
 use Rattle.table.specs.Words.{rowsIn}
 use Rattle.rules.specs.Steps.{lends}
 use Rattle.text.specs.Class.{newline}
@@ -19,6 +19,7 @@ use Rattle.text.specs.declared.spelling.Spelling.the-variants.{Plain, Named}
 use Rattle.text.proofs.Offered.{parts-next, through-le, same-refl, same-true}
 use Rattle.trace.specs.declared.run.RunOutcome.{RunOutcome}
 use Rattle.trace.specs.Run.{header, Checker, runLines, runTrace, runFrom, lent, run, Runs, RunsLines}
+use Rattle.trace.proofs.Laws.Turn.{Fit}
 
 -- a text whose first line is the header has its ten bytes in front
 module _ (text : List ℕ) (h : same (nextLine text) header ≡ true) where
@@ -45,14 +46,14 @@ trace-plain [] h c s = refl
 trace-plain (b ∷ t) h c s = rw (parts-next newline (b ∷ t) (omega arith), h)
 
 module _ (sheet : Sheet) where
-  -- a run of a table in order goes by its lines
-  in-order : (ws : List (List ℕ)) (t : Tally) (text : List ℕ) → inOrder (rowsIn ws) (t .issued) ≡ true → runTrace (lent sheet) (lends (rowsIn ws) t) (linesOf text) ≡ run sheet (lends (rowsIn ws) t) text
+  -- a run on what is fit goes by its lines
+  by-lines : (h : State) (text : List ℕ) → Fit h → runTrace (lent sheet) h (linesOf text) ≡ run sheet h text
   unfolding runFrom
-  in-order ws t text o = rw o
+  by-lines h text f = rw f
 
-  module _ (ws : List (List ℕ)) (t : Tally) (text : List ℕ) (o : inOrder (rowsIn ws) (t .issued) ≡ true) {ws′ : List (List ℕ)} {r : RunOutcome} where
-    pub runs-named : same (nextLine text) header ≡ true → {rest : List ℕ} → rest ≡ drop 10 text → RunsLines sheet Named 1 ws t rest ws′ r → Runs sheet ws t text ws′ r
-    runs-named h e k = record { ran = k .ran ∙ ap (λ (l : List ℕ). runLines (lent sheet) Named 1 (lends (rowsIn ws) t) (linesOf l)) e ∙ sym (trace-named text h (lent sheet) (lends (rowsIn ws) t)) ∙ in-order ws t text o }
+  module _ (ws : List (List ℕ)) (bs : List ℕ) (t : Tally) (text : List ℕ) (f : Fit (lends (rowsIn ws) bs t)) {ws′ : List (List ℕ)} {bs′ : List ℕ} {r : RunOutcome} where
+    pub runs-named : same (nextLine text) header ≡ true → {rest : List ℕ} → rest ≡ drop 10 text → RunsLines sheet Named 1 ws bs t rest ws′ bs′ r → Runs sheet ws bs t text ws′ bs′ r
+    runs-named h e k = record { ran = k .ran ∙ ap (λ (l : List ℕ). runLines (lent sheet) Named 1 (lends (rowsIn ws) bs t) (linesOf l)) e ∙ sym (trace-named text h (lent sheet) (lends (rowsIn ws) bs t)) ∙ by-lines (lends (rowsIn ws) bs t) text f }
 
-    pub runs-plain : same (nextLine text) header ≡ false → RunsLines sheet Plain 0 ws t text ws′ r → Runs sheet ws t text ws′ r
-    runs-plain h k = record { ran = k .ran ∙ sym (trace-plain text h (lent sheet) (lends (rowsIn ws) t)) ∙ in-order ws t text o }
+    pub runs-plain : same (nextLine text) header ≡ false → RunsLines sheet Plain 0 ws bs t text ws′ bs′ r → Runs sheet ws bs t text ws′ bs′ r
+    runs-plain h k = record { ran = k .ran ∙ sym (trace-plain text h (lent sheet) (lends (rowsIn ws) bs t)) ∙ by-lines (lends (rowsIn ws) bs t) text f }

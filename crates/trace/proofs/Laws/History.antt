@@ -1,16 +1,15 @@
 -- A run of a trace from an empty table has the history's verdicts: by the theorem about lists of events, line by line.
 -- Assumes nothing.
-use mathlib.Core.Path.{_≡_, refl, ap, ap₂}
-use mathlib.Core.Bool.{Bool, true, false, cond}
+use mathlib.Core.Path.{_≡_, refl, ap}
+use mathlib.Core.Bool.{Bool, true, false, not, cond}
 use mathlib.Core.List.{List, [], _∷_}
 use Prim.Native.Nat.{ℕ, _+_}
 use lib.Dec.{eqb}
-use Rattle.model.specs.declared.Cap.{Cap}
 use Rattle.model.specs.Requests.{Request}
 use Rattle.model.specs.declared.Tally.{Tally}
-use Rattle.model.specs.Table.{inOrder}
+use Rattle.model.specs.Refusals.{unfit}
 use Rattle.model.specs.declared.Sheet.{Sheet}
-use Rattle.model.specs.Step.{Verdict, State, initial}
+use Rattle.model.specs.Step.{Verdict, State, view, initial}
 use Rattle.model.specs.Step
 use Rattle.model.specs.History.{History, emptyHistory}
 use Rattle.model.specs.History
@@ -41,7 +40,7 @@ module _ (sheet : Sheet) (n : ℕ) where
       go : (r : Result Request) → SameLine (takeRead (lent sheet) h r) (takeRead (noted sheet n) H r)
       go (value q) =
           record { refusals = ap (λ (v : Verdict). v .refusal) (match-answer sheet n h H m q); match = match-after sheet n h H m q }
-      go (refused x) = record { refusals = refl; match = record { same-table = m .same-table; same-issued = m .same-issued; kept = m .kept } }
+      go (refused x) = record { refusals = refl; match = record { memory = m .memory; same-issued = m .same-issued } }
 
   same-lines : (k : Spelling) (before : ℕ) (h : State) (H : History) → Match sheet n h H → (ls : List (List ℕ)) → Same (runLines (lent sheet) k before h ls) (runLines (noted sheet n) k before H ls)
   unfolding runLines
@@ -71,8 +70,11 @@ module _ (sheet : Sheet) (n : ℕ) where
 
   same-from : (h : State) (H : History) → Match sheet n h H → (text : List ℕ) → Same (runFrom (lent sheet) h text) (runFrom (noted sheet n) H text)
   unfolding runFrom
-  same-from h H m text = rw (ap₂ (λ (t : List Cap) (i : ℕ). inOrder t i) (m .same-table) (m .same-issued)) (go (inOrder (History.table sheet n (H .notes)) (H .count)))
+  same-from h H m text = rw judged (go (not (unfit (History.view sheet n (H .notes) (H .count)))))
     where
+      judged : not (unfit (view h)) ≡ not (unfit (History.view sheet n (H .notes) (H .count)))
+      judged = rw (m .memory .same-table, m .same-issued, m .memory .bits .size)
+
       go : (b : Bool) → Same (cond b (runTrace (lent sheet) h (linesOf text)) (record { refusal = 1; number = 0; state = h })) (cond b (runTrace (noted sheet n) H (linesOf text)) (record { refusal = 1; number = 0; state = H }))
       go true = same-trace h H m (linesOf text)
       go false = record { refusals = refl; numbers = refl; match = m }
@@ -80,4 +82,10 @@ module _ (sheet : Sheet) (n : ℕ) where
 pub same-run : (sheet : Sheet) (n : ℕ) (t : Tally) → t .issued ≡ 0 → (text : List ℕ) → SameRun sheet n t text
 same-run sheet n t z text =
     let s = same-from sheet n (initial n t) emptyHistory (at-first sheet n t z) text in
-    record { same-refusal = s .refusals; same-number = s .numbers; same-table = s .match .same-table; same-issued = s .match .same-issued }
+    record {
+      same-refusal = s .refusals;
+      same-number = s .numbers;
+      same-table = s .match .memory .same-table;
+      same-bits = s .match .memory .bits .told;
+      same-issued = s .match .same-issued;
+    }

@@ -1,26 +1,25 @@
--- A run keeps a table in order, refuses one that is not, and its line number is at most the number of bytes.
+-- A run keeps what is lent fit, and a table in order, refuses what is not fit, and its line number is at most the number of bytes.
 -- Assumes nothing.
 use mathlib.Core.Path.{_≡_, refl, ap}
 use mathlib.Core.Logic.{_⊎_, inl, inr}
-use mathlib.Core.Bool.{Bool, true, false, cond}
+use mathlib.Core.Bool.{Bool, true, false, not, cond}
 use mathlib.Core.List.{List, [], _∷_}
 use Prim.Native.Nat.{ℕ, suc, _+_, _≤_, _<_}
 use native.Mathlib.Omega.{arith}
 use lib.Dec.{eqb}
 use lib.ListN.{length}
 use Rattle.model.specs.declared.Sheet.{Sheet}
-use Rattle.model.specs.Step.{State}
+use Rattle.model.specs.Step.{State, view}
 use Rattle.model.specs.Table.{inOrder}
+use Rattle.model.specs.Refusals.{unfit}
+use Rattle.model.proofs.Offered.{fit-order, test}
 use Rattle.text.specs.Class.{classOf, newline}
 use Rattle.text.specs.Line.{push, linesOf, partsOf}
 use Rattle.text.specs.Read.{same}
 use Rattle.text.specs.declared.spelling.Spelling.{Spelling}
 use Rattle.text.specs.declared.spelling.Spelling.the-variants.{Plain, Named}
 use Rattle.trace.specs.Run.{header, Ran, takeLine, runLines, runTrace, runFrom, lent, run}
-use Rattle.trace.proofs.Laws.Turn.{line-order}
-
-abbrev pub Ordered : State → Type 0
-Ordered h = inOrder (h .table) (h .tally .issued) ≡ true
+use Rattle.trace.proofs.Laws.Turn.{Fit, line-fit}
 
 -- a turn of a run, for what holds of the rest of it and of an end at this line
 pub turned : {S : Type 0} (P : Ran S → Type 0) (t : Bool) (rest end : Ran S) → P rest → P end → P (cond t rest end)
@@ -46,12 +45,12 @@ lines-few (b ∷ s) = go (eqb (classOf b) newline) (linesOf s) (lines-few s)
     go false (l ∷ ls) h = omega arith
 
 module _ (sheet : Sheet) where
-  order-lines : (k : Spelling) (before : ℕ) (h : State) (ls : List (List ℕ)) → Ordered h → Ordered (runLines (lent sheet) k before h ls .state)
+  fit-lines : (k : Spelling) (before : ℕ) (h : State) (ls : List (List ℕ)) → Fit h → Fit (runLines (lent sheet) k before h ls .state)
   unfolding runLines
-  order-lines k before h [] o = o
-  order-lines k before h (l ∷ ls) o =
+  fit-lines k before h [] o = o
+  fit-lines k before h (l ∷ ls) o =
       let t = takeLine (lent sheet) k h l in
-      turned (λ (r : Ran State). Ordered (r .state)) (eqb (t .refusal) 0) (runLines (lent sheet) k (before + 1) (t .state) ls) (record { refusal = t .refusal; number = before + 1; state = t .state }) (order-lines k (before + 1) (t .state) ls (line-order sheet k h l o)) (line-order sheet k h l o)
+      turned (λ (r : Ran State). Fit (r .state)) (eqb (t .refusal) 0) (runLines (lent sheet) k (before + 1) (t .state) ls) (record { refusal = t .refusal; number = before + 1; state = t .state }) (fit-lines k (before + 1) (t .state) ls (line-fit sheet k h l o)) (line-fit sheet k h l o)
 
   -- what holds of the lines in either spelling holds of a trace
   pub of-trace : (P : Ran State → Type 0) (h : State) (ls : List (List ℕ)) → P (runLines (lent sheet) Plain 0 h ls) → ((line : List ℕ) (rest : List (List ℕ)) → ls ≡ line ∷ rest → P (runLines (lent sheet) Named 1 h rest))
@@ -60,15 +59,23 @@ module _ (sheet : Sheet) where
   of-trace P h [] p q = p
   of-trace P h (line ∷ ls) p q = turned P (same line header) (runLines (lent sheet) Named 1 h ls) (runLines (lent sheet) Plain 0 h (line ∷ ls)) (q line ls refl) p
 
-  pub order-run : (h : State) (text : List ℕ) → Ordered h → Ordered (run sheet h text .state)
+  fit-run : (h : State) (text : List ℕ) → Fit h → Fit (run sheet h text .state)
   unfolding runFrom
-  order-run h text o =
-      rw o (of-trace (λ (r : Ran State). Ordered (r .state)) h (linesOf text) (order-lines Plain 0 h (linesOf text) o) (λ line rest e. order-lines Named 1 h rest o))
+  fit-run h text o =
+      rw o (of-trace (λ (r : Ran State). Fit (r .state)) h (linesOf text) (fit-lines Plain 0 h (linesOf text) o) (λ line rest e. fit-lines Named 1 h rest o))
 
-  -- a table that is not in order is refused before any line
-  pub refused-run : (h : State) (text : List ℕ) → inOrder (h .table) (h .tally .issued) ≡ false → run sheet h text ≡ record { refusal = 1; number = 0; state = h }
+  -- what is unfit is refused before any line
+  pub refused-run : (h : State) (text : List ℕ) → unfit (view h) ≡ true → run sheet h text ≡ record { refusal = 1; number = 0; state = h }
   unfolding runFrom
   refused-run h text d = rw d
+
+  -- a table in order stays so, whatever the bits are
+  pub order-run : (h : State) (text : List ℕ) → inOrder (h .memory .table) (h .tally .issued) ≡ true → inOrder (run sheet h text .state .memory .table) (run sheet h text .state .tally .issued) ≡ true
+  order-run h text o = go (test (unfit (view h)))
+    where
+      go : (unfit (view h) ≡ true) ⊎ Fit h → inOrder (run sheet h text .state .memory .table) (run sheet h text .state .tally .issued) ≡ true
+      go (inl d) = rw (refused-run h text d) o
+      go (inr f) = fit-order (view (run sheet h text .state)) (fit-run h text f)
 
   pub refused-line : (k : Spelling) (before : ℕ) (h : State) (ls : List (List ℕ)) → Behind before (runLines (lent sheet) k before h ls)
   unfolding runLines
@@ -92,7 +99,7 @@ module _ (sheet : Sheet) where
   pub number-run : (h : State) (text : List ℕ) → run sheet h text .number ≤ length text
   unfolding runFrom
   number-run h text =
-      turned (λ (r : Ran State). r .number ≤ length text) (inOrder (h .table) (h .tally .issued)) (runTrace (lent sheet) h (linesOf text)) (record { refusal = 1; number = 0; state = h })
+      turned (λ (r : Ran State). r .number ≤ length text) (not (unfit (view h))) (runTrace (lent sheet) h (linesOf text)) (record { refusal = 1; number = 0; state = h })
       (of-trace (λ (r : Ran State). r .number ≤ length text) h (linesOf text) (omega (arith, number-lines Plain 0 h (linesOf text), lines-few text))
       (λ line rest e. omega (arith, number-lines Named 1 h rest, lines-few text, ap length e)))
       (omega arith)

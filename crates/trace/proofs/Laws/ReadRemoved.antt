@@ -19,8 +19,8 @@ use Rattle.model.specs.declared.Tally.{Tally}
 use Rattle.model.specs.Lists.{all, without, answers, final}
 use Rattle.model.specs.Requests.{Request, Single}
 use Rattle.model.specs.Sheet6.{sheet6}
-use Rattle.model.specs.Step.{State, initial, isAllowed, answer, after}
-use Rattle.model.specs.Table.{inOrder}
+use Rattle.model.specs.Step.{State, view, initial, isAllowed, answer, after}
+use Rattle.model.specs.Refusals.{unfit}
 use Rattle.model.specs.ReadRemoved.{NoReadEnds, OnlyRights, readStrikes, ReadRemoved}
 use Rattle.model.proofs.Offered.{test, and-both, all-append, answers-append, read-removed, no-read-ends}
 use Rattle.text.specs.Class.{classOf, newline}
@@ -41,6 +41,7 @@ use Rattle.trace.specs.Check.{answerLine, listingOf, noCounts}
 use Rattle.trace.specs.Spellings.{checked}
 use Rattle.trace.specs.ReadRemoved.{withoutLine, IsRead, LineRemoved, ChecksRemoved}
 use Rattle.trace.proofs.Laws.Allowed.{isRequest, allRequests, consRequest, requests, requests-append, AllAllowed, Allowed, allowed-lines, Front, none, first, front-run, TraceOf, trace-of}
+use Rattle.trace.proofs.Laws.Turn.{Fit}
 use Rattle.trace.proofs.Laws.Order.{refused-run}
 use Rattle.trace.proofs.Laws.Stops.{lines-first}
 use Rattle.trace.proofs.Laws.Spellings.{header-misread, ran-text}
@@ -126,16 +127,16 @@ is-read j k text u s = go (readEvent j line) refl
 -- ---- card 8
 
 module _ (sheet : Sheet) (h : State) (k : ℕ) (text : List ℕ) (u : Name) (s : Span) (r : IsRead k text u s) (z : run sheet h text .refusal ≡ 0) where
-  in-order : inOrder (h .table) (h .tally .issued) ≡ true
-  in-order = go (test (inOrder (h .table) (h .tally .issued)))
+  fit : Fit h
+  fit = go (test (unfit (view h)))
     where
-      go : (inOrder (h .table) (h .tally .issued) ≡ true) ⊎ (inOrder (h .table) (h .tally .issued) ≡ false) → inOrder (h .table) (h .tally .issued) ≡ true
-      go (inl o) = o
-      go (inr d) = absurd (let one = ap (λ (q : Ran State). q .refusal) (refused-run sheet h text d) in omega arith)
+      go : (unfit (view h) ≡ true) ⊎ Fit h → Fit h
+      go (inl d) = absurd (let one = ap (λ (q : Ran State). q .refusal) (refused-run sheet h text d) in omega arith)
+      go (inr f) = f
 
   run-is : (t : List ℕ) → run sheet h t ≡ runTrace (lent sheet) h (linesOf t)
   unfolding runFrom
-  run-is t = rw in-order
+  run-is t = rw fit
 
   t : TraceOf sheet h (linesOf text)
   t = trace-of sheet h (linesOf text) (ap (λ (q : Ran State). q .refusal) (sym (run-is text)) ∙ z)
@@ -216,7 +217,7 @@ module _ (sheet : Sheet) (h : State) (k : ℕ) (text : List ℕ) (u : Name) (s :
     same-listing =
         let without-read = run sheet h (withoutLine k text) .state in
         let strikes = readStrikes sheet (run sheet h (firstLines k text) .state) u s in
-        rw (rights .exactly, ap (λ (y : Tally). y .issued) (rights .one-read-more)) (lowered-listing strikes (without-read .table) (without-read .tally .issued))
+        rw (rights .exactly, ap (λ (y : Tally). y .issued) (rights .one-read-more)) (lowered-listing strikes (without-read .memory .table) (without-read .tally .issued))
 
     line-removed : LineRemoved sheet h k text u s
     line-removed =

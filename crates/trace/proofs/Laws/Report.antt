@@ -124,7 +124,7 @@ long-text input l = sym (rw (lt-leb (length input) 65536 l))
 
 -- a row whose words are zeros
 abbrev pub zeroRow : List ℕ
-zeroRow = replicate 7 0
+zeroRow = replicate 8 0
 
 -- 1,024 of them are 1,024 empty rows
 abbrev zeros : List (List ℕ)
@@ -138,15 +138,19 @@ empty-rows : rowsIn zeros ≡ replicate 1024 emptyRow
 unfolding rowsIn
 empty-rows = rows-empty 1024
 
-pub ran-is : {bytes input : List ℕ} {ws′ : List (List ℕ)} {r : RunOutcome} → bytes ≡ bytes6 → Runs (sheetIn bytes) zeros noCounts input ws′ r → {a : RunAnswer} → r .answer ≡ a
-    → ranOf a (lends (rowsIn ws′) (r .tally)) ≡ run sheet6 (initial 1024 noCounts) input
-ran-is {bytes} {input} {ws′} {r} six k e =
-    ap (λ (a : RunAnswer). ranOf a (lends (rowsIn ws′) (r .tally))) (sym e) ∙ k .ran
-    ∙ ap₂ (λ (sheet : Sheet) (t : List Cap). run sheet (record { table = t; tally = noCounts }) input) (ap sheetIn six ∙ bytes6-is) empty-rows
+-- bits of which none is set
+abbrev noBits : List ℕ
+noBits = replicate 8192 0
+
+pub ran-is : {bytes input : List ℕ} {ws′ : List (List ℕ)} {bs′ : List ℕ} {r : RunOutcome} → bytes ≡ bytes6 → Runs (sheetIn bytes) zeros noBits noCounts input ws′ bs′ r → {a : RunAnswer} → r .answer ≡ a
+    → ranOf a (lends (rowsIn ws′) bs′ (r .tally)) ≡ run sheet6 (initial 1024 noCounts) input
+ran-is {bytes} {input} {ws′} {bs′} {r} six k e =
+    ap (λ (a : RunAnswer). ranOf a (lends (rowsIn ws′) bs′ (r .tally))) (sym e) ∙ k .ran
+    ∙ ap₂ (λ (sheet : Sheet) (t : List Cap). run sheet (lends t noBits noCounts) input) (ap sheetIn six ∙ bytes6-is) empty-rows
 
 module _ (input : List ℕ) (s : Ran State) (is : s ≡ run sheet6 (initial 1024 noCounts) input) where
-  pub ran-order : inOrder (s .state .table) (s .state .tally .issued) ≡ true
-  ran-order = ap (λ (r : Ran State). inOrder (r .state .table) (r .state .tally .issued)) is ∙ order-run sheet6 (initial 1024 noCounts) input (order-fresh 1024 noCounts (omega arith) refl)
+  pub ran-order : inOrder (s .state .memory .table) (s .state .tally .issued) ≡ true
+  ran-order = ap (λ (r : Ran State). inOrder (r .state .memory .table) (r .state .tally .issued)) is ∙ order-run sheet6 (initial 1024 noCounts) input (order-fresh 1024 noCounts (omega arith) refl)
 
   pub ran-number : s .number ≤ length input
   ran-number = omega (arith, ap (λ (r : Ran State). r .number) is, number-run sheet6 (initial 1024 noCounts) input)

@@ -15,10 +15,10 @@ use Rattle.model.specs.Requests.{Request, Single, Group, risesAbove, risesStric
 use Rattle.model.specs.Effects.{issuedAfter}
 use Rattle.model.specs.declared.Sheet.{Sheet}
 use Rattle.model.specs.Sheet6.{sheet6}
-use Rattle.model.specs.Step.{State, initial, answer, after}
-use Rattle.model.specs.Table.{inOrder}
+use Rattle.model.specs.Step.{State, view, initial, answer, after}
+use Rattle.model.specs.Refusals.{unfit}
 use Rattle.model.specs.Named.{unnamed, rightlyNamed, allRightlyNamed}
-use Rattle.model.proofs.Offered.{test, same-answer, same-after, issued-allowed, ordered, order-after}
+use Rattle.model.proofs.Offered.{fit-after, fit-order, issued-allowed, ordered, same-after, same-answer, test}
 use Rattle.text.specs.Class.{classOf, newline}
 use Rattle.text.specs.Line.{through, nextLine, linesOf, partsOf}
 use Rattle.text.specs.Decimal.{numeral, decimal, numberFrom}
@@ -34,6 +34,7 @@ use Rattle.trace.specs.Run.{header, Ran, runLines, runFrom, lent, run}
 use Rattle.trace.specs.Check.{report, noCounts, checkText}
 use Rattle.trace.specs.Spellings.{spellRequest, textOf, plainText, namedText, HasLine, Spellable, Spelled, oneHigher, Rests, none, misspelt, OldTrace, SameVerdicts, checked, SameChecks}
 use Rattle.trace.proofs.Laws.Header.{trace-plain, trace-named}
+use Rattle.trace.proofs.Laws.Turn.{Fit}
 use Rattle.trace.proofs.Laws.Order.{refused-line, refused-run}
 use Rattle.trace.proofs.Laws.Report.{ran-report}
 
@@ -42,7 +43,7 @@ use Rattle.trace.proofs.Laws.Report.{ran-report}
 named-line : (i : ℕ) → suc i < 2 ^ 32 → (q : Request) → Spellable q → HasLine Named (rightlyNamed i q)
 unfolding hasSpelling writesName unnamed rightlyNamed
 named-line i l (Single (Create w s r)) sp = (sp .0, (l, sp .1))
-named-line i l (Single (Borrow w u s r kind)) sp = (sp .0, (l, sp .1))
+named-line i l (Single (Borrow w u s r)) sp = (sp .0, (l, sp .1))
 named-line i l (Single (Read u s)) sp = sp
 named-line i l (Single (Write u s)) sp = sp
 named-line i l (Single (Drop u)) sp = sp
@@ -87,12 +88,12 @@ unfolding readEvent guess hasSpelling spell readGroup guessNames namesFrom isGro
 rests-example = misspelt {rest = bytes "(read 01 0 8)\n(drop 1)\n"} (omega arith) refl refl refl
 
 module _ (sheet : Sheet) {rest rest′ : List ℕ} (rests : Rests rest rest′) where
-  same-lines : (qs : List Request) → Spelled qs → (before : ℕ) (h : State) → inOrder (h .table) (h .tally .issued) ≡ true → (i : ℕ) → i ≡ h .tally .issued
+  same-lines : (qs : List Request) → Spelled qs → (before : ℕ) (h : State) → Fit h → (i : ℕ) → i ≡ h .tally .issued
       → Higher (runLines (lent sheet) Named (before + 1) h (linesOf (textOf (allRightlyNamed i qs) ++ rest′))) (runLines (lent sheet) Plain before h (linesOf (plainText qs ++ rest)))
   unfolding textOf allRightlyNamed runLines
   same-lines [] sp before h o i is = same-rests sheet rests before h
   same-lines (q ∷ qs) sp before h o i is =
-      let small : suc i < 2 ^ 32 = omega (arith, is, leb-true (h .tally .issued) 1000000 (ordered (h .table) (h .tally .issued) o .names-left)) in
+      let small : suc i < 2 ^ 32 = omega (arith, is, leb-true (h .tally .issued) 1000000 (ordered (h .memory .table) (h .tally .issued) (fit-order (view h) o) .names-left)) in
       rw (
         request-line (rightlyNamed i q) (textOf (allRightlyNamed (issuedAfter i q) qs)) rest′,
         request-line (unnamed q) (plainText qs) rest,
@@ -101,7 +102,7 @@ module _ (sheet : Sheet) {rest rest′ : List ℕ} (rests : Rests rest rest′) 
         answers,
         afters,
       )
-      (go (eqb (answer h (unnamed q) .refusal) 0) refl (same-lines qs (sp .1) (before + 1) (after sheet h (unnamed q)) (order-after sheet h (unnamed q) o) (issuedAfter i q)))
+      (go (eqb (answer h (unnamed q) .refusal) 0) refl (same-lines qs (sp .1) (before + 1) (after sheet h (unnamed q)) (fit-after sheet h (unnamed q) o) (issuedAfter i q)))
     where
       answers : answer h (rightlyNamed i q) ≡ answer h (unnamed q)
       answers = ap (λ (j : ℕ). answer h (rightlyNamed j q)) is ∙ same-answer h q
@@ -162,7 +163,7 @@ header-first : (t : List ℕ) → same (nextLine (header ++ t)) header ≡ true
 unfolding through classOf same
 header-first t = refl
 
-module _ (sheet : Sheet) (h : State) (qs : List Request) (sp : Spelled qs) {rest rest′ : List ℕ} (rests : Rests rest rest′) (old : OldTrace (plainText qs ++ rest)) (o : inOrder (h .table) (h .tally .issued) ≡ true) where
+module _ (sheet : Sheet) (h : State) (qs : List Request) (sp : Spelled qs) {rest rest′ : List ℕ} (rests : Rests rest rest′) (old : OldTrace (plainText qs ++ rest)) (o : Fit h) where
   abbrev plain : List ℕ
   plain = plainText qs ++ rest
 
@@ -178,8 +179,8 @@ module _ (sheet : Sheet) (h : State) (qs : List Request) (sp : Spelled qs) {rest
   unfolding runFrom
   named-run = rw o (trace-named (header ++ behind) (header-first behind) (lent sheet) h)
 
-  in-order : SameVerdicts sheet h plain (header ++ behind)
-  in-order =
+  fitting : SameVerdicts sheet h plain (header ++ behind)
+  fitting =
       let s = same-lines sheet rests qs sp 0 h o (h .tally .issued) refl in
       let p = runLines (lent sheet) Plain 0 h (linesOf plain) in
       record {
@@ -190,7 +191,7 @@ module _ (sheet : Sheet) (h : State) (qs : List Request) (sp : Spelled qs) {rest
 
 pub same-verdicts : (sheet : Sheet) (h : State) (qs : List Request) → Spelled qs → {rest rest′ : List ℕ} → Rests rest rest′ → OldTrace (plainText qs ++ rest)
     → SameVerdicts sheet h (plainText qs ++ rest) (namedText (h .tally .issued) qs ++ rest′)
-same-verdicts sheet h qs sp {rest} {rest′} rests old = go (test (inOrder (h .table) (h .tally .issued)))
+same-verdicts sheet h qs sp {rest} {rest′} rests old = go (test (unfit (view h)))
   where
     plain : List ℕ
     plain = plainText qs ++ rest
@@ -198,12 +199,12 @@ same-verdicts sheet h qs sp {rest} {rest′} rests old = go (test (inOrder (h .t
     named : List ℕ
     named = namedText (h .tally .issued) qs ++ rest′
 
-    go : (inOrder (h .table) (h .tally .issued) ≡ true) ⊎ (inOrder (h .table) (h .tally .issued) ≡ false) → SameVerdicts sheet h plain named
-    go (inl o) = in-order sheet h qs sp rests old o
-    go (inr d) =
+    go : (unfit (view h) ≡ true) ⊎ Fit h → SameVerdicts sheet h plain named
+    go (inl d) =
         let p = refused-run sheet h plain d in
         let n = refused-run sheet h named d in
         record { same-refusal = rw (n, p); one-higher = rw (n, p); same-state = rw (n, p) }
+    go (inr o) = fitting sheet h qs sp rests old o
 
 -- ---- what `capcheck` prints
 

@@ -1,4 +1,4 @@
--- Where a run ends: at its first refused line, with the table as after the lines before it, or behind its last line.
+-- Where a run ends: at its first refused line, with table and bits as after the lines before it, or behind its last line.
 -- Assumes nothing.
 use mathlib.Core.Path.{_≡_, refl, sym, ap, _∙_}
 use mathlib.Core.Logic.{_⊎_, inl, inr}
@@ -11,11 +11,11 @@ use lib.ListN.{length, take}
 use lib.Seq.{take-nil, take-length}
 use borrow.Author.Tests.{eq-eqb, ne-eqb}
 use Rattle.model.specs.declared.Event.{Event}
-use Rattle.model.specs.Table.{inOrder}
+use Rattle.model.specs.Refusals.{unfit}
 use Rattle.model.specs.declared.Sheet.{Sheet}
 use Rattle.model.specs.Step.{view, State, answer}
 use Rattle.model.specs.Requests.{Request}
-use Rattle.model.proofs.Offered.{test, clash, ordered-not-1, refused-table, refused-tally}
+use Rattle.model.proofs.Offered.{test, clash, fit-not-1, refused-memory, refused-tally}
 use Rattle.text.specs.Class.{classOf, newline}
 use Rattle.text.specs.Line.{push, linesOf, partsOf}
 use Rattle.text.specs.Event.{bytes}
@@ -28,8 +28,8 @@ use Rattle.text.proofs.Offered.{refused-group-is-2}
 use Rattle.text.specs.Request.{orGroup, readRequest}
 use Rattle.trace.specs.Run.{header, Taken, Ran, takeRead, takeLine, runLines, runTrace, runFrom, lent, run}
 use Rattle.trace.specs.Stops.{joined, firstLines, runBefore, LineZero, RefusedLine, Stops}
-use Rattle.trace.proofs.Laws.Turn.{line-order}
-use Rattle.trace.proofs.Laws.Order.{Ordered, turned, of-trace, refused-run, Behind, refused-trace}
+use Rattle.trace.proofs.Laws.Turn.{Fit, line-fit}
+use Rattle.trace.proofs.Laws.Order.{turned, of-trace, refused-run, Behind, refused-trace}
 
 -- ---- the first lines
 
@@ -66,37 +66,37 @@ misread-2 k l x = go (readEvent k l) (readGroup l) refl
     go (refused r) (value names) is z = absurd (let y = rw is at z in let q : _≡_ {A = ℕ} 0 1 = cc in omega arith)
     go (refused r) (refused y) is z = let e = rw is at z in let q : x ≡ y = cc in q ∙ refused-group-is-2 l y is
 
--- on a table in order no answer is 1
-request-not-1 : (h : State) (q : Request) → Ordered h → answer h q .refusal ≡ 1 → ⊥
+-- where what is lent is fit no answer is 1
+request-not-1 : (h : State) (q : Request) → Fit h → answer h q .refusal ≡ 1 → ⊥
 unfolding answer
-request-not-1 h q o z = ordered-not-1 (view h) q o z
+request-not-1 h q o z = fit-not-1 (view h) q o z
 
 module _ (sheet : Sheet) where
-  line-not-1 : (k : Spelling) (h : State) (l : List ℕ) → Ordered h → takeLine (lent sheet) k h l .refusal ≡ 1 → ⊥
+  line-not-1 : (k : Spelling) (h : State) (l : List ℕ) → Fit h → takeLine (lent sheet) k h l .refusal ≡ 1 → ⊥
   line-not-1 k h l o = go (readRequest k l) refl
     where
       go : (r : Result Request) → readRequest k l ≡ r → takeRead (lent sheet) h r .refusal ≡ 1 → ⊥
       go (value q) is z = request-not-1 h q o z
       go (refused x) is z = omega (arith, misread-2 k l x is)
 
-  -- a line that is refused by another number leaves the table, and adds one to the refused count
+  -- a line that is refused by another number leaves table and bits, and adds one to the refused count
   line-refused : (k : Spelling) (h : State) (l : List ℕ) (j : ℕ) → takeLine (lent sheet) k h l .refusal ≡ suc (suc j)
       → takeLine (lent sheet) k h l .state ≡ lent sheet .misspelt h
   line-refused k h l j = go (readRequest k l)
     where
       go : (r : Result Request) → takeRead (lent sheet) h r .refusal ≡ suc (suc j) → takeRead (lent sheet) h r .state ≡ lent sheet .misspelt h
-      go (value q) z = λ i. record { table = refused-table sheet h q (suc j) z i; tally = refused-tally sheet h q j z i }
+      go (value q) z = λ i. record { memory = refused-memory sheet h q (suc j) z i; tally = refused-tally sheet h q j z i }
       go (refused x) z = refl
 
   -- ---- lines
 
-  not-1 : (k : Spelling) (before : ℕ) (h : State) (ls : List (List ℕ)) → Ordered h → runLines (lent sheet) k before h ls .refusal ≡ 1 → ⊥
+  not-1 : (k : Spelling) (before : ℕ) (h : State) (ls : List (List ℕ)) → Fit h → runLines (lent sheet) k before h ls .refusal ≡ 1 → ⊥
   unfolding runLines
   not-1 k before h [] o = λ (z : _≡_ {A = ℕ} 0 1). omega arith
   not-1 k before h (l ∷ ls) o =
       let t = takeLine (lent sheet) k h l in
       turned (λ (r : Ran State). r .refusal ≡ 1 → ⊥) (eqb (t .refusal) 0) (runLines (lent sheet) k (before + 1) (t .state) ls) (record { refusal = t .refusal; number = before + 1; state = t .state })
-      (not-1 k (before + 1) (t .state) ls (line-order sheet k h l o)) (line-not-1 k h l o)
+      (not-1 k (before + 1) (t .state) ls (line-fit sheet k h l o)) (line-not-1 k h l o)
 
   -- where all are allowed, they are counted
   all-lines : (k : Spelling) (before : ℕ) (h : State) (ls : List (List ℕ)) → runLines (lent sheet) k before h ls .refusal ≡ 0
@@ -160,7 +160,7 @@ module _ (sheet : Sheet) where
 
   -- ---- a trace
 
-  trace-not-1 : (h : State) (ls : List (List ℕ)) → Ordered h → runTrace (lent sheet) h ls .refusal ≡ 1 → ⊥
+  trace-not-1 : (h : State) (ls : List (List ℕ)) → Fit h → runTrace (lent sheet) h ls .refusal ≡ 1 → ⊥
   trace-not-1 h ls o = of-trace sheet (λ (r : Ran State). r .refusal ≡ 1 → ⊥) h ls (not-1 Plain 0 h ls o) (λ line rest e. not-1 Named 1 h rest o)
 
   trace-all : (h : State) (ls : List (List ℕ)) → runTrace (lent sheet) h ls .refusal ≡ 0 → runTrace (lent sheet) h ls .number ≡ length ls
@@ -207,7 +207,7 @@ module _ (sheet : Sheet) where
 
   -- ---- a text
 
-  module _ (h : State) (text : List ℕ) (o : Ordered h) where
+  module _ (h : State) (text : List ℕ) (o : Fit h) where
     run-is : run sheet h text ≡ runTrace (lent sheet) h (linesOf text)
     unfolding runFrom
     run-is = rw o
@@ -242,12 +242,12 @@ module _ (sheet : Sheet) where
           a-line = omega (arith, r .inside);
           before-allowed = ap (λ (s : Ran State). s .refusal) before ∙ r .allowed;
           before-number = ap (λ (s : Ran State). s .number) before ∙ omega (arith, r .count);
-          same-table = ap (λ (s : State). s .table) state;
+          same-memory = ap (λ (s : State). s .memory) state;
           counted = ap (λ (s : State). s .tally) state;
         }
 
-    ordered-until : run sheet h (firstLines (run sheet h text .number) text) ≡ run sheet h text
-    ordered-until = first-is (run sheet h text .number) ∙ go (run sheet h text .refusal) refl ∙ sym run-is
+    fit-until : run sheet h (firstLines (run sheet h text .number) text) ≡ run sheet h text
+    fit-until = first-is (run sheet h text .number) ∙ go (run sheet h text .refusal) refl ∙ sym run-is
       where
         upto : (n : ℕ) → run sheet h text .number ≡ n → runTrace (lent sheet) h (take n (linesOf text)) ≡ runTrace (lent sheet) h (linesOf text)
             → runTrace (lent sheet) h (take (run sheet h text .number) (linesOf text)) ≡ runTrace (lent sheet) h (linesOf text)
@@ -270,16 +270,10 @@ module _ (sheet : Sheet) where
         go k z n (inr l) = omega (arith, number-is)
 
   pub stops : (h : State) (text : List ℕ) → Stops sheet h text
-  stops h text = go (test (inOrder (h .table) (h .tally .issued)))
+  stops h text = go (test (unfit (view h)))
     where
-      go : (Ordered h) ⊎ (inOrder (h .table) (h .tally .issued) ≡ false) → Stops sheet h text
-      go (inl o) = record {
-        until = ordered-until h text o;
-        allowed = all-allowed h text o;
-        line-zero = no-line-0 h text o;
-        refused = refused-at h text o;
-      }
-      go (inr d) =
+      go : (unfit (view h) ≡ true) ⊎ Fit h → Stops sheet h text
+      go (inl d) =
           let r = refused-run sheet h text d in
           let one : run sheet h text .refusal ≡ 1 = ap (λ (s : Ran State). s .refusal) r in
           record {
@@ -292,3 +286,9 @@ module _ (sheet : Sheet) where
             };
             refused = λ k z. absurd (omega arith);
           }
+      go (inr o) = record {
+        until = fit-until h text o;
+        allowed = all-allowed h text o;
+        line-zero = no-line-0 h text o;
+        refused = refused-at h text o;
+      }

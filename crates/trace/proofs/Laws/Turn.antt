@@ -1,7 +1,7 @@
 -- One turn of a run: the next line of what is left, and what follows it.
 -- Assumes nothing.
-use mathlib.Core.Path.{_≡_, sym, ap, ap₂, _∙_}
-use mathlib.Core.Bool.{true, cond}
+use mathlib.Core.Path.{_≡_, sym, ap, _∙_}
+use mathlib.Core.Bool.{false, cond}
 use mathlib.Core.List.{List}
 use Prim.Native.Nat.{ℕ, _+_, _-_, _≤_, _<_}
 use native.Mathlib.Omega.{arith}
@@ -16,7 +16,6 @@ use Rattle.model.specs.Requests.{Request, Single, Group}
 use Rattle.text.specs.declared.spelling.Spelling.{Spelling}
 use Rattle.text.specs.Result.{Result, value, refused}
 use Rattle.text.proofs.Offered.{part-inside, part-longer, part-then, parts-end}
-use Rattle.model.specs.declared.Cap.{Cap}
 use Rattle.model.specs.declared.Event.{Event}
 use Rattle.model.specs.declared.Tally.{Tally}
 use Rattle.model.specs.declared.Name.{Name}
@@ -26,9 +25,9 @@ use Rattle.model.specs.declared.Answer.{Answer}
 use Rattle.model.specs.declared.Answer.the-variants.{Allowed, Refused}
 use Rattle.model.specs.Answers.{number, verdictOf}
 use Rattle.model.specs.Counts.{countRefused}
-use Rattle.model.specs.Step.{Verdict, State}
-use Rattle.model.specs.Table.{inOrder}
-use Rattle.model.proofs.Offered.{order-after}
+use Rattle.model.specs.Refusals.{unfit}
+use Rattle.model.specs.Step.{Verdict, State, view, after}
+use Rattle.model.proofs.Offered.{fit-after}
 use Rattle.rules.specs.declared.Outcome.{Outcome}
 use Rattle.table.specs.Words.{rowsIn}
 use Rattle.rules.specs.Steps.{lends, Stepped}
@@ -37,34 +36,42 @@ use Rattle.trace.specs.declared.run.RunAnswer.the-variants.{Refused as R
 use Rattle.text.specs.Request.{readRequest}
 use Rattle.trace.specs.Run.{takeRead, takeLine, runLines, lent, ranOf, TakesGroup, Takes}
 
--- a line keeps a table in order
-pub line-order : (sheet : Sheet) (k : Spelling) (h : State) (l : List ℕ) → inOrder (h .table) (h .tally .issued) ≡ true → inOrder (takeLine (lent sheet) k h l .state .table) (takeLine (lent sheet) k h l .state .tally .issued) ≡ true
-line-order sheet k h l o = go (readRequest k l)
-  where
-    go : (r : Result Request) → inOrder (takeRead (lent sheet) h r .state .table) (takeRead (lent sheet) h r .state .tally .issued) ≡ true
-    go (value q) = order-after sheet h q o
-    go (refused k) = o
+-- what is lent is fit for a run
+abbrev pub Fit : State → Type 0
+Fit h = unfit (view h) ≡ false
 
-module _ (sheet : Sheet) (ws : List (List ℕ)) (t : Tally) (line : List ℕ) where
+-- it stays so after a line
+pub line-fit : (sheet : Sheet) (k : Spelling) (h : State) (l : List ℕ) → Fit h → Fit (takeLine (lent sheet) k h l .state)
+line-fit sheet k h l f = go (readRequest k l)
+  where
+    go : (r : Result Request) → Fit (takeRead (lent sheet) h r .state)
+    go (value q) = fit-after sheet h q f
+    go (refused k) = f
+
+module _ (sheet : Sheet) (ws : List (List ℕ)) (bs : List ℕ) (t : Tally) (line : List ℕ) where
+  -- what an event or a group leaves
+  stepped-state : {q : Request} {ws′ : List (List ℕ)} {bs′ : List ℕ} {r : Outcome} → Stepped sheet ws bs t q ws′ bs′ r → lends (rowsIn ws′) bs′ (r .tally) ≡ after sheet (lends (rowsIn ws) bs t) q
+  stepped-state s = λ i. record { memory = record { table = s .table i; bits = s .bits i }; tally = s .tally i }
+
   -- a line that spells an event goes by the event's step
-  pub taken-event : (k : Spelling) {e : Event} {ws′ : List (List ℕ)} {r : Outcome} → readEvent k line ≡ value e → Stepped sheet ws t (Single e) ws′ r → Takes sheet k ws t line ws′ r
+  pub taken-event : (k : Spelling) {e : Event} {ws′ : List (List ℕ)} {bs′ : List ℕ} {r : Outcome} → readEvent k line ≡ value e → Stepped sheet ws bs t (Single e) ws′ bs′ r → Takes sheet k ws bs t line ws′ bs′ r
   taken-event k q s = record {
     refusal = rw q (ap (λ (v : Verdict). v .refusal) (s .answer));
-    state = rw q (ap₂ (λ (rows : List Cap) (y : Tally). record { table = rows; tally = y }) (s .table) (s .tally));
+    state = rw q (stepped-state s);
   }
 
   -- any other goes by the names that it spells
-  pub taken-other : (k : Spelling) {x : ℕ} {ws′ : List (List ℕ)} {r : Outcome} → readEvent k line ≡ refused x → TakesGroup sheet ws t line ws′ r → Takes sheet k ws t line ws′ r
+  pub taken-other : (k : Spelling) {x : ℕ} {ws′ : List (List ℕ)} {bs′ : List ℕ} {r : Outcome} → readEvent k line ≡ refused x → TakesGroup sheet ws bs t line ws′ bs′ r → Takes sheet k ws bs t line ws′ bs′ r
   taken-other k q s = record { refusal = rw q (s .refusal); state = rw q (s .state) }
 
-  pub taken-group : {names : List ℕ} {ws′ : List (List ℕ)} {r : Outcome} → readGroup line ≡ value names → Stepped sheet ws t (Group names) ws′ r → TakesGroup sheet ws t line ws′ r
+  pub taken-group : {names : List ℕ} {ws′ : List (List ℕ)} {bs′ : List ℕ} {r : Outcome} → readGroup line ≡ value names → Stepped sheet ws bs t (Group names) ws′ bs′ r → TakesGroup sheet ws bs t line ws′ bs′ r
   taken-group q s = record {
     refusal = rw q (ap (λ (v : Verdict). v .refusal) (s .answer));
-    state = rw q (ap₂ (λ (rows : List Cap) (y : Tally). record { table = rows; tally = y }) (s .table) (s .tally));
+    state = rw q (stepped-state s);
   }
 
   -- a line that spells none is refused
-  pub taken-misspelt : {y : Tally} → readGroup line ≡ refused 2 → y ≡ countRefused t → TakesGroup sheet ws t line ws (record { tally = y; answer = Refused Misspelt })
+  pub taken-misspelt : {y : Tally} → readGroup line ≡ refused 2 → y ≡ countRefused t → TakesGroup sheet ws bs t line ws bs (record { tally = y; answer = Refused Misspelt })
   taken-misspelt q c = record { refusal = rw q; state = rw (q, c) }
 
 -- line is the next line of what is left of s from a position on
@@ -84,18 +91,18 @@ module _ (s : List ℕ) (at : ℕ) (more : at < length s) (line : List ℕ) (is 
     turn = rw (part-then newline s at (omega arith) line is more)
 
   -- the line was taken on the words of a table
-  module _ (count : ℕ) {sheet : Sheet} {k : Spelling} {ws : List (List ℕ)} {t : Tally} {ws′ : List (List ℕ)} {r : Outcome} (took : Takes sheet k ws t line ws′ r) where
+  module _ (count : ℕ) {sheet : Sheet} {k : Spelling} {ws : List (List ℕ)} {bs : List ℕ} {t : Tally} {ws′ : List (List ℕ)} {bs′ : List ℕ} {r : Outcome} (took : Takes sheet k ws bs t line ws′ bs′ r) where
     -- it is allowed, and the run goes on behind it
-    pub turn-on : {x : Name} → r .answer ≡ Allowed x → runLines (lent sheet) k (count + 1) (lends (rowsIn ws′) (r .tally)) (linesOf (drop (at + length line) s)) ≡ runLines (lent sheet) k count (lends (rowsIn ws) t) (linesOf (drop at s))
+    pub turn-on : {x : Name} → r .answer ≡ Allowed x → runLines (lent sheet) k (count + 1) (lends (rowsIn ws′) bs′ (r .tally)) (linesOf (drop (at + length line) s)) ≡ runLines (lent sheet) k count (lends (rowsIn ws) bs t) (linesOf (drop at s))
     turn-on e =
-        let zero-is : takeLine (lent sheet) k (lends (rowsIn ws) t) line .refusal ≡ 0 = sym (took .refusal) ∙ ap (λ (a : Answer). verdictOf a .refusal) e in
-        rw (took .state) (sym (turn sheet k count (lends (rowsIn ws) t) ∙ rw zero-is))
+        let zero-is : takeLine (lent sheet) k (lends (rowsIn ws) bs t) line .refusal ≡ 0 = sym (took .refusal) ∙ ap (λ (a : Answer). verdictOf a .refusal) e in
+        rw (took .state) (sym (turn sheet k count (lends (rowsIn ws) bs t) ∙ rw zero-is))
 
     -- it is refused, and the run ends there
-    pub turn-ends : {x : Refusal} → r .answer ≡ Refused x → ranOf (RunRefused x (count + 1)) (lends (rowsIn ws′) (r .tally)) ≡ runLines (lent sheet) k count (lends (rowsIn ws) t) (linesOf (drop at s))
+    pub turn-ends : {x : Refusal} → r .answer ≡ Refused x → ranOf (RunRefused x (count + 1)) (lends (rowsIn ws′) bs′ (r .tally)) ≡ runLines (lent sheet) k count (lends (rowsIn ws) bs t) (linesOf (drop at s))
     turn-ends {x} e =
-        let is : takeLine (lent sheet) k (lends (rowsIn ws) t) line .refusal ≡ number x = sym (took .refusal) ∙ ap (λ (a : Answer). verdictOf a .refusal) e in
-        rw (took .state) (sym (turn sheet k count (lends (rowsIn ws) t) ∙ rw (is, numbered x)))
+        let is : takeLine (lent sheet) k (lends (rowsIn ws) bs t) line .refusal ≡ number x = sym (took .refusal) ∙ ap (λ (a : Answer). verdictOf a .refusal) e in
+        rw (took .state) (sym (turn sheet k count (lends (rowsIn ws) bs t) ∙ rw (is, numbered x)))
 
 -- nothing is left
 pub run-ends : (sheet : Sheet) (k : Spelling) (s : List ℕ) (at count : ℕ) (h : State) → length s ≤ at → record { refusal = 0; number = count; state = h } ≡ runLines (lent sheet) k count h (linesOf (drop at s))

@@ -7,11 +7,11 @@ use Rattle.kelzoud_events.proofs.events.words_of.Tie as tie
 
 returns : tie.Need-returns
 unfolding wordsOf
-returns c = rw (c .before .before .before .event .given .1, c .written-of .ensures, c .before .named-of .ensures)
+returns c = rw (c .before .before .before .before .before .event .given .1, c .before .written-of .ensures, c .before .before .named-of .ensures)
 
 returns-2 : tie.Need-returns-2
 unfolding wordsOf
-returns-2 c = rw (c .before .before .before .event2 .given .1, c .written-of2 .ensures, c .before .named-of2 .ensures)
+returns-2 c = rw (c .before .before .before .before .before .event2 .given .1, c .before .written-of2 .ensures, c .before .before .named-of2 .ensures)
 
 returns-3 : tie.Need-returns-3
 unfolding wordsOf
@@ -33,6 +33,7 @@ words-of-spec =
     (λ c. search needs)
     (λ c κs. search needs)
     (λ c κs. search needs)
+    (λ c. search needs)
     (λ c. search needs)
     (λ c. search needs)
     (λ c κs. search needs)

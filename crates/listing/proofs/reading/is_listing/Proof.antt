@@ -16,7 +16,7 @@ use Rattle.text.specs.Read.{same}
 use Rattle.listing.specs.Links.{Live}
 use Rattle.listing.specs.Listing.{listed}
 use Rattle.listing.specs.ReadListing.{isListing}
-use Rattle.listing.proofs.Laws.Front.{front-live, front-listing}
+use Rattle.listing.proofs.Laws.Front.{order, front-live, front-listing}
 use borrow.Author.Needs.{needs}
 use Rattle.listing.proofs.reading.is_listing.Statement.{statement}
 use Rattle.listing.proofs.reading.is_listing.Tie as tie
@@ -48,6 +48,9 @@ few c = omega (arith, c .before .before .live-count .ensures .fits, c .before .b
 inside : (c : tie.Else1) → c .before .before .live-count .result ≤ length (c .before .before .before .before .args .table .now)
 inside c = c .before .before .live-count .ensures .fits
 
+names : (c : tie.Else1) → c .before .before .before .before .args .issued ≤ 1000000
+names c = order (is-ordered c) .names
+
 live : (c : tie.Else1) → Live (firstRows (c .before .before .before .before .args .table .now) (c .before .before .live-count .result))
 live c =
     let start = c .before .before .before .before in
@@ -63,7 +66,7 @@ same-listing c =
 writes-back-requires : tie.Need-writes-back-requires
 writes-back-requires c κs =
     let ordered = c .before .before in
-    (few ordered, live ordered, inl (omega (arith, c .before .if2 .taken, length-replicate {A = ℕ} 2048 0)), inside ordered)
+    (few ordered, live ordered, inl (omega (arith, c .before .if2 .taken, length-replicate {A = ℕ} 2048 0)), inside ordered, names ordered)
 
 returns-2 : tie.Need-returns-2
 returns-2 c = c .before .writes-back .ensures ∙ sym (same-listing (c .before .before .before .before))
@@ -71,7 +74,7 @@ returns-2 c = c .before .writes-back .ensures ∙ sym (same-listing (c .before .
 writes-back-requires-2 : tie.Need-writes-back-requires-2
 writes-back-requires-2 c κs =
     let ordered = c .before .before in
-    (few ordered, live ordered, inr (omega (arith, length-replicate {A = ℕ} 45056 0)), inside ordered)
+    (few ordered, live ordered, inr (omega (arith, length-replicate {A = ℕ} 39949 0)), inside ordered, names ordered)
 
 returns-3 : tie.Need-returns-3
 returns-3 c = c .before .writes-back2 .ensures ∙ sym (same-listing (c .before .before .before .before))

@@ -8,17 +8,20 @@ use Rattle.listing.proofs.writing.form_length.Tie as tie
 
 returns : tie.Need-returns
 returns c =
-    let numbers = c .before .spaced-length .ensures in
-    let kind = c .kind-length .ensures in
-    (omega (arith, numbers .0, kind .0, form-length (c .before .before .before .args .c)), omega (arith, numbers .1, kind .1))
+    let numbers = c .spaced-length .ensures in
+    let kind = c .before .before .before .kind-length .ensures in
+    let mark = c .before .before .fresh-length .ensures in
+    (omega (arith, numbers .0, kind .0, mark .0, form-length (c .before .before .before .before .args .c)), omega (arith, numbers .1, kind .1, mark .1))
 
 pub form-length-spec : {M : Type 1} → statement M
 form-length-spec =
     tie.close
     (tie.spec
+    (λ c κs. search needs)
+    (λ c κs. search needs)
+    (λ c. search needs)
     (λ c. search needs)
     (λ c κs. search needs)
     (λ c. search needs)
-    (λ c κs. search needs)
     (λ c. search needs)
     returns)

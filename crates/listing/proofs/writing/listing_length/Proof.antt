@@ -11,7 +11,7 @@ use Rattle.listing.proofs.writing.listing_length.Tie as tie
 returns : tie.Need-returns
 returns c =
     let s = c .before .before .before in
-    (omega (arith, c .before .spaced-length .ensures .0, c .forms-length .ensures .0, listed-length (firstRows (s .args .table .now) (s .args .n)) (s .args .issued) (live-order (s .pre .1))), omega (arith, c .before .spaced-length .ensures .1, c .forms-length .ensures .1, s .pre .0))
+    omega (arith, c .before .spaced-length .ensures .0, c .forms-length .ensures .0, listed-length (firstRows (s .args .table .now) (s .args .n)) (s .args .issued) (live-order (s .pre .1)))
 
 pub listing-length-spec : {M : Type 1} → statement M
 listing-length-spec =

@@ -1,11 +1,12 @@
--- `listing::writing::put_pieces` meets its contract: the number, the numbers, the right and the kind, one behind the other, are the pieces.
+-- `listing::writing::put_pieces` meets its contract: the number, the numbers, the right, the kind and the mark, one
+-- behind the other, are the pieces.
 -- Assumes nothing.
 use mathlib.Core.Path.{_≡_, refl, sym}
 use Prim.Native.Nat.{ℕ}
 use mathlib.Core.List.{List, [], _∷_, _++_, append-nil}
 use Rattle.model.specs.declared.Cap.{Cap}
 use Rattle.text.specs.Decimal.{decimal}
-use Rattle.text.specs.Event.{spaced, rightWord, kindWord}
+use Rattle.text.specs.Event.{spaced, rightWord, kindWord, freshWord}
 use Rattle.text.specs.Put.{Room, Put}
 use Rattle.listing.specs.Listing.{pieces}
 use Rattle.listing.proofs.Laws.Writing.{Writing, begin, piece, fits, finish}
@@ -18,7 +19,7 @@ module _ (out : List ℕ) (at : ℕ) (c : Cap) where
   numbers = spaced (c .start .0 ∷ c .length ∷ [])
 
   abbrev words : List ℕ
-  words = rightWord (c .right) ++ kindWord (c .kind)
+  words = rightWord (c .right) ++ (kindWord (c .kind) ++ freshWord (c .fresh))
 
   all : pieces c ≡ decimal (c .name .0) ++ (numbers ++ words)
   unfolding pieces
@@ -42,17 +43,24 @@ module _ (out : List ℕ) (at : ℕ) (c : Cap) where
       numbered = piece named refl two
 
       right-fits : Room out at (pieces c) → Room b q (rightWord (c .right))
-      right-fits r = fits numbered (rightWord (c .right)) (kindWord (c .kind)) refl r
+      right-fits r = fits numbered (rightWord (c .right)) (kindWord (c .kind) ++ freshWord (c .fresh)) refl r
 
       module _ {d : List ℕ} {e : ℕ} (three : Put b q (rightWord (c .right)) d e) where
-        righted : Writing out at (pieces c) d e (kindWord (c .kind))
+        righted : Writing out at (pieces c) d e (kindWord (c .kind) ++ freshWord (c .fresh))
         righted = piece numbered refl three
 
         kind-fits : Room out at (pieces c) → Room d e (kindWord (c .kind))
-        kind-fits r = fits righted (kindWord (c .kind)) [] (sym (append-nil (kindWord (c .kind)))) r
+        kind-fits r = fits righted (kindWord (c .kind)) (freshWord (c .fresh)) refl r
 
-        done : {f : List ℕ} {g : ℕ} → Put d e (kindWord (c .kind)) f g → Put out at (pieces c) f g
-        done four = finish (piece righted (sym (append-nil (kindWord (c .kind)))) four) refl
+        module _ {f : List ℕ} {g : ℕ} (four : Put d e (kindWord (c .kind)) f g) where
+          kinded : Writing out at (pieces c) f g (freshWord (c .fresh))
+          kinded = piece righted refl four
+
+          mark-fits : Room out at (pieces c) → Room f g (freshWord (c .fresh))
+          mark-fits r = fits kinded (freshWord (c .fresh)) [] (sym (append-nil (freshWord (c .fresh)))) r
+
+          done : {h : List ℕ} {k : ℕ} → Put f g (freshWord (c .fresh)) h k → Put out at (pieces c) h k
+          done five = finish (piece kinded (sym (append-nil (freshWord (c .fresh)))) five) refl
 
 put-number-requires : tie.Need-put-number-requires
 put-number-requires c κs =
@@ -74,10 +82,15 @@ put-kind-requires c κs =
     let s = c .before .before .before .before .before .before .before .before .before .before .before .before .before .before .before in
     kind-fits (s .args .out .now) (s .args .at) (s .args .c) (c .before .before .before .before .before .before .before .before .before .before .before .before .put-number .ensures) (c .before .before .before .before .before .before .before .put-numbers .ensures) (c .before .before .before .put-right .ensures) (s .pre)
 
+put-fresh-requires : tie.Need-put-fresh-requires
+put-fresh-requires c κs =
+    let s = c .before .before .before .before .before .before .before .before .before .before .before .before .before .before .before .before .before .before .before in
+    mark-fits (s .args .out .now) (s .args .at) (s .args .c) (c .before .before .before .before .before .before .before .before .before .before .before .before .before .before .before .before .put-number .ensures) (c .before .before .before .before .before .before .before .before .before .before .before .put-numbers .ensures) (c .before .before .before .before .before .before .before .put-right .ensures) (c .before .before .before .put-kind .ensures) (s .pre)
+
 returns : tie.Need-returns
 returns c =
-    let s = c .before .before .before .before .before .before .before .before .before .before .before .before .before .before .before .before .before .before in
-    done (s .args .out .now) (s .args .at) (s .args .c) (c .before .before .before .before .before .before .before .before .before .before .before .before .before .before .before .put-number .ensures) (c .before .before .before .before .before .before .before .before .before .before .put-numbers .ensures) (c .before .before .before .before .before .before .put-right .ensures) (c .before .before .put-kind .ensures)
+    let s = c .before .before .before .before .before .before .before .before .before .before .before .before .before .before .before .before .before .before .before .before .before .before in
+    done (s .args .out .now) (s .args .at) (s .args .c) (c .before .before .before .before .before .before .before .before .before .before .before .before .before .before .before .before .before .before .before .put-number .ensures) (c .before .before .before .before .before .before .before .before .before .before .before .before .before .before .put-numbers .ensures) (c .before .before .before .before .before .before .before .before .before .before .put-right .ensures) (c .before .before .before .before .before .before .put-kind .ensures) (c .before .before .put-fresh .ensures)
 
 pub put-pieces-spec : {M : Type 1} → statement M
 put-pieces-spec =
@@ -88,5 +101,6 @@ put-pieces-spec =
     put-numbers-requires
     put-right-requires
     put-kind-requires
+    put-fresh-requires
     (λ c. search needs)
     returns)

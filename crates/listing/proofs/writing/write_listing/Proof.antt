@@ -54,7 +54,7 @@ returns-3 c =
     let a = c .before .before .before .before .before .before .before .before .before .args in
     let order = c .before .before .before .before .before in
     let count = order .before .live-count in
-    writes (a .table .now) (a .issued) (a .out .now) (count .result) (count .ensures) (sym (order .in-order .ensures) ∙ not-false (order .in-order .result) (c .before .before .before .before .if2 .left)) (c .before .before .write-rows .ensures .0)
+    writes (a .table .now) (a .issued) (a .out .now) (count .result) (count .ensures) (sym (order .in-order .ensures) ∙ not-false (order .in-order .result) (c .before .before .before .before .if2 .left)) (c .before .before .write-rows .ensures)
 
 pub write-listing-spec : {M : Type 1} → statement M
 write-listing-spec =

@@ -11,12 +11,11 @@ use Rattle.listing.proofs.writing.write_rows.Tie as tie
 returns : tie.Need-returns
 returns c =
     let s = c .before .before .before in
-    (writes-none (listed (firstRows (s .args .table .now) (s .args .n)) (s .args .issued)) (s .args .out .now) (omega (arith, c .before .listing-length .ensures .0)), omega (arith, c .before .listing-length .ensures .0, c .before .listing-length .ensures .1))
+    writes-none (listed (firstRows (s .args .table .now) (s .args .n)) (s .args .issued)) (s .args .out .now) (omega (arith, c .before .listing-length .ensures))
 
 returns-2 : tie.Need-returns-2
 returns-2 c =
-    let s = c .before .before .before .before .before .before .before in
-    (writes-put (c .before .before .put-listing .ensures) (omega (arith, c .before .before .before .before .before .listing-length .ensures .0, c .before .before .before .before)), omega (arith, c .before .before .before .before .before .listing-length .ensures .0, c .before .before .before .before .before .listing-length .ensures .1))
+    writes-put (c .before .before .put-listing .ensures) (omega (arith, c .before .before .before .before .before .listing-length .ensures, c .before .before .before .before))
 
 pub write-rows-spec : {M : Type 1} → statement M
 write-rows-spec =

@@ -7,11 +7,9 @@ use Rattle.rules.proofs.lent.apply.Tie as tie
 
 returns : tie.Need-returns
 returns c =
-    let s = c .before .before .before .before .before .before .before .before .before in
-    let t = c .before .before .before .before .before .before .tally-at .ensures in
-    let out = c .before .before .before .before .step in
-    let a = out .ensures in
-    rw (← t) (a .table, c .set-tally .ensures ∙ a .tally, a .answer)
+    let t = c .before .before .before .before .before .before .before .before .before .tally-at .ensures in
+    let a = c .before .before .before .before .before .before .step .ensures in
+    rw (← t) (a .table, a .bits, c .set-tally .ensures ∙ a .tally, a .answer)
 
 pub apply-spec : {M : Type 1} → statement M
 apply-spec =
@@ -20,5 +18,6 @@ apply-spec =
     (λ c κs. search needs)
     (λ c κs. search needs)
     (λ c κs. search needs)
+    (λ c. search needs)
     (λ c. search needs)
     returns)

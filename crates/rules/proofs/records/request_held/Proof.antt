@@ -9,9 +9,9 @@ use Rattle.rules.proofs.records.request_held.Tie as tie
 
 returns : tie.Need-returns
 returns c =
-    let s = c .before .before .before .before .before in
-    let e : sheetIn (c .before .before .before .bytes-of .result) ≡ s .args .sheet = ap sheetIn (c .before .before .before .bytes-of .ensures) ∙ bytes-back (s .args .sheet) in
-    rw e at (c .request-first .ensures)
+    let s = c .before .before .before .before .before .before .before .before .before in
+    let e : sheetIn (c .before .before .before .before .before .before .bytes-of .result) ≡ s .args .sheet = ap sheetIn (c .before .before .before .before .before .before .bytes-of .ensures) ∙ bytes-back (s .args .sheet) in
+    rw e at (c .before .before .request-first .ensures)
 
 pub request-held-spec : {M : Type 1} → statement M
-request-held-spec = tie.close (tie.spec (λ c κs. search needs) (λ c κs. search needs) returns)
+request-held-spec = tie.close (tie.spec (λ c κs. search needs) (λ c κs. search needs) (λ c. search needs) returns)

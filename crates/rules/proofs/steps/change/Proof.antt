@@ -1,12 +1,12 @@
 -- `change` meets its contract.
 -- Assumes nothing.
-use mathlib.Core.Path.{_≡_, subst}
+use mathlib.Core.Path.{subst}
 use borrow.Author.Needs.{needs}
 use Rattle.model.specs.declared.Asked.{Asked}
 use Rattle.model.specs.Requests.{requestOf}
-use Rattle.model.specs.Refusals.{viewOf, judge}
 use Rattle.model.specs.Effects.{rowsAfter}
 use Rattle.table.specs.Words.{rowsIn}
+use Rattle.rules.specs.Steps.{AllowedOn}
 use Rattle.rules.proofs.Laws.Steps.{ready}
 use Rattle.rules.proofs.steps.change.Statement.{statement}
 use Rattle.rules.proofs.steps.change.Tie as tie
@@ -14,7 +14,7 @@ use Rattle.rules.proofs.steps.change.Tie as tie
 change-event-requires : tie.Need-change-event-requires
 change-event-requires c κs =
     let s = c .before .before .before .before .before .before in
-    (s .pre .0 .orderly, subst (λ (x : Asked). judge (viewOf (rowsIn (s .args .table .now)) (s .args .issued)) (requestOf x (s .args .names .now)) ≡ 0) (c .before .before .before .asked .given .1) (s .pre .1), s .pre .0 .placed)
+    (s .pre .0 .orderly, subst (λ (x : Asked). AllowedOn (rowsIn (s .args .table .now)) (s .args .issued) (requestOf x (s .args .names .now))) (c .before .before .before .asked .given .1) (s .pre .1), s .pre .0 .placed)
 
 drop-names-requires : tie.Need-drop-names-requires
 drop-names-requires c κs =

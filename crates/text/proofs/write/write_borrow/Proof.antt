@@ -10,15 +10,15 @@ returns : tie.Need-returns
 unfolding spell hasSpelling
 returns c =
     let arm = c .before .before .before .before .before .before in
-    let call = c .before .before .write-with-right in
-    event-written _ _ {r = call .result} (rw (← arm .before .before .writes-name .ensures, arm .enum-told .given .1) (call .ensures))
+    let call = c .before .before .write-with-terms in
+    event-written _ _ {r = call .result} (rw (← arm .before .before .spells-borrow .ensures, arm .enum-told .given .1) (call .ensures))
 
 returns-2 : tie.Need-returns-2
 unfolding spell hasSpelling
 returns-2 c =
     let arm = c .before .before .before .before .before .before .before in
-    let call = c .before .before .write-with-right2 in
-    event-written _ _ {r = call .result} (rw (← arm .before .before .writes-name .ensures, arm .new .given .1) (call .ensures))
+    let call = c .before .before .write-with-terms2 in
+    event-written _ _ {r = call .result} (rw (← arm .before .before .spells-borrow .ensures, arm .new .given .1) (call .ensures))
 
 pub write-borrow-spec : {M : Type 1} → statement M
 write-borrow-spec =

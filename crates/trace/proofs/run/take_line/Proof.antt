@@ -12,15 +12,16 @@ use Rattle.trace.proofs.run.take_line.Tie as tie
 
 returns : tie.Need-returns
 returns c =
-    let s = c .before .before .before .before .before .before .before .before .before .before in
-    let k = c .before .take .ensures in
-    (taken-event (sheetIn (s .args .sheet .now)) (s .args .table .now) (s .args .tally) (s .args .line .now) (s .args .spelling) (sym (ap readAnswer (sym (c .before .before .before .before .before .before .found .given .1)) ∙ c .before .before .before .before .before .before .before .before .read-event .ensures)) (k .0), k .1)
+    let s = c .before .before .before .before .before .before .before .before .before .before .before .before .before .before in
+    let k = c .before .before .before .take .ensures in
+    (taken-event (sheetIn (s .args .sheet .now)) (s .args .table .now) (s .args .bits .now) (s .args .tally) (s .args .line .now) (s .args .spelling) (sym (ap readAnswer (sym (c .before .before .before .before .before .before .before .before .before .found .given .1)) ∙ c .before .before .before .before .before .before .before .before .before .before .before .read-event .ensures)) (k .0), k .1, k .2)
 
 returns-2 : tie.Need-returns-2
 returns-2 c =
-    let s = c .before .before .before .before .before .before .before .before in
-    let read : readEvent (s .args .spelling) (s .args .line .now) ≡ refused (number (c .before .before .before .before .enum-told .given .0 .0)) = sym (ap readAnswer (sym (c .before .before .before .before .enum-told .given .1)) ∙ c .before .before .before .before .before .before .read-event .ensures) in
-    (taken-other (sheetIn (s .args .sheet .now)) (s .args .table .now) (s .args .tally) (s .args .line .now) (s .args .spelling) read (c .before .take-group .ensures .0), c .before .take-group .ensures .1)
+    let s = c .before .before .before .before .before .before .before .before .before .before .before .before in
+    let k = c .before .before .before .take-group .ensures in
+    let read : readEvent (s .args .spelling) (s .args .line .now) ≡ refused (number (c .before .before .before .before .before .before .before .enum-told .given .0 .0)) = sym (ap readAnswer (sym (c .before .before .before .before .before .before .before .enum-told .given .1)) ∙ c .before .before .before .before .before .before .before .before .before .read-event .ensures) in
+    (taken-other (sheetIn (s .args .sheet .now)) (s .args .table .now) (s .args .bits .now) (s .args .tally) (s .args .line .now) (s .args .spelling) read (k .0), k .1, k .2)
 
 pub take-line-spec : {M : Type 1} → statement M
 take-line-spec =
@@ -33,6 +34,8 @@ take-line-spec =
     (λ c. search needs)
     (λ c κs. search needs)
     (λ c. search needs)
+    (λ c. search needs)
     returns
+    (λ c. search needs)
     (λ c. search needs)
     returns-2)

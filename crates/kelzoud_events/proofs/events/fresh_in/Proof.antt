@@ -1,0 +1,20 @@
+-- `fresh_in` meets its contract.
+-- Assumes nothing.
+use borrow.Author.Needs.{needs}
+use borrow.Author.Tests.{lt-ltb, le-ltb}
+use Rattle.kelzoud_events.proofs.events.fresh_in.Statement.{statement}
+use Rattle.kelzoud_events.proofs.events.fresh_in.Tie as tie
+
+returns : tie.Need-returns
+returns c = rw (lt-ltb _ _ (c .if1 .taken))
+
+returns-2 : tie.Need-returns-2
+returns-2 c = rw (le-ltb _ _ (c .if1 .left))
+
+pub fresh-in-spec : {M : Type 1} → statement M
+fresh-in-spec =
+    tie.close
+    (tie.spec
+    (λ c. search needs)
+    returns
+    returns-2)
