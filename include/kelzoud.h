@@ -1,8 +1,8 @@
 /*
  * Kelzoud: a capability table that revokes on use.
  *
- * The caller lends all memory: a table of capabilities, a tally of events, a conflict sheet where the
- * default one does not serve, texts and output buffers.
+ * The caller lends all memory: a table of capabilities, the written bits of its addresses, a tally of
+ * events, a conflict sheet where the default one does not serve, texts and output buffers.
  * The library keeps nothing between calls, allocates nothing and has no global state, so calls with
  * different memory may run at the same time on different threads.
  *
@@ -13,7 +13,8 @@
  *     default one. All other pointers without a length are never NULL, the tally of a kz_lent among
  *     them.
  *   - Whatever a call may write overlaps nothing else that the call is given.
- * Nothing else is asked. Every event, table, tally, sheet, line, text and listing gets an answer.
+ * Nothing else is asked. Every event, table, tally, sheet, line, text and listing gets an answer, and
+ * so do any written bits, of whatever length.
  *
  * A call answers with a kz_answer: a refusal, which is 0 when the call was allowed, and a value, as
  * each call says. A call that is refused changes nothing that was lent, except as kz_apply,
@@ -35,17 +36,19 @@ extern "C" {
 
 /* Limits. That no listing and no text of kz_check is longer than is said here is proved. */
 enum {
-    KZ_MAX_ROWS = 1024,     /* rows of a table */
-    KZ_MAX_NAME = 1000000,  /* names that are ever given out */
-    KZ_MAX_DEPTH = 64,      /* depth of a capability */
-    KZ_MAX_GROUP = 64,      /* names that are dropped together */
-    KZ_MAX_INPUT = 65536,   /* bytes of input that kz_check runs */
-    KZ_MAX_LINE = 50,       /* bytes of an event line, its newline included */
-    KZ_MAX_NAMED_LINE = 61, /* the same where new names are written out */
-    KZ_MAX_DROP_LINE = 711, /* the same of a line of KZ_MAX_GROUP names */
-    KZ_MAX_SHEET = 1005,    /* bytes of the text that kz_write_sheet writes */
-    KZ_MAX_LISTING = 39949, /* bytes of a listing */
-    KZ_MAX_CHECK = 39968    /* bytes that kz_check writes */
+    KZ_MAX_ROWS = 1024,           /* rows of a table */
+    KZ_MAX_NAME = 1000000,        /* names that are ever given out */
+    KZ_MAX_DEPTH = 64,            /* depth of a capability */
+    KZ_MAX_GROUP = 64,            /* names that are dropped together */
+    KZ_WRITTEN_BYTES = 8192,      /* bytes of written bits, no fewer and no more */
+    KZ_WRITTEN_ADDRESSES = 65536, /* addresses that have a written bit, from 0 on */
+    KZ_MAX_INPUT = 65536,         /* bytes of input that kz_check runs */
+    KZ_MAX_LINE = 50,             /* bytes of an event line, its newline included */
+    KZ_MAX_NAMED_LINE = 61,       /* the same where new names are written out */
+    KZ_MAX_DROP_LINE = 711,       /* the same of a line of KZ_MAX_GROUP names */
+    KZ_MAX_SHEET = 1005,          /* bytes of the text that kz_write_sheet writes */
+    KZ_MAX_LISTING = 39949,       /* bytes of a listing */
+    KZ_MAX_CHECK = 39968          /* bytes that kz_check writes */
 };
 
 /* The first line of a text in which new names are written out. */
@@ -76,16 +79,18 @@ enum {
 
 /* The refusals in the order in which they are judged: where several apply, the first is given. */
 enum kz_refusal {
-    KZ_DISORDERED = 1,       /* the table is not in order, as kz_cap says, or has too many rows */
+    KZ_DISORDERED = 1,       /* the table is not in order, as kz_cap says, or has too many rows; or the
+                                written bits are not KZ_WRITTEN_BYTES bytes */
     KZ_MISGROUPED = 13,      /* lent names: none, more than KZ_MAX_GROUP, or not strictly rising */
-    KZ_MISSPELT = 2,         /* text that is not spelled so; an unknown kind, right or cap_kind */
+    KZ_MISSPELT = 2,         /* text that is not spelled so; an unknown kind, right, cap_kind or mark */
     KZ_GIVEN_TWICE = 14,     /* a sheet's text gives a combination twice */
     KZ_NOT_GIVEN = 15,       /* a sheet's text leaves a combination out */
-    KZ_ILLEGAL_SPAN = 3,     /* an end above 4,294,967,296 */
+    KZ_ILLEGAL_SPAN = 3,     /* an end above 4,294,967,296; of a fresh create, above 65,536 */
     KZ_UNISSUED = 4,         /* name 0, or a name above the issued number */
     KZ_ENDED = 5,            /* a name that was issued, and whose capability has ended */
     KZ_OUTSIDE_SPAN = 6,     /* a span that is not inside the capability's */
     KZ_READ_ONLY = 7,        /* a write through a read-only capability, or a read-write borrow of it */
+    KZ_NOT_WRITTEN = 16,     /* a read through a fresh capability of an address that is not written */
     KZ_TOO_DEEP = 8,         /* a borrow from depth KZ_MAX_DEPTH */
     KZ_NAMES_SPENT = 9,      /* a create or borrow when KZ_MAX_NAME names are issued */
     KZ_MISNAMED = 12,        /* a written new name that is not the issued number plus one */
@@ -97,8 +102,9 @@ enum kz_refusal {
  * A capability. A table is a run of these: live capabilities stand first, in rising order of name,
  * and every later row is all zeros. A table is in order when it is so arranged, has at most
  * KZ_MAX_ROWS rows, and each row is as is said here, with no name above the issued number, nor that
- * above KZ_MAX_NAME; no span ends above 4,294,967,296; and what was borrowed has its parent in an
- * earlier row, a span inside the parent's, and a right not above it.
+ * above KZ_MAX_NAME; no span ends above 4,294,967,296, and that of a fresh one not above 65,536; and
+ * what was borrowed has its parent in an earlier row, a span inside the parent's, a right not above it,
+ * and the same mark.
  */
 typedef struct kz_cap {
     uint32_t name;   /* 1 to KZ_MAX_NAME, given out in order and never twice */
@@ -108,11 +114,13 @@ typedef struct kz_cap {
     uint32_t right;  /* KZ_RO or KZ_RW */
     uint32_t depth;  /* 1 for a created one, one more for each borrow, at most KZ_MAX_DEPTH */
     uint32_t kind;   /* KZ_REFERENCE, KZ_RAW or KZ_CELL; a created one is a reference */
+    uint32_t fresh;  /* the mark: 1 where nothing is read through it before it is written, else 0 */
 } kz_cap;
 
 /*
  * The tally of a table: the names issued, the allowed events of each kind and the refused events. A
- * count at 4,294,967,295 stays there. A new table has all rows zero and all of its tally zero.
+ * count at 4,294,967,295 stays there. A new table has all rows zero, all of its written bits and all of
+ * its tally.
  */
 typedef struct kz_tally {
     uint32_t issued;
@@ -155,13 +163,26 @@ typedef struct kz_sheet {
 } kz_sheet;
 
 /*
- * What a caller lends for events: a table of `rows` rows, 0 to KZ_MAX_ROWS of them, its tally, and the
- * conflict sheet by which events are carried out, NULL for the default one. Begin with all zeros here
- * too, and set the fields by name.
+ * What a caller lends for events: a table of `rows` rows, 0 to KZ_MAX_ROWS of them, its written bits,
+ * its tally, and the conflict sheet by which events are carried out, NULL for the default one. Begin
+ * with all zeros here too, and set the fields by name; all but the sheet are needed.
+ *
+ * The written bits say which addresses were written since they were last created over: 1 for written.
+ * They are KZ_WRITTEN_BYTES bytes, all zeros at first. Address A, from 0 to 65,535, has the bit worth
+ * 2^(A mod 8) in byte A / 8. Every allowed create clears the bits of its addresses, and every allowed
+ * write sets those of its own, whether anything is fresh or not; nothing else changes them. Only a read
+ * through a fresh capability looks at them. Addresses from 65,536 on have no bit, and no fresh
+ * capability reaches them.
+ *
+ * One table's bits belong to it throughout: lend the same ones with every event, also where nothing is
+ * fresh. With any other `written_size` than KZ_WRITTEN_BYTES every event and run is KZ_DISORDERED; what
+ * the bits are is taken as it stands. The calls for listings look at neither.
  */
 typedef struct kz_lent {
     kz_cap *table;
     size_t rows;
+    uint8_t *written;
+    size_t written_size; /* KZ_WRITTEN_BYTES */
     kz_tally *tally;
     const kz_sheet *sheet;
 } kz_lent;
@@ -169,17 +190,18 @@ typedef struct kz_lent {
 /* All memory for a table of KZ_MAX_ROWS rows but for a sheet, all zeros at first: see kz_lend. */
 typedef struct kz_part {
     kz_cap table[KZ_MAX_ROWS];
+    uint8_t written[KZ_WRITTEN_BYTES];
     kz_tally tally;
 } kz_part;
 
 /*
  * One event. What a kind lacks is 0 where an event is read, and not looked at where one is given:
  *
- *   KZ_CREATE    start length right        a new root, freshly allocated, as a write through it would
+ *   KZ_CREATE    start length right fresh  a new root, newly allocated, as a write through it would
  *                                          be: ends every capability that is touched, of whatever kind,
  *                                          and its subtree
- *   KZ_BORROW    name start length right   a new capability of kind `cap_kind` under a live one; takes
- *                cap_kind                  nothing away
+ *   KZ_BORROW    name start length right   a new capability of kind `cap_kind` under a live one, with
+ *                cap_kind                  its mark; takes nothing away
  *   KZ_READ      name start length         lowers to read-only every capability that it strikes, and
  *                                          its subtree
  *   KZ_WRITE     name start length         ends every capability that it strikes, and its subtree
@@ -201,8 +223,14 @@ typedef struct kz_part {
  * A subtree goes along whatever the kinds in it: a raw one is lowered and ends with an ancestor. Where
  * all are references there is no exception.
  *
+ * A create whose `fresh` is 1 makes memory that is written before it is read. A read through it, or
+ * through what is borrowed from it, is KZ_NOT_WRITTEN where it reads an address whose written bit is 0,
+ * as kz_lent says; one of no address never is. Whoever may write may write there first: a write asks
+ * for nothing to be written. A fresh create that ends above 65,536 is KZ_ILLEGAL_SPAN.
+ *
  * A span of length 0 touches nothing, so a create of length 0 ends nothing. Any other kind, any other
- * right than KZ_RO and KZ_RW, and in a borrow any other `cap_kind` than the three, is KZ_MISSPELT.
+ * right than KZ_RO and KZ_RW, in a borrow any other `cap_kind` than the three, and in a create any
+ * other `fresh` than 0 and 1, is KZ_MISSPELT.
  *
  * A log may write out the name of what a create or borrow makes. Then `named` is not 0, and `written`
  * is that name. Where it is not the issued number plus one, as 0 never is, the event is refused
@@ -219,6 +247,7 @@ typedef struct kz_event {
     uint32_t named;    /* not 0 where a new name is written out */
     uint32_t written;  /* the new name that is written out */
     uint32_t cap_kind; /* of what a borrow makes: KZ_REFERENCE, KZ_RAW or KZ_CELL */
+    uint32_t fresh;    /* of what a create makes: 1 for write before read, else 0 */
 } kz_event;
 
 /* An answer. */
@@ -244,8 +273,8 @@ static inline size_t kz_sheet_place(uint32_t kind, uint32_t access, uint32_t fro
  * Whether a row is empty is judged on the table before the event: KZ_TABLE_FULL is given also where a
  * create would end some.
  *
- * Allowed: the value is the new name for a create or borrow, else 0. The table and the tally follow
- * the event; the tally counts the event, and not what it ended.
+ * Allowed: the value is the new name for a create or borrow, else 0. The table, the written bits and
+ * the tally follow the event; the tally counts the event, and not what it ended.
  * Refused, with value 0: KZ_DISORDERED changes nothing. Any other refusal adds one to the refused
  * count and changes nothing else.
  */
@@ -257,17 +286,20 @@ static inline kz_answer kz_apply(const kz_lent *lent, const kz_event *event);
  * KZ_DROP_ALL, which is taken as kz_drop_all takes it; several may share names. One that reaches past
  * the end of the list has no names: KZ_MISGROUPED.
  *
- * `answers` gets the answer to each event, at the same place. The number of events is returned. The
- * order of the table is judged once, before the first: where it is not in order every answer is
- * KZ_DISORDERED, and nothing else is changed.
+ * `answers` gets the answer to each event, at the same place. The number of events is returned. What is
+ * lent is judged once, before the first: where the table is not in order, or the written bits are not
+ * KZ_WRITTEN_BYTES, every answer is KZ_DISORDERED, and nothing else is changed.
  */
 static inline size_t kz_apply_all(const kz_lent *lent, const kz_event *events, size_t count,
                                   const uint32_t *names, size_t names_len, kz_answer *answers);
 
-/* kz_apply for each kind, with the values that the kind has, and no written name. What kz_borrow makes
-   is a reference; kz_borrow_as is told the kind. */
+/* kz_apply for each kind, with the values that the kind has, and no written name. What kz_create makes
+   may be read unwritten; what kz_create_fresh makes may not. What kz_borrow makes is a reference;
+   kz_borrow_as is told the kind. */
 static inline kz_answer kz_create(const kz_lent *lent, uint32_t start, uint32_t length,
                                   uint32_t right);
+static inline kz_answer kz_create_fresh(const kz_lent *lent, uint32_t start, uint32_t length,
+                                        uint32_t right);
 static inline kz_answer kz_borrow(const kz_lent *lent, uint32_t name, uint32_t start,
                                   uint32_t length, uint32_t right);
 static inline kz_answer kz_borrow_as(const kz_lent *lent, uint32_t name, uint32_t start,
@@ -292,7 +324,8 @@ static inline kz_answer kz_drop(const kz_lent *lent, uint32_t name);
 static inline kz_answer kz_drop_all(const kz_lent *lent, const uint32_t *names, size_t count);
 
 /*
- * A run of event lines, until one is refused. The table is then as after the last allowed line.
+ * A run of event lines, until one is refused. The table and the written bits are then as after the last
+ * allowed line.
  *
  * In a text whose first line is KZ_NAMED_HEADER every create and borrow has its new name written out,
  * else none has: the lines are those of kz_write_event. That first line is counted as a line; it is no
@@ -311,15 +344,16 @@ static inline kz_answer kz_run(const kz_lent *lent, const uint8_t *text, size_t 
  * `(borrow NAME START LENGTH RIGHT)`, `(read NAME START LENGTH)`, `(write NAME START LENGTH)` and
  * `(drop NAME)`; with a written name `(create WRITTEN START LENGTH RIGHT)` and
  * `(borrow WRITTEN NAME START LENGTH RIGHT)`; and `(drop NAME .. NAME)` of a KZ_DROP_ALL, whose names
- * stand in `names` as for kz_apply_all. Of one name that is the line of KZ_DROP. The line of a borrow
- * ends in ` raw)` or ` cell)` where that is its `cap_kind`; that it is a reference is not written. Any
+ * stand in `names` as for kz_apply_all. Of one name that is the line of KZ_DROP. The line of a create
+ * ends in ` fresh)` where its `fresh` is 1. That of a borrow ends in ` raw)` or ` cell)` where that is
+ * its `cap_kind`; that it is a reference is not written, nor which mark it has from its parent. Any
  * numbers may be written; whether they are right is judged on a table.
  *
  * Allowed: the value is the length written, at most KZ_MAX_LINE, KZ_MAX_NAMED_LINE with a written
  * name, and KZ_MAX_DROP_LINE of a KZ_DROP_ALL.
  * Refused: KZ_MISGROUPED for a KZ_DROP_ALL of no name, of more than KZ_MAX_GROUP, or of names that do
- * not rise strictly; KZ_MISSPELT for an unknown kind, right or `cap_kind`; else KZ_BUFFER_TOO_SHORT.
- * `out` is untouched.
+ * not rise strictly; KZ_MISSPELT for an unknown kind or right, and for a `cap_kind` or `fresh` that the
+ * event has and that is none; else KZ_BUFFER_TOO_SHORT. `out` is untouched.
  */
 static inline kz_answer kz_write_event(const kz_event *event, const uint32_t *names,
                                        size_t names_len, uint8_t *out, size_t out_len);
@@ -341,8 +375,9 @@ static inline kz_answer kz_read_event(uint32_t named, const uint8_t *line, size_
 /*
  * Writes the listing of a table and of its tally's issued number to the start of `out`; the bytes
  * after it stay. It is `(issued N)`, then a line for each created capability by rising name: its name,
- * start, length, right, `raw` or `cell` where that is its kind, and those borrowed from it in the same
- * form, as in `(1 0 64 rw (2 0 8 rw raw (3 0 4 ro)) (4 8 8 ro cell))`.
+ * start, length, right, `raw` or `cell` where that is its kind, `fresh` where it is marked, and those
+ * borrowed from it in the same form, as in `(1 0 64 rw (2 0 8 rw raw (3 0 4 ro)) (4 8 8 ro cell))` and
+ * `(1 0 8 rw fresh (2 0 4 ro cell fresh))`. The written bits are not in it.
  *
  * Allowed: the value is the length written.
  * Refused: KZ_DISORDERED, else KZ_BUFFER_TOO_SHORT. `out` is untouched.
@@ -351,7 +386,8 @@ static inline kz_answer kz_write_listing(const kz_lent *lent, uint8_t *out, size
 
 /*
  * Reads a listing into a table, whose old contents are not judged, and into the tally's issued
- * number. The tally's other counts stay.
+ * number. The tally's other counts stay, and so do the written bits: they have to be those that the
+ * listed table had.
  *
  * Allowed: the value is 0. The whole table is written.
  * Refused: KZ_DISORDERED for more than KZ_MAX_ROWS rows, else KZ_MISSPELT when no table in order has
@@ -388,8 +424,9 @@ static inline kz_answer kz_write_sheet(const kz_sheet *sheet, uint8_t *out, size
 
 /*
  * Writes what the program capcheck prints for an input to the start of `out`; the bytes after it
- * stay. That is `(allowed LINES)` or `(refused NUMBER LINE)` for a run on KZ_MAX_ROWS empty rows by the
- * default sheet, and the listing after it, or `(long)` alone for an input above KZ_MAX_INPUT bytes.
+ * stay. That is `(allowed LINES)` or `(refused NUMBER LINE)` for a run on KZ_MAX_ROWS empty rows, with
+ * no address written, by the default sheet, and the listing after it, or `(long)` alone for an input
+ * above KZ_MAX_INPUT bytes.
  *
  * Allowed: the value is the length written, whatever the run's own verdict.
  * Refused: KZ_BUFFER_TOO_SHORT. `out` is untouched.
@@ -400,32 +437,34 @@ static inline kz_answer kz_check(const uint8_t *input, size_t input_len, uint8_t
 /*
  * The functions that the archives export. The calls above are made of these, which have the parts of
  * a kz_lent one by one. A language that cannot include this header declares them itself: each of their
- * structs is a run of 32-bit words without gaps, and each length is a size_t. A sheet is its bytes and
- * how many they are: none is the default one, of fewer than KZ_SHEET_PLACES the missing ones count as
- * KZ_END, and of more the first count. An answer is one number, the refusal times 2^32 plus the value;
- * only kz_abi_apply_all writes kz_answer structs.
+ * structs is a run of 32-bit words without gaps, and each length is a size_t. Written bits are bytes
+ * and how many they are, which must be KZ_WRITTEN_BYTES. A sheet is its bytes and how many they are:
+ * none is the default one, of fewer than KZ_SHEET_PLACES the missing ones count as KZ_END, and of more
+ * the first count. An answer is one number, the refusal times 2^32 plus the value; only
+ * kz_abi_apply_all writes kz_answer structs.
  */
 
 /* Both archives. */
 
 /* kz_apply; for a KZ_DROP_ALL `names` is the list in which its names stand. */
-uint64_t kz_abi_apply(kz_cap *table, size_t rows, kz_tally *tally, const uint8_t *sheet,
-                      size_t sheet_len, const kz_event *event, const uint32_t *names,
-                      size_t names_len);
+uint64_t kz_abi_apply(kz_cap *table, size_t rows, uint8_t *written, size_t written_size,
+                      kz_tally *tally, const uint8_t *sheet, size_t sheet_len,
+                      const kz_event *event, const uint32_t *names, size_t names_len);
 
 /*
  * kz_apply_all of as many events as there are answers for, or of all where there are more answers;
  * those behind stay. It returns how many events it took.
  */
-size_t kz_abi_apply_all(kz_cap *table, size_t rows, kz_tally *tally, const uint8_t *sheet,
-                        size_t sheet_len, const kz_event *events, size_t count,
-                        const uint32_t *names, size_t names_len, kz_answer *answers,
-                        size_t answers_len);
+size_t kz_abi_apply_all(kz_cap *table, size_t rows, uint8_t *written, size_t written_size,
+                        kz_tally *tally, const uint8_t *sheet, size_t sheet_len,
+                        const kz_event *events, size_t count, const uint32_t *names,
+                        size_t names_len, kz_answer *answers, size_t answers_len);
 
 /* libkelzoud.a alone. */
 
-uint64_t kz_abi_run(kz_cap *table, size_t rows, kz_tally *tally, const uint8_t *sheet,
-                    size_t sheet_len, const uint8_t *text, size_t text_len);
+uint64_t kz_abi_run(kz_cap *table, size_t rows, uint8_t *written, size_t written_size,
+                    kz_tally *tally, const uint8_t *sheet, size_t sheet_len, const uint8_t *text,
+                    size_t text_len);
 
 uint64_t kz_abi_write_event(const kz_event *event, const uint32_t *names, size_t names_len,
                             uint8_t *out, size_t out_len);
@@ -454,7 +493,8 @@ static inline kz_answer kz_abi_answer(uint64_t answer) {
 }
 
 static inline kz_lent kz_lend(kz_part *part) {
-    const kz_lent lent = {part->table, KZ_MAX_ROWS, &part->tally, NULL};
+    const kz_lent lent = {part->table, KZ_MAX_ROWS, part->written, KZ_WRITTEN_BYTES, &part->tally,
+                          NULL};
     return lent;
 }
 
@@ -472,21 +512,27 @@ static inline size_t kz_abi_places(const kz_sheet *sheet) {
 }
 
 static inline kz_answer kz_apply(const kz_lent *lent, const kz_event *event) {
-    return kz_abi_answer(kz_abi_apply(lent->table, lent->rows, lent->tally,
-                                      kz_abi_results(lent->sheet), kz_abi_places(lent->sheet),
-                                      event, NULL, 0));
+    return kz_abi_answer(kz_abi_apply(lent->table, lent->rows, lent->written, lent->written_size,
+                                      lent->tally, kz_abi_results(lent->sheet),
+                                      kz_abi_places(lent->sheet), event, NULL, 0));
 }
 
 static inline size_t kz_apply_all(const kz_lent *lent, const kz_event *events, size_t count,
                                   const uint32_t *names, size_t names_len, kz_answer *answers) {
-    return kz_abi_apply_all(lent->table, lent->rows, lent->tally, kz_abi_results(lent->sheet),
-                            kz_abi_places(lent->sheet), events, count, names, names_len, answers,
-                            count);
+    return kz_abi_apply_all(lent->table, lent->rows, lent->written, lent->written_size, lent->tally,
+                            kz_abi_results(lent->sheet), kz_abi_places(lent->sheet), events, count,
+                            names, names_len, answers, count);
 }
 
 static inline kz_answer kz_create(const kz_lent *lent, uint32_t start, uint32_t length,
                                   uint32_t right) {
-    const kz_event event = {KZ_CREATE, 0, start, length, right, 0, 0, 0};
+    const kz_event event = {KZ_CREATE, 0, start, length, right, 0, 0, 0, 0};
+    return kz_apply(lent, &event);
+}
+
+static inline kz_answer kz_create_fresh(const kz_lent *lent, uint32_t start, uint32_t length,
+                                        uint32_t right) {
+    const kz_event event = {KZ_CREATE, 0, start, length, right, 0, 0, 0, 1};
     return kz_apply(lent, &event);
 }
 
@@ -497,24 +543,24 @@ static inline kz_answer kz_borrow(const kz_lent *lent, uint32_t name, uint32_t s
 
 static inline kz_answer kz_borrow_as(const kz_lent *lent, uint32_t name, uint32_t start,
                                      uint32_t length, uint32_t right, uint32_t kind) {
-    const kz_event event = {KZ_BORROW, name, start, length, right, 0, 0, kind};
+    const kz_event event = {KZ_BORROW, name, start, length, right, 0, 0, kind, 0};
     return kz_apply(lent, &event);
 }
 
 static inline kz_answer kz_read(const kz_lent *lent, uint32_t name, uint32_t start,
                                 uint32_t length) {
-    const kz_event event = {KZ_READ, name, start, length, 0, 0, 0, 0};
+    const kz_event event = {KZ_READ, name, start, length, 0, 0, 0, 0, 0};
     return kz_apply(lent, &event);
 }
 
 static inline kz_answer kz_write(const kz_lent *lent, uint32_t name, uint32_t start,
                                  uint32_t length) {
-    const kz_event event = {KZ_WRITE, name, start, length, 0, 0, 0, 0};
+    const kz_event event = {KZ_WRITE, name, start, length, 0, 0, 0, 0, 0};
     return kz_apply(lent, &event);
 }
 
 static inline kz_answer kz_drop(const kz_lent *lent, uint32_t name) {
-    const kz_event event = {KZ_DROP, name, 0, 0, 0, 0, 0, 0};
+    const kz_event event = {KZ_DROP, name, 0, 0, 0, 0, 0, 0, 0};
     return kz_apply(lent, &event);
 }
 
@@ -522,16 +568,16 @@ static inline kz_answer kz_drop_all(const kz_lent *lent, const uint32_t *names, 
     /* No list above KZ_MAX_GROUP is a group, so that of a longer one, which may be longer than 32 bits
        can say, one name more than that is enough to be refused. */
     const size_t length = count <= KZ_MAX_GROUP ? count : KZ_MAX_GROUP + 1;
-    const kz_event event = {KZ_DROP_ALL, 0, 0, (uint32_t)length, 0, 0, 0, 0};
-    return kz_abi_answer(kz_abi_apply(lent->table, lent->rows, lent->tally,
-                                      kz_abi_results(lent->sheet), kz_abi_places(lent->sheet),
-                                      &event, names, length));
+    const kz_event event = {KZ_DROP_ALL, 0, 0, (uint32_t)length, 0, 0, 0, 0, 0};
+    return kz_abi_answer(kz_abi_apply(lent->table, lent->rows, lent->written, lent->written_size,
+                                      lent->tally, kz_abi_results(lent->sheet),
+                                      kz_abi_places(lent->sheet), &event, names, length));
 }
 
 static inline kz_answer kz_run(const kz_lent *lent, const uint8_t *text, size_t text_len) {
-    return kz_abi_answer(kz_abi_run(lent->table, lent->rows, lent->tally,
-                                    kz_abi_results(lent->sheet), kz_abi_places(lent->sheet), text,
-                                    text_len));
+    return kz_abi_answer(kz_abi_run(lent->table, lent->rows, lent->written, lent->written_size,
+                                    lent->tally, kz_abi_results(lent->sheet),
+                                    kz_abi_places(lent->sheet), text, text_len));
 }
 
 static inline kz_answer kz_write_event(const kz_event *event, const uint32_t *names,

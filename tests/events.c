@@ -19,16 +19,17 @@ static void check(const char *what, kz_answer answer, uint32_t refusal, uint32_t
 /* A sheet by which reads lower what they strike, and writes keep it, but a stranger's ends cells. */
 static void check_sheet(void) {
     static kz_cap table[4];
+    static uint8_t written[KZ_WRITTEN_BYTES];
     static kz_tally tally;
     static const kz_sheet sheet = {{1, 1, 1, 0, 0, 0, 1, 1, 1, 0, 0, 0, 1, 1, 1, 0, 0, 255}};
     static const kz_event events[] = {
-        {KZ_WRITE, 1, 0, 8, 0, 0, 0, 0},
-        {KZ_WRITE, 2, 0, 8, 0, 0, 0, 0},
-        {KZ_READ, 3, 0, 8, 0, 0, 0, 0},
-        {KZ_WRITE, 2, 0, 8, 0, 0, 0, 0},
+        {KZ_WRITE, 1, 0, 8, 0, 0, 0, 0, 0},
+        {KZ_WRITE, 2, 0, 8, 0, 0, 0, 0, 0},
+        {KZ_READ, 3, 0, 8, 0, 0, 0, 0, 0},
+        {KZ_WRITE, 2, 0, 8, 0, 0, 0, 0, 0},
     };
     static const uint32_t names[] = {2, 3};
-    const kz_lent lent = {table, 4, &tally, &sheet};
+    const kz_lent lent = {table, 4, written, sizeof written, &tally, &sheet};
     kz_answer answers[4];
     check("create by a sheet", kz_create(&lent, 0, 64, KZ_RW), 0, 1);
     check("borrow by a sheet", kz_borrow(&lent, 1, 0, 8, KZ_RW), 0, 2);
@@ -48,18 +49,56 @@ static void check_sheet(void) {
     check("write through what it kept", kz_write(&lent, 1, 0, 8), 0, 0);
 }
 
+/* Nothing is read before it is written, in one call as in many. */
+static void check_fresh(void) {
+    static kz_part part;
+    static const kz_event events[] = {
+        {KZ_CREATE, 0, 0, 16, KZ_RW, 0, 0, 0, 1},
+        {KZ_READ, 1, 0, 8, 0, 0, 0, 0, 0},
+        {KZ_BORROW, 1, 0, 8, KZ_RW, 0, 0, KZ_RAW, 0},
+        {KZ_WRITE, 2, 0, 8, 0, 0, 0, 0, 0},
+        {KZ_READ, 1, 0, 8, 0, 0, 0, 0, 0},
+        {KZ_READ, 1, 0, 9, 0, 0, 0, 0, 0},
+        {KZ_CREATE, 0, 0, 8, KZ_RW, 1, 3, 0, 1},
+        {KZ_READ, 3, 0, 8, 0, 0, 0, 0, 0},
+        {KZ_CREATE, 0, 0, 8, KZ_RW, 0, 0, 0, 2},
+        {KZ_CREATE, 0, 65536, 8, KZ_RW, 0, 0, 0, 1},
+    };
+    static const kz_answer expected[] = {
+        {0, 1}, {KZ_NOT_WRITTEN, 0}, {0, 2}, {0, 0}, {0, 0}, {KZ_NOT_WRITTEN, 0},
+        {0, 3}, {KZ_NOT_WRITTEN, 0}, {KZ_MISSPELT, 0}, {KZ_ILLEGAL_SPAN, 0},
+    };
+    enum { COUNT = sizeof events / sizeof events[0] };
+    kz_lent lent = kz_lend(&part);
+    kz_answer answers[COUNT];
+    int i;
+    if (kz_apply_all(&lent, events, COUNT, NULL, 0, answers) != COUNT) {
+        puts("events.c: not all events were taken on fresh memory");
+        failures++;
+    }
+    for (i = 0; i < COUNT; i++) {
+        check("fresh in many", answers[i], expected[i].refusal, expected[i].value);
+    }
+    check("create fresh", kz_create_fresh(&lent, 64, 8, KZ_RW), 0, 4);
+    check("read before a write", kz_read(&lent, 4, 64, 1), KZ_NOT_WRITTEN, 0);
+    check("write to fresh memory", kz_write(&lent, 4, 64, 1), 0, 0);
+    check("read after a write", kz_read(&lent, 4, 64, 1), 0, 0);
+    lent.written_size--;
+    check("too few written bits", kz_write(&lent, 4, 64, 1), KZ_DISORDERED, 0);
+}
+
 int main(void) {
     static kz_part part;
     static const uint32_t names[] = {1, 3};
     static const kz_event events[] = {
-        {KZ_CREATE, 0, 64, 64, KZ_RW, 1, 3, 0},
-        {KZ_READ, 3, 128, 1, 0, 0, 0, 0},
-        {KZ_DROP_ALL, 0, 0, 2, 0, 0, 0, 0},
-        {KZ_CREATE, 0, 0, 8, KZ_RW, 0, 0, 0},
-        {KZ_BORROW, 4, 0, 8, KZ_RW, 1, 5, KZ_RAW},
-        {KZ_WRITE, 4, 0, 8, 0, 0, 0, 0},
-        {KZ_WRITE, 5, 0, 8, 0, 0, 0, 0},
-        {KZ_BORROW, 4, 0, 8, KZ_RW, 0, 0, 3},
+        {KZ_CREATE, 0, 64, 64, KZ_RW, 1, 3, 0, 0},
+        {KZ_READ, 3, 128, 1, 0, 0, 0, 0, 0},
+        {KZ_DROP_ALL, 0, 0, 2, 0, 0, 0, 0, 0},
+        {KZ_CREATE, 0, 0, 8, KZ_RW, 0, 0, 0, 0},
+        {KZ_BORROW, 4, 0, 8, KZ_RW, 1, 5, KZ_RAW, 0},
+        {KZ_WRITE, 4, 0, 8, 0, 0, 0, 0, 0},
+        {KZ_WRITE, 5, 0, 8, 0, 0, 0, 0, 0},
+        {KZ_BORROW, 4, 0, 8, KZ_RW, 0, 0, 3, 0},
     };
     enum { COUNT = sizeof events / sizeof events[0] };
     const kz_lent lent = kz_lend(&part);
@@ -88,5 +127,6 @@ int main(void) {
     check("apply", kz_apply(&lent, events), KZ_MISNAMED, 0);
     check("drop all", kz_drop_all(&lent, names, 2), KZ_ENDED, 0);
     check_sheet();
+    check_fresh();
     return failures != 0;
 }

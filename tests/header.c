@@ -1,7 +1,7 @@
 /*
  * The header as C and as C++: the layout of the structs, each call, each exported function, and
  * pointers that are NULL where their length is 0. Prints each check that fails; the exit status is 0
- * when none does. Tables and tallies are static, so that they begin as zeros.
+ * when none does. Tables, written bits and tallies are static, so that they begin as zeros.
  */
 #include <stdio.h>
 #include <string.h>
@@ -33,13 +33,13 @@ static int refused(kz_answer answer, enum kz_refusal refusal) {
 
 static kz_event event_of(uint32_t kind, uint32_t name, uint32_t start, uint32_t length,
                          uint32_t right) {
-    const kz_event event = {kind, name, start, length, right, 0, 0, 0};
+    const kz_event event = {kind, name, start, length, right, 0, 0, 0, 0};
     return event;
 }
 
 static kz_event named_event(uint32_t kind, uint32_t written, uint32_t name, uint32_t start,
                             uint32_t length, uint32_t right) {
-    const kz_event event = {kind, name, start, length, right, 1, written, 0};
+    const kz_event event = {kind, name, start, length, right, 1, written, 0, 0};
     return event;
 }
 
@@ -48,19 +48,26 @@ static kz_event with_kind(kz_event event, uint32_t kind) {
     return event;
 }
 
+static kz_event with_mark(kz_event event, uint32_t fresh) {
+    event.fresh = fresh;
+    return event;
+}
+
 static int same_event(const kz_event *one, const kz_event *other) {
     return memcmp(one, other, sizeof *one) == 0;
 }
 
 static void check_layout(void) {
-    CHECK(sizeof(kz_cap) == 28);
+    CHECK(sizeof(kz_cap) == 32);
     CHECK(sizeof(kz_tally) == 28);
-    CHECK(sizeof(kz_event) == 32);
+    CHECK(sizeof(kz_event) == 36);
     CHECK(sizeof(kz_answer) == 8);
-    CHECK(sizeof(kz_part) == KZ_MAX_ROWS * 28 + 28);
+    CHECK(sizeof(kz_part) == KZ_MAX_ROWS * 32 + KZ_WRITTEN_BYTES + 28);
     CHECK(sizeof(kz_sheet) == KZ_SHEET_PLACES);
+    CHECK(KZ_WRITTEN_ADDRESSES == 8 * KZ_WRITTEN_BYTES);
     CHECK(offsetof(kz_cap, depth) == 20);
     CHECK(offsetof(kz_cap, kind) == 24);
+    CHECK(offsetof(kz_cap, fresh) == 28);
     CHECK(offsetof(kz_tally, refused) == 24);
     CHECK(offsetof(kz_event, kind) == 0);
     CHECK(offsetof(kz_event, name) == 4);
@@ -70,6 +77,7 @@ static void check_layout(void) {
     CHECK(offsetof(kz_event, named) == 20);
     CHECK(offsetof(kz_event, written) == 24);
     CHECK(offsetof(kz_event, cap_kind) == 28);
+    CHECK(offsetof(kz_event, fresh) == 32);
     CHECK(offsetof(kz_answer, value) == 4);
 }
 
@@ -89,6 +97,8 @@ static void check_answers(void) {
         {0x0000000dffffffffu, KZ_MISGROUPED, 4294967295u},
         {0x0000000e00000000u, KZ_GIVEN_TWICE, 0},
         {0x0000000f00000000u, KZ_NOT_GIVEN, 0},
+        {0x0000001000000000u, KZ_NOT_WRITTEN, 0},
+        {0x00000010ffffffffu, KZ_NOT_WRITTEN, 4294967295u},
     };
     size_t i;
     for (i = 0; i < sizeof cases / sizeof cases[0]; i++) {
@@ -102,15 +112,19 @@ static void check_lend(void) {
     static kz_part part;
     const kz_lent lent = kz_lend(&part);
     CHECK(lent.table == part.table && lent.rows == KZ_MAX_ROWS && lent.tally == &part.tally);
+    CHECK(lent.written == part.written && lent.written_size == KZ_WRITTEN_BYTES);
     CHECK(lent.sheet == NULL);
     CHECK(allowed(kz_create(&lent, 0, 64, KZ_RW), 1));
     CHECK(part.table[0].name == 1 && part.tally.creates == 1);
+    CHECK(allowed(kz_write(&lent, 1, 16, 8), 0));
+    CHECK(part.written[1] == 0 && part.written[2] == 255 && part.written[3] == 0);
 }
 
 static void check_events(void) {
     static kz_cap table[3];
+    static uint8_t written[KZ_WRITTEN_BYTES];
     static kz_tally tally;
-    const kz_lent lent = {table, 3, &tally, NULL};
+    const kz_lent lent = {table, 3, written, sizeof written, &tally, NULL};
     kz_event event = event_of(7, 1, 0, 1, KZ_RW);
     CHECK(allowed(kz_create(&lent, 0, 64, KZ_RW), 1));
     CHECK(allowed(kz_borrow(&lent, 1, 0, 16, KZ_RW), 2));
@@ -136,8 +150,9 @@ static void check_events(void) {
 
 static void check_reused_memory(void) {
     static kz_cap table[3];
+    static uint8_t written[KZ_WRITTEN_BYTES];
     static kz_tally tally;
-    const kz_lent lent = {table, 3, &tally, NULL};
+    const kz_lent lent = {table, 3, written, sizeof written, &tally, NULL};
     CHECK(allowed(kz_create(&lent, 0, 64, KZ_RW), 1));
     CHECK(allowed(kz_borrow(&lent, 1, 0, 16, KZ_RW), 2));
     CHECK(allowed(kz_create(&lent, 8, 0, KZ_RW), 3));
@@ -156,8 +171,9 @@ static void check_reused_memory(void) {
    and by a stranger's write where its parent stays. */
 static void check_raw(void) {
     static kz_cap table[5];
+    static uint8_t written[KZ_WRITTEN_BYTES];
     static kz_tally tally;
-    const kz_lent lent = {table, 5, &tally, NULL};
+    const kz_lent lent = {table, 5, written, sizeof written, &tally, NULL};
     CHECK(allowed(kz_create(&lent, 0, 64, KZ_RW), 1));
     CHECK(allowed(kz_borrow(&lent, 1, 0, 16, KZ_RW), 2));
     CHECK(allowed(kz_borrow_as(&lent, 2, 0, 8, KZ_RW, KZ_RAW), 3));
@@ -197,8 +213,9 @@ static void check_raw(void) {
    inside one lowers the other. */
 static void check_cells(void) {
     static kz_cap table[5];
+    static uint8_t written[KZ_WRITTEN_BYTES];
     static kz_tally tally;
-    const kz_lent lent = {table, 5, &tally, NULL};
+    const kz_lent lent = {table, 5, written, sizeof written, &tally, NULL};
     uint32_t i;
     CHECK(allowed(kz_create(&lent, 0, 16, KZ_RW), 1));
     CHECK(allowed(kz_borrow_as(&lent, 1, 0, 8, KZ_RW, KZ_CELL), 2));
@@ -233,8 +250,9 @@ static void check_cells(void) {
 static void check_wrong_kinds(void) {
     static const uint32_t wrong[] = {3, 255, 256, KZ_RAW + 256, 4294967295u};
     static kz_cap table[3];
+    static uint8_t written[KZ_WRITTEN_BYTES];
     static kz_tally tally;
-    const kz_lent lent = {table, 3, &tally, NULL};
+    const kz_lent lent = {table, 3, written, sizeof written, &tally, NULL};
     uint8_t out[64];
     kz_event event = with_kind(event_of(KZ_CREATE, 0, 0, 64, KZ_RW), KZ_CELL);
     size_t i;
@@ -265,6 +283,233 @@ static void check_wrong_kinds(void) {
     CHECK(tally.reads == 2 && tally.refused == 10);
 }
 
+/* Nothing is read through what was created fresh, nor through what is borrowed from that, before it is
+   written. The bits follow each allowed create and write. */
+static void check_fresh(void) {
+    static kz_cap table[4];
+    static uint8_t written[KZ_WRITTEN_BYTES];
+    static kz_tally tally;
+    const kz_lent lent = {table, 4, written, sizeof written, &tally, NULL};
+    CHECK(allowed(kz_create_fresh(&lent, 64, 16, KZ_RW), 1));
+    CHECK(table[0].fresh == 1 && table[0].kind == KZ_REFERENCE && table[0].right == KZ_RW);
+    CHECK(refused(kz_read(&lent, 1, 64, 1), KZ_NOT_WRITTEN));
+    CHECK(refused(kz_read(&lent, 1, 79, 1), KZ_NOT_WRITTEN));
+    CHECK(allowed(kz_read(&lent, 1, 64, 0), 0));
+    CHECK(refused(kz_read(&lent, 1, 64, 17), KZ_OUTSIDE_SPAN));
+    CHECK(refused(kz_read(&lent, 2, 64, 1), KZ_UNISSUED));
+    /* A borrow has the mark of its parent, and what is written through it is written for all. */
+    CHECK(allowed(kz_borrow_as(&lent, 1, 64, 8, KZ_RW, KZ_CELL), 2));
+    CHECK(allowed(kz_borrow(&lent, 2, 64, 8, KZ_RO), 3));
+    CHECK(table[1].fresh == 1 && table[1].kind == KZ_CELL && table[2].fresh == 1);
+    CHECK(refused(kz_read(&lent, 3, 64, 1), KZ_NOT_WRITTEN));
+    CHECK(refused(kz_write(&lent, 3, 64, 1), KZ_READ_ONLY));
+    CHECK(written[8] == 0);
+    CHECK(allowed(kz_write(&lent, 2, 64, 4), 0));
+    CHECK(written[7] == 0 && written[8] == 0x0f && written[9] == 0);
+    CHECK(allowed(kz_read(&lent, 2, 64, 4), 0));
+    CHECK(refused(kz_read(&lent, 2, 64, 5), KZ_NOT_WRITTEN));
+    CHECK(refused(kz_read(&lent, 1, 67, 2), KZ_NOT_WRITTEN));
+    CHECK(refused(kz_read(&lent, 3, 64, 1), KZ_ENDED));
+    CHECK(allowed(kz_read(&lent, 1, 66, 2), 0));
+    /* Across two bytes, and into what is written already. */
+    CHECK(allowed(kz_write(&lent, 1, 71, 3), 0));
+    CHECK(written[8] == 0x8f && written[9] == 0x03 && table[1].name == 0);
+    CHECK(refused(kz_read(&lent, 1, 64, 10), KZ_NOT_WRITTEN));
+    CHECK(allowed(kz_write(&lent, 1, 67, 4), 0));
+    CHECK(allowed(kz_read(&lent, 1, 64, 10), 0));
+    CHECK(refused(kz_read(&lent, 1, 64, 11), KZ_NOT_WRITTEN));
+    CHECK(written[8] == 0xff && written[9] == 0x03);
+    /* Neither a drop nor a refusal changes the bits; a create that is not fresh clears its own. */
+    CHECK(refused(kz_create(&lent, 64, 8, 3), KZ_MISSPELT));
+    CHECK(allowed(kz_drop(&lent, 1), 0));
+    CHECK(written[8] == 0xff && written[9] == 0x03);
+    CHECK(allowed(kz_create(&lent, 70, 3, KZ_RW), 4));
+    CHECK(written[8] == 0x3f && written[9] == 0x02 && table[0].fresh == 0);
+    CHECK(allowed(kz_read(&lent, 4, 70, 3), 0));
+    CHECK(allowed(kz_write(&lent, 4, 71, 1), 0));
+    CHECK(written[8] == 0xbf && written[9] == 0x02);
+    /* What was written before the create is not written after it. */
+    CHECK(allowed(kz_create_fresh(&lent, 64, 8, KZ_RW), 5));
+    CHECK(written[8] == 0 && written[9] == 0x02 && table[0].name == 5 && table[1].name == 0);
+    CHECK(refused(kz_read(&lent, 5, 71, 1), KZ_NOT_WRITTEN));
+    CHECK(allowed(kz_create(&lent, 64, 0, KZ_RW), 6));
+    CHECK(tally.creates == 4 && tally.borrows == 2 && tally.reads == 5 && tally.writes == 4);
+    CHECK(tally.refused == 13);
+}
+
+/* Fresh and read-only: it can be read only if another may write there, as by a sheet that keeps what a
+   create strikes. */
+static void check_fresh_by_sheet(void) {
+    static kz_cap table[4];
+    static uint8_t written[KZ_WRITTEN_BYTES];
+    static kz_tally tally;
+    static const kz_sheet sheet = {{KZ_KEEP}};
+    const kz_lent lent = {table, 4, written, sizeof written, &tally, &sheet};
+    CHECK(allowed(kz_create_fresh(&lent, 0, 8, KZ_RO), 1));
+    CHECK(refused(kz_write(&lent, 1, 0, 8), KZ_READ_ONLY));
+    CHECK(refused(kz_read(&lent, 1, 0, 8), KZ_NOT_WRITTEN));
+    CHECK(allowed(kz_create(&lent, 0, 4, KZ_RW), 2));
+    CHECK(allowed(kz_write(&lent, 2, 0, 4), 0));
+    CHECK(table[0].fresh == 1 && table[1].fresh == 0 && written[0] == 0x0f);
+    CHECK(allowed(kz_read(&lent, 1, 0, 4), 0));
+    CHECK(refused(kz_read(&lent, 1, 0, 5), KZ_NOT_WRITTEN));
+    CHECK(allowed(kz_create(&lent, 2, 2, KZ_RW), 3));
+    CHECK(written[0] == 0x03);
+    CHECK(allowed(kz_read(&lent, 1, 0, 2), 0));
+    CHECK(refused(kz_read(&lent, 1, 0, 3), KZ_NOT_WRITTEN));
+    CHECK(allowed(kz_read(&lent, 2, 0, 4), 0));
+}
+
+/* Fresh memory ends at 65,536. Above it nothing has a bit. */
+static void check_fresh_limits(void) {
+    static kz_cap table[4];
+    static uint8_t written[KZ_WRITTEN_BYTES];
+    static kz_tally tally;
+    const kz_lent lent = {table, 4, written, sizeof written, &tally, NULL};
+    const uint32_t most = 4294967295u, end = KZ_WRITTEN_ADDRESSES;
+    size_t i;
+    CHECK(refused(kz_create_fresh(&lent, end - 1, 2, KZ_RW), KZ_ILLEGAL_SPAN));
+    CHECK(refused(kz_create_fresh(&lent, end, 1, KZ_RW), KZ_ILLEGAL_SPAN));
+    CHECK(refused(kz_create_fresh(&lent, end + 1, 0, KZ_RW), KZ_ILLEGAL_SPAN));
+    CHECK(refused(kz_create_fresh(&lent, 0, end + 1, KZ_RW), KZ_ILLEGAL_SPAN));
+    CHECK(refused(kz_create_fresh(&lent, most, 1, KZ_RW), KZ_ILLEGAL_SPAN));
+    CHECK(refused(kz_create_fresh(&lent, most, most, KZ_RW), KZ_ILLEGAL_SPAN));
+    CHECK(allowed(kz_create_fresh(&lent, end, 0, KZ_RW), 1));
+    CHECK(allowed(kz_read(&lent, 1, end, 0), 0));
+    CHECK(allowed(kz_create_fresh(&lent, 0, end, KZ_RW), 2));
+    CHECK(allowed(kz_write(&lent, 2, 0, end), 0));
+    for (i = 0; i < sizeof written; i++) CHECK(written[i] == 255);
+    CHECK(allowed(kz_read(&lent, 2, 0, end), 0));
+    CHECK(allowed(kz_create_fresh(&lent, end - 1, 1, KZ_RW), 3));
+    CHECK(written[KZ_WRITTEN_BYTES - 1] == 0x7f);
+    CHECK(refused(kz_read(&lent, 3, end - 1, 1), KZ_NOT_WRITTEN));
+    CHECK(allowed(kz_write(&lent, 3, end - 1, 1), 0));
+    CHECK(allowed(kz_read(&lent, 3, end - 1, 1), 0));
+    /* A span across the limit changes the bits below it. */
+    CHECK(allowed(kz_create(&lent, end - 2, 16, KZ_RW), 4));
+    CHECK(written[KZ_WRITTEN_BYTES - 1] == 0x3f && written[0] == 255);
+    CHECK(allowed(kz_read(&lent, 4, end - 2, 16), 0));
+    CHECK(allowed(kz_write(&lent, 4, end - 1, 15), 0));
+    CHECK(written[KZ_WRITTEN_BYTES - 1] == 0xbf && written[0] == 255);
+    CHECK(allowed(kz_create(&lent, end, 64, KZ_RW), 5));
+    CHECK(allowed(kz_write(&lent, 5, end, 64), 0));
+    CHECK(allowed(kz_create(&lent, most, 1, KZ_RW), 6));
+    CHECK(allowed(kz_write(&lent, 6, most, 1), 0));
+    CHECK(written[KZ_WRITTEN_BYTES - 1] == 0xbf && written[0] == 255);
+}
+
+/* Marks that are none, in an event and in a row; and a mark where no event has one. */
+static void check_wrong_marks(void) {
+    static const uint32_t wrong[] = {2, 255, 256, 257, 4294967295u};
+    static kz_cap table[3];
+    static uint8_t written[KZ_WRITTEN_BYTES];
+    static kz_tally tally;
+    const kz_lent lent = {table, 3, written, sizeof written, &tally, NULL};
+    uint8_t out[64];
+    kz_event event;
+    size_t i;
+    for (i = 0; i < sizeof wrong / sizeof wrong[0]; i++) {
+        event = with_mark(event_of(KZ_CREATE, 0, 0, 64, KZ_RW), wrong[i]);
+        CHECK(refused(kz_apply(&lent, &event), KZ_MISSPELT));
+        event.start = 4294967295u;
+        CHECK(refused(kz_apply(&lent, &event), KZ_MISSPELT));
+    }
+    CHECK(tally.refused == 10);
+    event = with_mark(event_of(KZ_CREATE, 0, 0, 64, KZ_RW), 1);
+    CHECK(allowed(kz_apply(&lent, &event), 1));
+    event = with_mark(event_of(KZ_BORROW, 1, 0, 8, KZ_RW), 0);
+    CHECK(allowed(kz_apply(&lent, &event), 2));
+    CHECK(table[0].fresh == 1 && table[1].fresh == 1);
+    event = with_mark(event_of(KZ_WRITE, 1, 0, 64, 0), 7);
+    CHECK(allowed(kz_apply(&lent, &event), 0));
+    event = with_mark(event_of(KZ_READ, 1, 0, 64, 0), 7);
+    CHECK(allowed(kz_apply(&lent, &event), 0));
+    event = with_mark(event_of(KZ_DROP, 1, 0, 0, 0), 7);
+    CHECK(allowed(kz_apply(&lent, &event), 0));
+    CHECK(allowed(kz_create(&lent, 0, 64, KZ_RW), 3));
+    event = with_mark(event_of(KZ_BORROW, 3, 0, 8, KZ_RW), 1);
+    CHECK(allowed(kz_apply(&lent, &event), 4));
+    event = with_mark(event_of(KZ_BORROW, 3, 0, 8, KZ_RW), 2);
+    CHECK(allowed(kz_apply(&lent, &event), 5));
+    CHECK(table[1].fresh == 0 && table[2].fresh == 0);
+    CHECK(allowed(kz_drop(&lent, 5), 0));
+    /* Two rows with marks that differ, or of which one is none. */
+    table[1].fresh = 1;
+    CHECK(refused(kz_read(&lent, 3, 0, 8), KZ_DISORDERED));
+    CHECK(refused(kz_write_listing(&lent, out, sizeof out), KZ_DISORDERED));
+    table[0].fresh = 1;
+    CHECK(refused(kz_read(&lent, 3, 0, 8), KZ_NOT_WRITTEN));
+    table[1].fresh = 0;
+    CHECK(refused(kz_read(&lent, 3, 0, 8), KZ_DISORDERED));
+    for (i = 0; i < sizeof wrong / sizeof wrong[0]; i++) {
+        table[0].fresh = table[1].fresh = wrong[i];
+        CHECK(refused(kz_read(&lent, 3, 0, 8), KZ_DISORDERED));
+        CHECK(refused(kz_write_listing(&lent, out, sizeof out), KZ_DISORDERED));
+    }
+    table[0].fresh = table[1].fresh = 0;
+    table[2].fresh = 1;
+    CHECK(refused(kz_read(&lent, 3, 0, 8), KZ_DISORDERED));
+    table[2].fresh = 0;
+    CHECK(allowed(kz_read(&lent, 3, 0, 8), 0));
+    /* A marked row that ends above 65,536. */
+    table[0].fresh = table[1].fresh = 1;
+    table[0].length = KZ_WRITTEN_ADDRESSES;
+    CHECK(allowed(kz_write(&lent, 3, 65535, 1), 0));
+    table[0].length = KZ_WRITTEN_ADDRESSES + 1;
+    CHECK(refused(kz_write(&lent, 3, 65535, 1), KZ_DISORDERED));
+    table[0].fresh = table[1].fresh = 0;
+    CHECK(allowed(kz_write(&lent, 3, 65535, 2), 0));
+    CHECK(tally.refused == 11);
+}
+
+/* Any other number of bytes refuses every event and run, before all else, and changes nothing. What is
+   not lent them does not ask for them. */
+static void check_wrong_sizes(void) {
+    static const size_t wrong[] = {0, 1, KZ_WRITTEN_BYTES - 1, KZ_WRITTEN_BYTES + 1};
+    static const uint8_t line[] = "(create 0 8 rw)\n";
+    static const uint8_t listing[] = "(issued 1)\n(1 0 8 rw)\n";
+    static const uint32_t falling[] = {2, 1};
+    static kz_cap table[2], before[2];
+    static uint8_t written[KZ_WRITTEN_BYTES + 1], bits[KZ_WRITTEN_BYTES + 1];
+    static kz_tally tally;
+    kz_lent lent = {table, 2, written, KZ_WRITTEN_BYTES, &tally, NULL};
+    kz_event events[2];
+    kz_answer answers[2];
+    uint8_t out[64];
+    size_t i;
+    events[0] = event_of(KZ_CREATE, 0, 0, 8, KZ_RW);
+    events[1] = event_of(9, 0, 0, 8, KZ_RW);
+    memset(written, 0x5a, sizeof written);
+    memset(bits, 0x5a, sizeof bits);
+    CHECK(allowed(kz_read_listing(&lent, listing, sizeof listing - 1), 0));
+    memcpy(before, table, sizeof table);
+    for (i = 0; i < sizeof wrong / sizeof wrong[0]; i++) {
+        lent.written = wrong[i] == 0 ? NULL : written;
+        lent.written_size = wrong[i];
+        CHECK(refused(kz_create(&lent, 8, 8, KZ_RW), KZ_DISORDERED));
+        CHECK(refused(kz_create_fresh(&lent, 8, 8, KZ_RW), KZ_DISORDERED));
+        CHECK(refused(kz_borrow(&lent, 1, 0, 8, KZ_RW), KZ_DISORDERED));
+        CHECK(refused(kz_read(&lent, 1, 0, 8), KZ_DISORDERED));
+        CHECK(refused(kz_write(&lent, 1, 0, 8), KZ_DISORDERED));
+        CHECK(refused(kz_drop(&lent, 1), KZ_DISORDERED));
+        CHECK(refused(kz_drop_all(&lent, falling, 2), KZ_DISORDERED));
+        CHECK(kz_apply_all(&lent, events, 2, NULL, 0, answers) == 2);
+        CHECK(refused(answers[0], KZ_DISORDERED) && refused(answers[1], KZ_DISORDERED));
+        CHECK(refused(kz_run(&lent, line, sizeof line - 1), KZ_DISORDERED));
+        CHECK(refused(kz_run(&lent, line, 1), KZ_DISORDERED));
+        CHECK(refused(kz_run(&lent, NULL, 0), KZ_DISORDERED));
+        CHECK(allowed(kz_write_listing(&lent, out, sizeof out), sizeof listing - 1));
+        CHECK(allowed(kz_read_listing(&lent, listing, sizeof listing - 1), 0));
+        CHECK(memcmp(table, before, sizeof table) == 0 && tally.issued == 1);
+        CHECK(tally.creates == 0 && tally.refused == 0);
+        CHECK(memcmp(written, bits, sizeof written) == 0);
+    }
+    lent.written = written;
+    lent.written_size = KZ_WRITTEN_BYTES;
+    CHECK(allowed(kz_write(&lent, 1, 0, 8), 0));
+    CHECK(written[0] == 255 && written[1] == 0x5a);
+}
+
 /* An event with a new name written out, by itself. */
 static kz_answer apply_named(const kz_lent *lent, uint32_t kind, uint32_t written, uint32_t name,
                              uint32_t start, uint32_t length, uint32_t right) {
@@ -274,8 +519,9 @@ static kz_answer apply_named(const kz_lent *lent, uint32_t kind, uint32_t writte
 
 static void check_named_events(void) {
     static kz_cap table[2];
+    static uint8_t written[KZ_WRITTEN_BYTES];
     static kz_tally tally;
-    const kz_lent lent = {table, 2, &tally, NULL};
+    const kz_lent lent = {table, 2, written, sizeof written, &tally, NULL};
     kz_event event;
     CHECK(refused(apply_named(&lent, KZ_CREATE, 0, 0, 0, 64, KZ_RW), KZ_MISNAMED));
     CHECK(refused(apply_named(&lent, KZ_CREATE, 2, 0, 0, 64, KZ_RW), KZ_MISNAMED));
@@ -305,8 +551,9 @@ static void check_grouped_events(void) {
     static const uint32_t last[] = {1, 3};
     uint32_t many[KZ_MAX_GROUP + 1];
     static kz_cap table[5];
+    static uint8_t written[KZ_WRITTEN_BYTES];
     static kz_tally tally;
-    const kz_lent lent = {table, 5, &tally, NULL};
+    const kz_lent lent = {table, 5, written, sizeof written, &tally, NULL};
     uint32_t i;
     for (i = 0; i <= KZ_MAX_GROUP; i++) many[i] = i + 1;
     for (i = 1; i <= 3; i++) CHECK(allowed(kz_create(&lent, 8 * i, 8, KZ_RW), i));
@@ -337,8 +584,9 @@ static void check_many_events(void) {
     kz_event events[9];
     kz_answer answers[10];
     static kz_cap table[4];
+    static uint8_t written[KZ_WRITTEN_BYTES];
     static kz_tally tally;
-    const kz_lent lent = {table, 4, &tally, NULL};
+    const kz_lent lent = {table, 4, written, sizeof written, &tally, NULL};
     size_t i;
     memset(answers, 255, sizeof answers);
     events[0] = event_of(KZ_CREATE, 0, 0, 8, KZ_RW);
@@ -368,24 +616,39 @@ static void check_many_events(void) {
 static void check_exported(void) {
     static const uint32_t names[] = {7, 1, 2};
     const uint64_t misgrouped = (uint64_t)KZ_MISGROUPED << 32;
+    const uint64_t disordered = (uint64_t)KZ_DISORDERED << 32;
+    const size_t bytes = KZ_WRITTEN_BYTES;
     kz_event events[2];
     kz_answer answers[3];
     static kz_cap table[2];
+    static uint8_t written[KZ_WRITTEN_BYTES];
     static kz_tally tally;
     memset(answers, 255, sizeof answers);
     events[0] = event_of(KZ_CREATE, 0, 0, 8, KZ_RW);
     events[1] = event_of(KZ_CREATE, 0, 8, 8, KZ_RW);
-    CHECK(kz_abi_apply_all(table, 2, &tally, NULL, 0, events, 2, NULL, 0, answers, 1) == 1);
+    CHECK(kz_abi_apply_all(table, 2, written, bytes, &tally, NULL, 0, events, 2, NULL, 0, answers,
+                           1) == 1);
     CHECK(allowed(answers[0], 1) && answers[1].value == 4294967295u && tally.creates == 1);
-    CHECK(kz_abi_apply_all(table, 2, &tally, NULL, 0, events + 1, 1, NULL, 0, answers, 3) == 1);
+    CHECK(kz_abi_apply_all(table, 2, written, bytes, &tally, NULL, 0, events + 1, 1, NULL, 0,
+                           answers, 3) == 1);
     CHECK(allowed(answers[0], 2) && answers[1].value == 4294967295u);
-    CHECK(kz_abi_apply_all(table, 2, &tally, NULL, 0, events, 2, NULL, 0, NULL, 0) == 0);
+    CHECK(kz_abi_apply_all(table, 2, written, bytes, &tally, NULL, 0, events, 2, NULL, 0, NULL,
+                           0) == 0);
     events[0] = event_of(KZ_DROP_ALL, 0, 1, 2, 0);
-    CHECK(kz_abi_apply(table, 2, &tally, NULL, 0, events, names, 2) == misgrouped);
-    CHECK(kz_abi_apply(table, 2, &tally, NULL, 0, events, names, 3) == 0);
+    CHECK(kz_abi_apply(table, 2, written, bytes, &tally, NULL, 0, events, names, 2) == misgrouped);
+    CHECK(kz_abi_apply(table, 2, written, bytes, &tally, NULL, 0, events, names, 3) == 0);
     events[0].start = 4294967295u;
-    CHECK(kz_abi_apply(table, 2, &tally, NULL, 0, events, names, 3) == misgrouped);
+    CHECK(kz_abi_apply(table, 2, written, bytes, &tally, NULL, 0, events, names, 3) == misgrouped);
     CHECK(table[0].name == 0 && tally.drops == 1 && tally.refused == 2);
+    /* Of the bits only the number is judged. */
+    events[0] = event_of(KZ_WRITE, 1, 0, 8, 0);
+    CHECK(kz_abi_apply(table, 2, NULL, 0, &tally, NULL, 0, events, NULL, 0) == disordered);
+    CHECK(kz_abi_run(table, 2, NULL, 0, &tally, NULL, 0, NULL, 0) == disordered);
+    memset(answers, 255, sizeof answers);
+    CHECK(kz_abi_apply_all(table, 2, written, bytes - 1, &tally, NULL, 0, events, 1, NULL, 0,
+                           answers, 3) == 1);
+    CHECK(refused(answers[0], KZ_DISORDERED) && answers[1].value == 4294967295u);
+    CHECK(tally.refused == 2);
 }
 
 static void check_text(void) {
@@ -397,8 +660,9 @@ static void check_text(void) {
     kz_event event;
     uint8_t out[64];
     static kz_cap table[2];
+    static uint8_t written[KZ_WRITTEN_BYTES];
     static kz_tally tally;
-    const kz_lent lent = {table, 2, &tally, NULL};
+    const kz_lent lent = {table, 2, written, sizeof written, &tally, NULL};
     memset(&event, 255, sizeof event);
     names[0] = 9;
     CHECK(refused(kz_read_event(0, trace, 15, &event, names), KZ_MISSPELT));
@@ -428,8 +692,9 @@ static void check_named_text(void) {
     uint32_t names[KZ_MAX_GROUP];
     uint8_t out[64];
     static kz_cap table[2];
+    static uint8_t written[KZ_WRITTEN_BYTES];
     static kz_tally tally;
-    const kz_lent lent = {table, 2, &tally, NULL};
+    const kz_lent lent = {table, 2, written, sizeof written, &tally, NULL};
     CHECK(allowed(kz_write_event(&event, NULL, 0, out, sizeof out), 9));
     CHECK(allowed(kz_read_event(1, out, 9, &event, names), 0));
     CHECK(same_event(&event, &dropped));
@@ -458,8 +723,9 @@ static void check_grouped_text(void) {
     kz_event event;
     uint8_t out[64];
     static kz_cap table[2];
+    static uint8_t written[KZ_WRITTEN_BYTES];
     static kz_tally tally;
-    const kz_lent lent = {table, 2, &tally, NULL};
+    const kz_lent lent = {table, 2, written, sizeof written, &tally, NULL};
     uint32_t form;
     for (form = 0; form < 2; form++) {
         memset(names, 255, sizeof names);
@@ -536,8 +802,10 @@ static void check_kinds_text(void) {
     kz_event event;
     uint8_t out[96];
     static kz_cap table[5], other[5];
+    static uint8_t written[KZ_WRITTEN_BYTES];
     static kz_tally tally, copied;
-    const kz_lent lent = {table, 5, &tally, NULL}, copy = {other, 5, &copied, NULL};
+    const kz_lent lent = {table, 5, written, sizeof written, &tally, NULL};
+    const kz_lent copy = {other, 5, written, sizeof written, &copied, NULL};
     size_t i;
     CHECK(writes_as(&raw, "(borrow 1 0 8 rw raw)\n"));
     CHECK(reads_as(0, "(borrow 1 0 8 rw raw)\n", &raw));
@@ -567,6 +835,105 @@ static void check_kinds_text(void) {
     CHECK(memcmp(out, "(allowed 5)\n(issued 2)\n(1 0 64 rw (2 0 8 rw raw))\n", 12 + 11 + 27) == 0);
 }
 
+static void check_fresh_text(void) {
+    static const char *const wrong[] = {
+        "(create 0 8 fresh)\n",
+        "(create 0 8 fresh rw)\n",
+        "(create fresh 0 8 rw)\n",
+        "(create 0 8 rw fresh fresh)\n",
+        "(create 0 8 rw  fresh)\n",
+        "(create 0 8 rw fresh )\n",
+        "(create 0 8 rwfresh)\n",
+        "(create 0 8 rw fres)\n",
+        "(create 0 8 rw freshly)\n",
+        "(create 0 8 rw Fresh)\n",
+        "(create 0 8 rw 1)\n",
+        "(create 0 8 rw raw fresh)\n",
+        "(create 0 8 rw fresh raw)\n",
+        "(borrow 1 0 8 rw fresh)\n",
+        "(borrow 1 0 8 rw cell fresh)\n",
+        "(borrow 1 0 8 rw fresh cell)\n",
+        "(read 1 0 8 fresh)\n",
+        "(write 1 0 8 fresh)\n",
+        "(drop 1 fresh)\n",
+    };
+    static const char *const wrong_listings[] = {
+        "(issued 1)\n(1 0 8 fresh)\n",
+        "(issued 1)\n(1 0 8 fresh rw)\n",
+        "(issued 1)\n(1 0 8 rw fresh fresh)\n",
+        "(issued 1)\n(1 65528 9 rw fresh)\n",
+        "(issued 2)\n(1 0 8 rw fresh (2 0 4 ro cell))\n",
+        "(issued 2)\n(1 0 8 rw (2 0 4 ro cell fresh))\n",
+        "(issued 2)\n(1 0 8 rw fresh (2 0 4 ro fresh cell))\n",
+        "(issued 2)\n(1 0 8 rw (2 0 4 ro) fresh)\n",
+    };
+    static const char trace[] = "(create 0 8 rw fresh)\n(borrow 1 0 4 rw cell)\n(write 2 0 4)\n"
+                                "(read 2 0 4)\n(read 1 0 5)\n";
+    static const char named_trace[] =
+        KZ_NAMED_HEADER "(create 1 0 8 ro fresh)\n(read 1 0 0)\n(read 1 7 1)\n";
+    static const char listing[] = "(issued 2)\n(1 0 8 rw fresh (2 0 4 ro cell fresh))\n";
+    static const char named_output[] = "(refused 16 4)\n(issued 1)\n(1 0 8 ro fresh)\n";
+    const size_t length = sizeof listing - 1;
+    const kz_event fresh = with_mark(event_of(KZ_CREATE, 0, 0, 8, KZ_RW), 1);
+    const kz_event named = with_mark(named_event(KZ_CREATE, 1, 0, 0, 8, KZ_RO), 1);
+    const kz_event kinded = with_kind(fresh, KZ_CELL);
+    const kz_event borrow = event_of(KZ_BORROW, 1, 0, 8, KZ_RW);
+    const kz_event marked = with_mark(borrow, 1);
+    const kz_event unknown = with_mark(fresh, 2);
+    uint32_t names[KZ_MAX_GROUP];
+    kz_event event;
+    uint8_t out[96];
+    static kz_cap table[3], other[3];
+    static uint8_t written[KZ_WRITTEN_BYTES], bits[KZ_WRITTEN_BYTES];
+    static kz_tally tally, copied;
+    const kz_lent lent = {table, 3, written, sizeof written, &tally, NULL};
+    const kz_lent copy = {other, 3, bits, sizeof bits, &copied, NULL};
+    size_t i;
+    CHECK(writes_as(&fresh, "(create 0 8 rw fresh)\n"));
+    CHECK(reads_as(0, "(create 0 8 rw fresh)\n", &fresh));
+    CHECK(writes_as(&named, "(create 1 0 8 ro fresh)\n"));
+    CHECK(reads_as(1, "(create 1 0 8 ro fresh)\n", &named));
+    CHECK(writes_as(&kinded, "(create 0 8 rw fresh)\n"));
+    CHECK(writes_as(&marked, "(borrow 1 0 8 rw)\n"));
+    CHECK(reads_as(0, "(borrow 1 0 8 rw)\n", &borrow));
+    memset(out, '?', sizeof out);
+    CHECK(refused(kz_write_event(&unknown, NULL, 0, out, sizeof out), KZ_MISSPELT));
+    CHECK(refused(kz_write_event(&unknown, NULL, 0, NULL, 0), KZ_MISSPELT));
+    CHECK(refused(kz_write_event(&fresh, NULL, 0, out, 21), KZ_BUFFER_TOO_SHORT));
+    CHECK(out[0] == '?');
+    for (i = 0; i < sizeof wrong / sizeof wrong[0]; i++) {
+        const uint8_t *line = (const uint8_t *)wrong[i];
+        CHECK(refused(kz_read_event(0, line, strlen(wrong[i]), &event, names), KZ_MISSPELT));
+    }
+    /* A run goes on with the bits that the one before it left. */
+    CHECK(refused_at(kz_run(&lent, (const uint8_t *)trace, sizeof trace - 1), KZ_NOT_WRITTEN, 5));
+    CHECK(written[0] == 0x0f && tally.reads == 1 && tally.refused == 1);
+    CHECK(refused_at(kz_run(&lent, (const uint8_t *)trace + 59, 26), KZ_NOT_WRITTEN, 2));
+    CHECK(allowed(kz_read(&lent, 1, 0, 4), 0));
+    CHECK(allowed(kz_write_listing(&lent, out, sizeof out), (uint32_t)length));
+    CHECK(memcmp(out, listing, length) == 0);
+    /* A listing that is read leaves the bits. */
+    memset(other, 255, sizeof other);
+    memset(bits, 0xf0, sizeof bits);
+    CHECK(allowed(kz_read_listing(&copy, out, length), 0));
+    CHECK(memcmp(table, other, sizeof table) == 0 && copied.issued == 2);
+    for (i = 0; i < sizeof bits; i++) CHECK(bits[i] == 0xf0);
+    CHECK(refused(kz_read(&copy, 1, 0, 8), KZ_NOT_WRITTEN));
+    CHECK(allowed(kz_read(&copy, 1, 4, 4), 0));
+    for (i = 0; i < sizeof wrong_listings / sizeof wrong_listings[0]; i++) {
+        const uint8_t *text = (const uint8_t *)wrong_listings[i];
+        CHECK(refused(kz_read_listing(&copy, text, strlen(wrong_listings[i])), KZ_MISSPELT));
+    }
+    /* capcheck begins with nothing written. */
+    CHECK(allowed(kz_check((const uint8_t *)trace, sizeof trace - 1, out, sizeof out),
+                  (uint32_t)(15 + length)));
+    CHECK(memcmp(out, "(refused 16 5)\n", 15) == 0);
+    CHECK(memcmp(out + 15, "(issued 2)\n(1 0 8 rw fresh (2 0 4 rw cell fresh))\n", length) == 0);
+    CHECK(allowed(kz_check((const uint8_t *)named_trace, sizeof named_trace - 1, out, sizeof out),
+                  sizeof named_output - 1));
+    CHECK(memcmp(out, named_output, sizeof named_output - 1) == 0);
+}
+
 /* The default sheet, by rising place. */
 static const kz_sheet default_sheet = {{1, 1, 1, 0, 2, 2, 0, 0, 0, 0, 0, 2, 1, 1, 1, 0, 2, 2}};
 
@@ -586,13 +953,15 @@ static int same_sheet(const kz_sheet *one, const kz_sheet *other) {
    is 1, and the access comes from 1, or from the cell 2. */
 static uint32_t result_on(kz_cap table[3], const kz_sheet *sheet, uint32_t kind, uint32_t access,
                           uint32_t from) {
+    static uint8_t written[KZ_WRITTEN_BYTES];
     kz_tally tally;
-    const kz_lent lent = {table, 3, &tally, sheet};
+    const kz_lent lent = {table, 3, written, sizeof written, &tally, sheet};
     const uint32_t user = from == KZ_FROM_CELL ? 2 : 1;
     const uint32_t parent = from == KZ_FROM_STRANGER ? 2 : 1;
     const kz_event event = event_of(access, user, 0, 8, 0);
     size_t i;
     memset(table, 0, 3 * sizeof *table);
+    memset(written, 0, sizeof written);
     memset(&tally, 0, sizeof tally);
     CHECK(allowed(kz_create(&lent, 0, 64, KZ_RW), 1));
     CHECK(allowed(kz_borrow_as(&lent, 1, 0, 8, KZ_RW, user == 2 ? KZ_CELL : KZ_REFERENCE), 2));
@@ -666,9 +1035,10 @@ static void check_sheet_places(void) {
    stranger's write. */
 static void check_sheets_of_one_result(void) {
     static kz_cap table[6];
+    static uint8_t written[KZ_WRITTEN_BYTES];
     static kz_tally tally;
     kz_sheet sheet = all_of(KZ_KEEP);
-    const kz_lent lent = {table, 6, &tally, &sheet};
+    const kz_lent lent = {table, 6, written, sizeof written, &tally, &sheet};
     uint32_t i;
     CHECK(allowed(kz_create(&lent, 0, 16, KZ_RW), 1));
     CHECK(allowed(kz_borrow(&lent, 1, 0, 8, KZ_RW), 2));
@@ -706,9 +1076,10 @@ static void check_sheets_of_one_result(void) {
 /* A create goes by the place of a stranger's write alone, for the kind of what it touches. */
 static void check_sheet_of_create(void) {
     static kz_cap table[4];
+    static uint8_t written[KZ_WRITTEN_BYTES];
     static kz_tally tally;
     kz_sheet sheet = all_of(KZ_END);
-    const kz_lent lent = {table, 4, &tally, &sheet};
+    const kz_lent lent = {table, 4, written, sizeof written, &tally, &sheet};
     CHECK(allowed(kz_create(&lent, 0, 16, KZ_RW), 1));
     CHECK(allowed(kz_borrow_as(&lent, 1, 0, 8, KZ_RW, KZ_RAW), 2));
     CHECK(allowed(kz_borrow_as(&lent, 1, 0, 8, KZ_RW, KZ_CELL), 3));
@@ -768,6 +1139,8 @@ static void check_sheet_bytes(void) {
     };
     kz_event events[2];
     kz_answer answers[2];
+    static uint8_t written[3][KZ_WRITTEN_BYTES];
+    const size_t size = KZ_WRITTEN_BYTES;
     kz_cap tables[3][3];
     kz_tally tallies[3];
     uint8_t bytes[KZ_SHEET_PLACES + 1], text[KZ_MAX_SHEET], other[KZ_MAX_SHEET];
@@ -780,17 +1153,22 @@ static void check_sheet_bytes(void) {
         const size_t length = cases[i].length;
         kz_sheet sheet = all_of(KZ_END);
         memset(tables, 0, sizeof tables);
+        memset(written, 0, sizeof written);
         memset(tallies, 0, sizeof tallies);
         for (j = 0; j < 3; j++) {
-            CHECK(kz_abi_run(tables[j], 3, &tallies[j], bytes, length, made, sizeof made - 1) == 3);
+            CHECK(kz_abi_run(tables[j], 3, written[j], size, &tallies[j], bytes, length, made,
+                             sizeof made - 1) == 3);
         }
-        CHECK(kz_abi_apply(tables[0], 3, tallies, bytes, length, &events[0], NULL, 0) == 0);
+        CHECK(kz_abi_apply(tables[0], 3, written[0], size, tallies, bytes, length, &events[0], NULL,
+                           0) == 0);
         CHECK(tables[0][1].right == cases[i].between);
-        CHECK(kz_abi_apply(tables[0], 3, tallies, bytes, length, &events[1], NULL, 0) == 0);
+        CHECK(kz_abi_apply(tables[0], 3, written[0], size, tallies, bytes, length, &events[1], NULL,
+                           0) == 0);
         for (j = 0; j < 3; j++) CHECK(tables[0][j].name == cases[i].after[j]);
-        CHECK(kz_abi_apply_all(tables[1], 3, &tallies[1], bytes, length, events, 2, NULL, 0,
-                               answers, 2) == 2);
-        CHECK(kz_abi_run(tables[2], 3, &tallies[2], bytes, length, uses, sizeof uses - 1) == 2);
+        CHECK(kz_abi_apply_all(tables[1], 3, written[1], size, &tallies[1], bytes, length, events,
+                               2, NULL, 0, answers, 2) == 2);
+        CHECK(kz_abi_run(tables[2], 3, written[2], size, &tallies[2], bytes, length, uses,
+                         sizeof uses - 1) == 2);
         for (j = 1; j < 3; j++) {
             CHECK(memcmp(tables[0], tables[j], sizeof tables[0]) == 0);
             CHECK(memcmp(&tallies[0], &tallies[j], sizeof tallies[0]) == 0);
@@ -921,9 +1299,11 @@ static void check_null(void) {
     kz_event event;
     kz_answer answer;
     uint8_t out[64];
+    static uint8_t written[KZ_WRITTEN_BYTES];
     static kz_tally tally;
-    const kz_lent lent = {NULL, 0, &tally, NULL};
+    const kz_lent lent = {NULL, 0, written, sizeof written, &tally, NULL};
     CHECK(refused(kz_create(&lent, 0, 64, KZ_RW), KZ_TABLE_FULL));
+    CHECK(refused(kz_create_fresh(&lent, 0, 64, KZ_RW), KZ_TABLE_FULL));
     CHECK(refused(apply_named(&lent, KZ_CREATE, 1, 0, 0, 64, KZ_RW), KZ_TABLE_FULL));
     CHECK(kz_apply_all(&lent, &nobody, 1, NULL, 0, &answer) == 1);
     CHECK(refused(answer, KZ_MISGROUPED));
@@ -946,7 +1326,8 @@ static void check_null(void) {
 }
 
 /* A table whose listing is as long as a listing can be, and the longest lines. No root has a kind to
-   be written, so one root has all others below it. */
+   be written, so one root has all others below it. A mark makes nothing longer: where it is written,
+   addresses have five digits at most. */
 static void check_longest(void) {
     static kz_part part;
     static uint8_t out[KZ_MAX_LISTING];
@@ -954,6 +1335,7 @@ static void check_longest(void) {
     const kz_lent lent = kz_lend(&part);
     const kz_event borrow = with_kind(event_of(KZ_BORROW, most, most, most, KZ_RW), KZ_CELL);
     const kz_event named = with_kind(named_event(KZ_BORROW, most, most, most, most, KZ_RW), KZ_CELL);
+    const kz_event created = with_mark(named_event(KZ_CREATE, most, 0, most, most, KZ_RW), 1);
     const kz_event group = event_of(KZ_DROP_ALL, 0, 0, KZ_MAX_GROUP, 0);
     uint32_t names[KZ_MAX_GROUP];
     kz_event event;
@@ -968,6 +1350,15 @@ static void check_longest(void) {
         part.table[i].kind = i == 0 ? KZ_REFERENCE : KZ_CELL;
     }
     part.tally.issued = KZ_MAX_NAME;
+    for (i = 0; i < KZ_MAX_ROWS; i++) {
+        part.table[i].start = part.table[i].length = 10000;
+        part.table[i].fresh = 1;
+    }
+    CHECK(allowed(kz_write_listing(&lent, out, sizeof out), KZ_MAX_LISTING - 4 * KZ_MAX_ROWS));
+    for (i = 0; i < KZ_MAX_ROWS; i++) {
+        part.table[i].start = part.table[i].length = 1000000000;
+        part.table[i].fresh = 0;
+    }
     CHECK(allowed(kz_write_listing(&lent, out, sizeof out), sizeof out));
     CHECK(allowed(kz_read_listing(&lent, out, sizeof out), 0));
     CHECK(refused(kz_write_listing(&lent, out, sizeof out - 1), KZ_BUFFER_TOO_SHORT));
@@ -976,6 +1367,7 @@ static void check_longest(void) {
     CHECK(allowed(kz_read_event(0, out, KZ_MAX_LINE, &event, names), 0));
     CHECK(same_event(&event, &borrow));
     CHECK(allowed(kz_write_event(&named, NULL, 0, out, KZ_MAX_NAMED_LINE), KZ_MAX_NAMED_LINE));
+    CHECK(allowed(kz_write_event(&created, NULL, 0, out, sizeof out), KZ_MAX_NAMED_LINE - 10));
     for (i = 0; i < KZ_MAX_GROUP; i++) names[i] = most - KZ_MAX_GROUP + 1 + i;
     CHECK(allowed(kz_write_event(&group, names, KZ_MAX_GROUP, out, KZ_MAX_DROP_LINE),
                   KZ_MAX_DROP_LINE));
@@ -992,6 +1384,11 @@ int main(void) {
     check_raw();
     check_cells();
     check_wrong_kinds();
+    check_fresh();
+    check_fresh_by_sheet();
+    check_fresh_limits();
+    check_wrong_marks();
+    check_wrong_sizes();
     check_named_events();
     check_grouped_events();
     check_many_events();
@@ -1000,6 +1397,7 @@ int main(void) {
     check_named_text();
     check_grouped_text();
     check_kinds_text();
+    check_fresh_text();
     check_sheet_of_default();
     check_sheet_places();
     check_sheets_of_one_result();

@@ -2,7 +2,8 @@
 //! both print the same.
 
 use kelzoud::{
-    apply, write_listing, Addr, Answer, Cap, Event, Kind, Name, Right, Span, Tally, MAX_LISTING,
+    apply, write_listing, Addr, Answer, Cap, Event, Kind, Name, Right, Span, Tally, Written,
+    MAX_LISTING,
 };
 
 const ROWS: usize = 16;
@@ -82,6 +83,7 @@ const ENTRIES: [Entry; 13] = [
 
 struct Simulator {
     table: [Cap; ROWS],
+    written: Written,
     tally: Tally,
     /// The name of the capability in each register.
     names: [Name; REGISTERS],
@@ -91,6 +93,7 @@ impl Simulator {
     fn new() -> Simulator {
         Simulator {
             table: [Cap::EMPTY; ROWS],
+            written: Written::NONE,
             tally: Tally::default(),
             names: [Name(0); REGISTERS],
         }
@@ -103,6 +106,7 @@ impl Simulator {
                 written: None,
                 span,
                 right: ReadWrite,
+                fresh: false,
             },
             Borrow { from, right, .. } => Event::Borrow {
                 written: None,
@@ -126,7 +130,8 @@ impl Simulator {
     fn take(&mut self, (pc, operation, start, length): Entry) {
         let start = Addr(start);
         let event = self.event(operation, Span { start, length });
-        match (apply(&mut self.table, &mut self.tally, event), operation) {
+        let answer = apply(&mut self.table, &mut self.written, &mut self.tally, event);
+        match (answer, operation) {
             (Answer::Allowed(Some(made)), Allocate { to } | Borrow { to, .. }) => {
                 self.names[to] = made;
             }

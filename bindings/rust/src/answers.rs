@@ -22,7 +22,8 @@ pub enum Refusal {
     GivenTwice = 14,
     /// A sheet's text leaves a combination out.
     NotGiven = 15,
-    /// An end is above 4,294,967,296.
+    /// An end is above 4,294,967,296, or of a fresh create above
+    /// [`WRITTEN_ADDRESSES`](crate::WRITTEN_ADDRESSES).
     IllegalSpan = 3,
     /// A name is 0 or above the issued number.
     Unissued = 4,
@@ -34,6 +35,8 @@ pub enum Refusal {
     OutsideSpan = 6,
     /// A write through a read-only capability, or a read-write borrow from it.
     ReadOnly = 7,
+    /// A read through a fresh capability of an address that was not written since it was created.
+    NotWritten = 16,
     /// A borrow from depth [`MAX_DEPTH`](crate::MAX_DEPTH).
     TooDeep = 8,
     /// A create or borrow when [`MAX_NAME`](crate::MAX_NAME) names are issued.
@@ -48,7 +51,7 @@ pub enum Refusal {
 }
 
 impl Refusal {
-    /// The refusal's number, 1 to 15.
+    /// The refusal's number, 1 to 16.
     pub const fn number(self) -> u8 {
         self as u8
     }
@@ -71,6 +74,7 @@ impl Refusal {
             13 => Refusal::Misgrouped,
             14 => Refusal::GivenTwice,
             15 => Refusal::NotGiven,
+            16 => Refusal::NotWritten,
             _ => return None,
         })
     }
@@ -87,6 +91,7 @@ impl Refusal {
             Refusal::Ended => "the capability has ended",
             Refusal::OutsideSpan => "outside the capability's span",
             Refusal::ReadOnly => "the capability is read-only",
+            Refusal::NotWritten => "read before it was written",
             Refusal::TooDeep => "borrowed too deep",
             Refusal::NamesSpent => "all names are issued",
             Refusal::Misnamed => "the written name is not the next",
@@ -176,7 +181,7 @@ impl From<Answer> for Result<Option<Name>, Refusal> {
 
 /// The refusal of a number that the library gave.
 fn numbered(number: u32) -> Refusal {
-    Refusal::from_number(number).expect("refusals are numbered 1 to 15")
+    Refusal::from_number(number).expect("refusals are numbered 1 to 16")
 }
 
 /// An answer of the C interface taken apart: its value, or its refusal with its value.

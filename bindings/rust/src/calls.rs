@@ -3,7 +3,7 @@
 //!
 //! Safety, of each call below: a slice is a pointer to as many elements as its length says, an
 //! exclusive one overlaps nothing else, `Cap`, `Tally`, `Request` and `Outcome` are laid out as the C
-//! structs are and a `Name` as its number is, and the library follows no pointer whose length is 0.
+//! structs are, a `Name` as its number is and `Written` as its bytes are, and the library follows no pointer whose length is 0.
 
 use core::mem::size_of;
 use core::ptr;
@@ -11,7 +11,7 @@ use core::ptr;
 use crate::answers::value;
 use crate::{
     ffi, Answer, Cap, Event, Lent, Line, Name, Outcome, Refusal, Request, RunAnswer, Sheet,
-    Spelling, Tally, MAX_GROUP,
+    Spelling, Tally, Written, MAX_GROUP,
 };
 
 /// Each is cast to the other, where it is passed.
@@ -25,17 +25,17 @@ fn length(answer: u64) -> Result<usize, Refusal> {
     value(answer).map(|length| length as usize)
 }
 
-/// One event on a lent table and tally, which follow it, by the default sheet. [`Lent::apply`] is the
-/// same by any sheet.
+/// One event on a lent table, written bits and tally, which follow it, by the default sheet.
+/// [`Lent::apply`] is the same by any sheet.
 ///
 /// [`Refusal::Disordered`] changes nothing; any other refusal adds one to the refused count and
 /// changes nothing else.
-pub fn apply(table: &mut [Cap], tally: &mut Tally, event: Event) -> Answer {
-    Lent::new(table, tally).apply(event)
+pub fn apply(table: &mut [Cap], written: &mut Written, tally: &mut Tally, event: Event) -> Answer {
+    Lent::new(table, written, tally).apply(event)
 }
 
-/// Many requests on a lent table and tally, each in its turn on what those before it left, by the
-/// default sheet; a refused one stops nothing. [`Lent::apply_all`] is the same by any sheet.
+/// Many requests on a lent table, written bits and tally, each in its turn on what those before it left,
+/// by the default sheet; a refused one stops nothing. [`Lent::apply_all`] is the same by any sheet.
 ///
 /// In `names` stand the names of every [`Request::drop_all`], which is taken as [`drop_all`] takes it;
 /// several may share names.
@@ -50,30 +50,34 @@ pub fn apply(table: &mut [Cap], tally: &mut Tally, event: Event) -> Answer {
 /// use kelzoud::*;
 ///
 /// let mut table = [Cap::EMPTY; 16];
+/// let mut written = Written::NONE;
 /// let mut tally = Tally::default();
 /// let create = |start| Event::Create {
 ///     written: None,
 ///     span: Span { start: Addr(start), length: 8 },
 ///     right: Right::ReadWrite,
+///     fresh: false,
 /// };
 /// let names = [Name(1), Name(2)];
 /// let mut requests = [Request::drop_all(0..2); 4];
 /// requests[0] = create(0).into();
 /// requests[1] = create(8).into();
 /// let mut answers = [Outcome::EMPTY; 4];
-/// let answers = apply_all(&mut table, &mut tally, &requests, &names, &mut answers);
+/// let answers =
+///     apply_all(&mut table, &mut written, &mut tally, &requests, &names, &mut answers);
 /// assert_eq!(answers[1].answer(), Answer::Allowed(Some(Name(2))));
 /// assert_eq!(answers[2].answer(), Answer::Allowed(None));
 /// assert_eq!(answers[3].answer(), Answer::Refused(Refusal::Ended));
 /// ```
 pub fn apply_all<'a>(
     table: &mut [Cap],
+    written: &mut Written,
     tally: &mut Tally,
     requests: &[Request],
     names: &[Name],
     answers: &'a mut [Outcome],
 ) -> &'a [Outcome] {
-    Lent::new(table, tally).apply_all(requests, names, answers)
+    Lent::new(table, written, tally).apply_all(requests, names, answers)
 }
 
 /// Capabilities dropped together, as when a function returns: 1 to [`MAX_GROUP`] names, each above the
@@ -85,22 +89,27 @@ pub fn apply_all<'a>(
 ///
 /// [`Refusal::Disordered`] changes nothing; any other refusal, [`Refusal::Misgrouped`] among them, adds
 /// one to the refused count and changes nothing else.
-pub fn drop_all(table: &mut [Cap], tally: &mut Tally, names: &[Name]) -> Answer {
-    Lent::new(table, tally).drop_all(names)
+pub fn drop_all(
+    table: &mut [Cap],
+    written: &mut Written,
+    tally: &mut Tally,
+    names: &[Name],
+) -> Answer {
+    Lent::new(table, written, tally).drop_all(names)
 }
 
-/// A run of event lines on a lent table and tally, until one is refused, by the default sheet.
-/// [`Lent::run`] is the same by any sheet.
+/// A run of event lines on a lent table, written bits and tally, until one is refused, by the default
+/// sheet. [`Lent::run`] is the same by any sheet.
 ///
 /// In a text whose first line is [`NAMED_HEADER`](crate::NAMED_HEADER) every create and borrow has its
 /// new name written out, else none has: the lines are those of [`write_event`]. That first line is
 /// counted as a line; it is no event and raises no count. Anywhere else it is refused. In both, a line
 /// of [`write_drop`] drops its names together.
 ///
-/// The table is then as after the last allowed line. The refused line adds one to the refused
-/// count; [`Refusal::Disordered`] changes nothing.
-pub fn run(table: &mut [Cap], tally: &mut Tally, text: &[u8]) -> RunAnswer {
-    Lent::new(table, tally).run(text)
+/// The table and the written bits are then as after the last allowed line. The refused line adds one to
+/// the refused count; [`Refusal::Disordered`] changes nothing.
+pub fn run(table: &mut [Cap], written: &mut Written, tally: &mut Tally, text: &[u8]) -> RunAnswer {
+    Lent::new(table, written, tally).run(text)
 }
 
 /// Writes the line of an event, its newline included, to the start of the buffer, and answers its
@@ -187,7 +196,8 @@ pub fn write_listing(table: &[Cap], issued: u32, out: &mut [u8]) -> Result<usize
 }
 
 /// Reads a listing into a table, whose old contents are not judged, and into the tally's issued
-/// number. The tally's other counts stay.
+/// number. The tally's other counts stay. Written bits are not in a listing: those that the listed table
+/// had are lent with the read one.
 ///
 /// # Errors
 ///
@@ -246,7 +256,7 @@ impl Sheet {
 }
 
 /// Writes what the program `capcheck` prints for an input to the start of the buffer, and answers
-/// its length. The bytes after it stay.
+/// its length. The bytes after it stay. It begins with [no address written](Written::NONE).
 ///
 /// # Errors
 ///

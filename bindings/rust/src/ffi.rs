@@ -3,7 +3,7 @@
 use crate::{Cap, Tally};
 
 /// `kz_event`, word for word.
-pub type EventWords = [u32; 8];
+pub type EventWords = [u32; 9];
 
 /// `kz_answer`, word for word.
 pub type AnswerWords = [u32; 2];
@@ -12,6 +12,8 @@ unsafe extern "C" {
     pub fn kz_abi_apply(
         table: *mut Cap,
         rows: usize,
+        written: *mut u8,
+        written_size: usize,
         tally: *mut Tally,
         sheet: *const u8,
         sheet_len: usize,
@@ -23,6 +25,8 @@ unsafe extern "C" {
     pub fn kz_abi_apply_all(
         table: *mut Cap,
         rows: usize,
+        written: *mut u8,
+        written_size: usize,
         tally: *mut Tally,
         sheet: *const u8,
         sheet_len: usize,
@@ -37,6 +41,8 @@ unsafe extern "C" {
     pub fn kz_abi_run(
         table: *mut Cap,
         rows: usize,
+        written: *mut u8,
+        written_size: usize,
         tally: *mut Tally,
         sheet: *const u8,
         sheet_len: usize,

@@ -5,17 +5,21 @@
 use core::ptr;
 
 use crate::answers::{split, value};
-use crate::{ffi, Answer, Cap, Event, Name, Outcome, Request, RunAnswer, Sheet, Tally};
+use crate::{
+    ffi, Answer, Cap, Event, Name, Outcome, Request, RunAnswer, Sheet, Tally, Written,
+    WRITTEN_BYTES,
+};
 
-/// What is lent for events: a table, its tally, and the conflict sheet by which events are carried out.
-/// Each call is the function of its name, by this sheet.
+/// What is lent for events: a table, its written bits, its tally, and the conflict sheet by which
+/// events are carried out. Each call is the function of its name, by this sheet.
 ///
 /// ```
-/// use kelzoud::{Cap, Lent, Refusal, RunAnswer, Sheet, Tally};
+/// use kelzoud::{Cap, Lent, Refusal, RunAnswer, Sheet, Tally, Written};
 ///
 /// let mut table = [Cap::EMPTY; 16];
+/// let mut written = Written::NONE;
 /// let mut tally = Tally::default();
-/// let mut lent = Lent::new(&mut table, &mut tally);
+/// let mut lent = Lent::new(&mut table, &mut written, &mut tally);
 /// lent.sheet = Sheet::read(
 ///     b"(rule (holder reference raw cell) (access read write) (from cell kin stranger) end)\n",
 /// )?;
@@ -28,6 +32,8 @@ use crate::{ffi, Answer, Cap, Event, Name, Outcome, Request, RunAnswer, Sheet, T
 pub struct Lent<'a> {
     /// The table.
     pub table: &'a mut [Cap],
+    /// Its written bits, the same in all calls with this table.
+    pub written: &'a mut Written,
     /// Its tally.
     pub tally: &'a mut Tally,
     /// The sheet, one and the same in all calls with this table.
@@ -35,10 +41,11 @@ pub struct Lent<'a> {
 }
 
 impl<'a> Lent<'a> {
-    /// A table and its tally, lent with the [default sheet](Sheet::DEFAULT).
-    pub fn new(table: &'a mut [Cap], tally: &'a mut Tally) -> Lent<'a> {
+    /// A table, its written bits and its tally, lent with the [default sheet](Sheet::DEFAULT).
+    pub fn new(table: &'a mut [Cap], written: &'a mut Written, tally: &'a mut Tally) -> Lent<'a> {
         Lent {
             table,
+            written,
             tally,
             sheet: Sheet::DEFAULT,
         }
@@ -61,6 +68,8 @@ impl<'a> Lent<'a> {
             ffi::kz_abi_apply(
                 self.table.as_mut_ptr(),
                 self.table.len(),
+                self.written.0.as_mut_ptr(),
+                WRITTEN_BYTES,
                 self.tally,
                 self.sheet.as_bytes().as_ptr(),
                 Sheet::PLACES,
@@ -83,6 +92,8 @@ impl<'a> Lent<'a> {
             ffi::kz_abi_apply_all(
                 self.table.as_mut_ptr(),
                 self.table.len(),
+                self.written.0.as_mut_ptr(),
+                WRITTEN_BYTES,
                 self.tally,
                 self.sheet.as_bytes().as_ptr(),
                 Sheet::PLACES,
@@ -103,6 +114,8 @@ impl<'a> Lent<'a> {
             ffi::kz_abi_run(
                 self.table.as_mut_ptr(),
                 self.table.len(),
+                self.written.0.as_mut_ptr(),
+                WRITTEN_BYTES,
                 self.tally,
                 self.sheet.as_bytes().as_ptr(),
                 Sheet::PLACES,

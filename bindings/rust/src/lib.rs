@@ -1,67 +1,71 @@
 //! Run-time borrow checking with capabilities that are revoked on use.
 //!
-//! The caller lends a table of capabilities and a tally. Each event (create, borrow, read, write,
-//! drop) is allowed or refused, and the table follows the allowed ones: a read lowers to read-only,
-//! and a write ends, every capability that it touches and that is neither its user nor an ancestor
-//! of its user, with their subtrees. A create is a fresh allocation and ends every capability that it
-//! touches. Nothing is taken away when a borrow is made. Borrows that stand for raw pointers and cells
-//! say so, and are struck by less, or strike less ([`Kind`]).
+//! The caller lends a table of capabilities, written bits and a tally. Each event (create, borrow,
+//! read, write, drop) is allowed or refused, and the table follows the allowed ones: a read lowers to
+//! read-only, and a write ends, every capability that it touches and that is neither its user nor an
+//! ancestor of its user, with their subtrees. A create is a new allocation and ends every capability
+//! that it touches. Nothing is taken away when a borrow is made. Borrows that stand for raw pointers and
+//! cells say so, and are struck by less, or strike less ([`Kind`]).
 //!
 //! ```
-//! use kelzoud::{apply, Addr, Answer, Cap, Event, Kind, Name, Refusal, Right, Span, Tally};
+//! use kelzoud::{apply, Addr, Answer, Cap, Event, Kind, Name, Refusal, Right, Span, Tally, Written};
 //!
 //! let mut table = [Cap::EMPTY; 16];
+//! let mut written = Written::NONE;
 //! let mut tally = Tally::default();
 //! let span = Span { start: Addr(0), length: 64 };
 //!
-//! let create = Event::Create { written: None, span, right: Right::ReadWrite };
-//! assert_eq!(apply(&mut table, &mut tally, create), Answer::Allowed(Some(Name(1))));
+//! let create = Event::Create { written: None, span, right: Right::ReadWrite, fresh: false };
+//! assert_eq!(apply(&mut table, &mut written, &mut tally, create), Answer::Allowed(Some(Name(1))));
 //!
 //! let (right, kind) = (Right::ReadWrite, Kind::Reference);
 //! let borrow = Event::Borrow { written: None, parent: Name(1), span, right, kind };
-//! assert_eq!(apply(&mut table, &mut tally, borrow), Answer::Allowed(Some(Name(2))));
+//! assert_eq!(apply(&mut table, &mut written, &mut tally, borrow), Answer::Allowed(Some(Name(2))));
 //!
 //! // A write through the parent ends the borrow.
 //! let write = Event::Write { name: Name(1), span };
-//! assert_eq!(apply(&mut table, &mut tally, write), Answer::Allowed(None));
+//! assert_eq!(apply(&mut table, &mut written, &mut tally, write), Answer::Allowed(None));
 //! let read = Event::Read { name: Name(2), span };
-//! assert_eq!(apply(&mut table, &mut tally, read), Answer::Refused(Refusal::Ended));
+//! assert_eq!(apply(&mut table, &mut written, &mut tally, read), Answer::Refused(Refusal::Ended));
 //! ```
 //!
 //! Memory that is handed out again, without a drop, leaves no stale capability behind:
 //!
 //! ```
-//! use kelzoud::{run, Cap, Refusal, RunAnswer, Tally};
+//! use kelzoud::{run, Cap, Refusal, RunAnswer, Tally, Written};
 //!
 //! let mut table = [Cap::EMPTY; 16];
+//! let mut written = Written::NONE;
 //! let mut tally = Tally::default();
 //! let text = b"(create 0 64 rw)\n(borrow 1 0 8 rw)\n(create 32 16 rw)\n(read 2 0 8)\n";
-//! let answer = run(&mut table, &mut tally, text);
+//! let answer = run(&mut table, &mut written, &mut tally, text);
 //! assert_eq!(answer, RunAnswer::Refused { refusal: Refusal::Ended, line: 4 });
 //! ```
 //!
 //! A log may write out the name of what each create and borrow makes, and is then checked for it:
 //!
 //! ```
-//! use kelzoud::{run, Cap, Refusal, RunAnswer, Tally};
+//! use kelzoud::{run, Cap, Refusal, RunAnswer, Tally, Written};
 //!
 //! let mut table = [Cap::EMPTY; 16];
+//! let mut written = Written::NONE;
 //! let mut tally = Tally::default();
 //! let text = b"(trace 2)\n(create 1 0 64 rw)\n(borrow 3 1 0 8 rw)\n";
-//! let answer = run(&mut table, &mut tally, text);
+//! let answer = run(&mut table, &mut written, &mut tally, text);
 //! assert_eq!(answer, RunAnswer::Refused { refusal: Refusal::Misnamed, line: 3 });
 //! ```
 //!
 //! A function's return drops all its objects at once, which a log writes as one line:
 //!
 //! ```
-//! use kelzoud::{drop_all, run, Answer, Cap, Name, Refusal, RunAnswer, Tally};
+//! use kelzoud::{drop_all, run, Answer, Cap, Name, Refusal, RunAnswer, Tally, Written};
 //!
 //! let mut table = [Cap::EMPTY; 16];
+//! let mut written = Written::NONE;
 //! let mut tally = Tally::default();
 //! let text = b"(create 0 8 rw)\n(create 8 8 rw)\n(create 16 8 rw)\n(drop 1 3)\n";
-//! assert_eq!(run(&mut table, &mut tally, text), RunAnswer::Allowed { lines: 4 });
-//! let answer = drop_all(&mut table, &mut tally, &[Name(1), Name(2)]);
+//! assert_eq!(run(&mut table, &mut written, &mut tally, text), RunAnswer::Allowed { lines: 4 });
+//! let answer = drop_all(&mut table, &mut written, &mut tally, &[Name(1), Name(2)]);
 //! assert_eq!(answer, Answer::Refused(Refusal::Ended));
 //! assert_eq!((table[0].name, tally.drops), (2, 1));
 //! ```
@@ -70,29 +74,47 @@
 //! `*mut` made from it; a write through 1, from which the `&mut` was borrowed, ends both:
 //!
 //! ```
-//! use kelzoud::{run, Cap, Refusal, RunAnswer, Tally};
+//! use kelzoud::{run, Cap, Refusal, RunAnswer, Tally, Written};
 //!
 //! let mut table = [Cap::EMPTY; 16];
+//! let mut written = Written::NONE;
 //! let mut tally = Tally::default();
 //! let text = b"(create 0 64 rw)\n(borrow 1 0 8 rw)\n(borrow 2 0 8 rw raw)\n\
 //!     (write 3 0 8)\n(write 2 0 8)\n(write 3 0 8)\n";
-//! assert_eq!(run(&mut table, &mut tally, text), RunAnswer::Allowed { lines: 6 });
-//! let answer = run(&mut table, &mut tally, b"(write 1 0 8)\n(read 3 0 8)\n");
+//! assert_eq!(run(&mut table, &mut written, &mut tally, text), RunAnswer::Allowed { lines: 6 });
+//! let answer = run(&mut table, &mut written, &mut tally, b"(write 1 0 8)\n(read 3 0 8)\n");
 //! assert_eq!(answer, RunAnswer::Refused { refusal: Refusal::Ended, line: 2 });
+//! ```
+//!
+//! A create may say that its memory is [fresh](Event::Create::fresh): then it is not read before it is
+//! written, whatever it is read through. Here 2 is fresh, over memory that held something else before,
+//! and 3 is borrowed from it; only the first four bytes are written since:
+//!
+//! ```
+//! use kelzoud::{run, Cap, Refusal, RunAnswer, Tally, Written};
+//!
+//! let mut table = [Cap::EMPTY; 16];
+//! let mut written = Written::NONE;
+//! let mut tally = Tally::default();
+//! let text = b"(create 0 8 rw)\n(write 1 0 8)\n(create 0 8 rw fresh)\n\
+//!     (write 2 0 4)\n(borrow 2 0 8 ro)\n(read 3 0 4)\n(read 3 0 8)\n";
+//! let answer = run(&mut table, &mut written, &mut tally, text);
+//! assert_eq!(answer, RunAnswer::Refused { refusal: Refusal::NotWritten, line: 7 });
 //! ```
 //!
 //! All this goes by the default [conflict sheet](Sheet), which says for each [`Kind`], each [`Access`]
 //! and each [`Origin`] whether what is struck stays, is lowered or ends. A checker for a language with
-//! other rules makes a sheet of its own, and lends it with the table and the tally in a [`Lent`]. Here a
-//! read ends what the default sheet lets it lower:
+//! other rules makes a sheet of its own, and lends it with the table in a [`Lent`]. Here a read ends
+//! what the default sheet lets it lower:
 //!
 //! ```
-//! use kelzoud::{Access, Cap, Effect, Kind, Lent, Origin, Refusal, RunAnswer, Sheet, Tally};
+//! use kelzoud::{Access, Cap, Effect, Kind, Lent, Origin, Refusal, RunAnswer, Sheet, Tally, Written};
 //!
 //! let sheet = Sheet::DEFAULT.with(Kind::Reference, Access::Read, Origin::Kin, Effect::End);
 //! let mut table = [Cap::EMPTY; 16];
+//! let mut written = Written::NONE;
 //! let mut tally = Tally::default();
-//! let mut lent = Lent { sheet, ..Lent::new(&mut table, &mut tally) };
+//! let mut lent = Lent { sheet, ..Lent::new(&mut table, &mut written, &mut tally) };
 //! let answer = lent.run(b"(create 0 64 rw)\n(borrow 1 0 8 rw)\n(read 1 0 8)\n(read 2 0 8)\n");
 //! assert_eq!(answer, RunAnswer::Refused { refusal: Refusal::Ended, line: 4 });
 //! ```
@@ -122,7 +144,7 @@ pub use calls::{
 pub use lent::Lent;
 pub use requests::{Group, Line, Request, Spelling};
 pub use sheets::{Access, Effect, Origin, Sheet};
-pub use values::{Addr, Cap, Event, Kind, Name, Right, Span, Tally};
+pub use values::{Addr, Cap, Event, Kind, Name, Right, Span, Tally, Written};
 
 /// The most rows of a table.
 pub const MAX_ROWS: usize = 1_024;
@@ -135,6 +157,12 @@ pub const MAX_DEPTH: u32 = 64;
 
 /// The most names that are dropped together.
 pub const MAX_GROUP: usize = 64;
+
+/// How many bytes of written bits a table has.
+pub const WRITTEN_BYTES: usize = 8_192;
+
+/// How many addresses have a written bit, from 0 on. A fresh capability ends there or below.
+pub const WRITTEN_ADDRESSES: u32 = 65_536;
 
 /// The most bytes of input that [`check`] runs.
 pub const MAX_INPUT: usize = 65_536;

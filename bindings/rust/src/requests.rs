@@ -32,6 +32,7 @@ pub struct Request {
     named: u32,
     written: u32,
     cap_kind: u32,
+    fresh: u32,
 }
 
 impl Request {
@@ -45,6 +46,7 @@ impl Request {
         named: 0,
         written: 0,
         cap_kind: 0,
+        fresh: 0,
     };
 
     /// Drops the names together that stand at these places of the list. Places past its end, and places
@@ -61,8 +63,8 @@ impl Request {
         }
     }
 
-    /// What a line asks for that was read into this request and these names; nothing for a kind, right
-    /// or kind of capability that no line has.
+    /// What a line asks for that was read into this request and these names; nothing for a kind, right,
+    /// kind of capability or mark that no line has.
     pub(crate) fn line(self, names: [Name; MAX_GROUP]) -> Option<Line> {
         let name = Name(self.name);
         let written = (self.named != 0).then_some(Name(self.written));
@@ -75,6 +77,11 @@ impl Request {
                 written,
                 span,
                 right: Right::from_number(self.right)?,
+                fresh: match self.fresh {
+                    0 => false,
+                    1 => true,
+                    _ => return None,
+                },
             },
             BORROW => Event::Borrow {
                 written,
@@ -122,6 +129,7 @@ impl From<Event> for Request {
             named: event.written().is_some().into(),
             written: event.written().map_or(0, |written| written.0),
             cap_kind: event.kind().unwrap_or_default() as u32,
+            fresh: event.is_fresh().into(),
         }
     }
 }

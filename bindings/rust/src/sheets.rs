@@ -56,18 +56,22 @@ impl Effect {
 /// Here is one for a language in which an exclusive borrow outlives reads of what it was borrowed from:
 ///
 /// ```
-/// use kelzoud::{run, Access, Cap, Effect, Kind, Lent, Origin, Refusal, RunAnswer, Sheet, Tally};
+/// use kelzoud::{
+///     run, Access, Cap, Effect, Kind, Lent, Origin, Refusal, RunAnswer, Sheet, Tally, Written,
+/// };
 ///
 /// let text = b"(create 0 64 rw)\n(borrow 1 0 8 rw)\n(read 1 0 8)\n(write 2 0 8)\n";
 /// let mut table = [Cap::EMPTY; 16];
+/// let mut written = Written::NONE;
 /// let mut tally = Tally::default();
-/// let refusal = Refusal::ReadOnly;
-/// assert_eq!(run(&mut table, &mut tally, text), RunAnswer::Refused { refusal, line: 4 });
+/// let answer = run(&mut table, &mut written, &mut tally, text);
+/// assert_eq!(answer, RunAnswer::Refused { refusal: Refusal::ReadOnly, line: 4 });
 ///
 /// let sheet = Sheet::DEFAULT.with(Kind::Reference, Access::Read, Origin::Kin, Effect::Keep);
 /// let mut table = [Cap::EMPTY; 16];
+/// let mut written = Written::NONE;
 /// let mut tally = Tally::default();
-/// let mut lent = Lent { sheet, ..Lent::new(&mut table, &mut tally) };
+/// let mut lent = Lent { sheet, ..Lent::new(&mut table, &mut written, &mut tally) };
 /// assert_eq!(lent.run(text), RunAnswer::Allowed { lines: 4 });
 /// ```
 #[derive(Clone, Copy, Debug, PartialEq, Eq, Hash)]

@@ -1,5 +1,7 @@
 //! What is lent and what is asked.
 
+use crate::{WRITTEN_ADDRESSES, WRITTEN_BYTES};
+
 /// The name of a capability: 1 to [`MAX_NAME`](crate::MAX_NAME), given out in order, never twice.
 #[derive(Clone, Copy, Debug, PartialEq, Eq, PartialOrd, Ord, Hash)]
 #[repr(transparent)]
@@ -82,17 +84,22 @@ impl Kind {
 /// ancestor of its user, is kept, lowered or ended as that says; and a create is a stranger's write.
 #[derive(Clone, Copy, Debug, PartialEq, Eq, Hash)]
 pub enum Event {
-    /// Makes a new root, a reference, as a fresh allocation: ends every capability that its span
+    /// Makes a new root, a reference, as a new allocation: ends every capability that its span
     /// touches, of whatever kind, with their subtrees. One of length 0 ends nothing.
     Create {
         /// The root's name, where it is written out.
         written: Option<Name>,
-        /// The root's span.
+        /// The root's span. Of a fresh one it ends at
+        /// [`WRITTEN_ADDRESSES`](crate::WRITTEN_ADDRESSES) or below.
         span: Span,
         /// The root's right.
         right: Right,
+        /// Whether the root's memory must be written before it is read: a read of what is not
+        /// [written](Written), through the root or through anything that is borrowed from it, is
+        /// refused [`NotWritten`](crate::Refusal::NotWritten).
+        fresh: bool,
     },
-    /// Makes a new capability under a live one. Nothing is taken away.
+    /// Makes a new capability under a live one, fresh where that one is. Nothing is taken away.
     Borrow {
         /// The new capability's name, where it is written out.
         written: Option<Name>,
@@ -107,7 +114,8 @@ pub enum Event {
     },
     /// Lowers to read-only every capability that it strikes, with its subtree: each that is touched and
     /// is neither the reader nor an ancestor of it, but for [raw](Kind::Raw) ones, which no read
-    /// strikes. A raw one is lowered only with an ancestor.
+    /// strikes. A raw one is lowered only with an ancestor. What a fresh capability reads must be
+    /// written.
     Read {
         /// The reader.
         name: Name,
@@ -146,6 +154,11 @@ impl Event {
         }
     }
 
+    /// Whether the event creates memory that must be written before it is read.
+    pub const fn is_fresh(self) -> bool {
+        matches!(self, Event::Create { fresh: true, .. })
+    }
+
     /// The name of what the event makes, where it is written out.
     pub const fn written(self) -> Option<Name> {
         match self {
@@ -176,6 +189,8 @@ pub struct Cap {
     pub depth: u32,
     /// The number of its [`Kind`].
     pub kind: u32,
+    /// 1 where what it reads must be written, else 0: as that which it was borrowed from.
+    pub fresh: u32,
 }
 
 impl Cap {
@@ -188,7 +203,53 @@ impl Cap {
         right: 0,
         depth: 0,
         kind: 0,
+        fresh: 0,
     };
+}
+
+/// The written bits of a table: which addresses below [`WRITTEN_ADDRESSES`] were written since they
+/// were last created over. That of address A is the bit worth 2^(A mod 8) in byte A / 8.
+///
+/// Every allowed create clears the bits of its addresses, and every allowed write sets those of its
+/// own, whether anything is fresh or not; nothing else changes them. Reads through fresh capabilities
+/// look at them. Addresses from [`WRITTEN_ADDRESSES`] on have no bit, and no fresh capability reaches
+/// them.
+///
+/// A table has the same bits throughout, and begins with [none](Written::NONE). They are not in a
+/// listing, so a tool that keeps listings to come back to keeps them too.
+///
+/// ```
+/// use kelzoud::{run, Addr, Cap, Refusal, RunAnswer, Tally, Written};
+///
+/// let mut table = [Cap::EMPTY; 16];
+/// let mut written = Written::NONE;
+/// let mut tally = Tally::default();
+/// let text = b"(create 0 8 rw fresh)\n(write 1 0 4)\n(read 1 0 4)\n(read 1 0 8)\n";
+/// let answer = run(&mut table, &mut written, &mut tally, text);
+/// let refusal = Refusal::NotWritten;
+/// assert_eq!(answer, RunAnswer::Refused { refusal, line: 4 });
+/// // Which address it was.
+/// assert_eq!((0..8).find(|&at| !written.contains(Addr(at))), Some(4));
+/// ```
+#[repr(transparent)]
+#[derive(Clone, Debug, PartialEq, Eq, Hash)]
+pub struct Written(pub [u8; WRITTEN_BYTES]);
+
+impl Written {
+    /// The bits of a new table: no address is written.
+    pub const NONE: Written = Written([0; WRITTEN_BYTES]);
+
+    /// Whether this address is written. One that has no bit is not.
+    pub const fn contains(&self, address: Addr) -> bool {
+        address.0 < WRITTEN_ADDRESSES && self.0[address.0 as usize / 8] >> (address.0 % 8) & 1 == 1
+    }
+}
+
+impl Default for Written {
+    /// [None](Written::NONE).
+    fn default() -> Written {
+        Written::NONE
+    }
 }
 
 /// The tally of a table. A count at `u32::MAX` stays there.

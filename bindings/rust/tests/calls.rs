@@ -3,8 +3,8 @@
 use kelzoud::{
     apply, apply_all, check, drop_all, read_event, read_listing, run, write_drop, write_event,
     write_listing, Addr, Answer, Cap, Event, Kind, Line, Name, Outcome, Refusal, Request, Right,
-    RunAnswer, Span, Spelling, Tally, MAX_CHECK, MAX_DROP_LINE, MAX_GROUP, MAX_LINE, MAX_LISTING,
-    MAX_NAMED_LINE, MAX_ROWS, NAMED_HEADER,
+    RunAnswer, Span, Spelling, Tally, Written, MAX_CHECK, MAX_DROP_LINE, MAX_GROUP, MAX_LINE,
+    MAX_LISTING, MAX_NAMED_LINE, MAX_ROWS, NAMED_HEADER, WRITTEN_ADDRESSES, WRITTEN_BYTES,
 };
 
 fn span(start: u32, length: u32) -> Span {
@@ -15,14 +15,17 @@ fn span(start: u32, length: u32) -> Span {
 }
 
 /// Events of each kind, each with its line, and its line with the name 40 written out.
-fn spellings() -> [(Event, &'static str, &'static str); 7] {
+fn spellings() -> [(Event, &'static str, &'static str); 8] {
     let name = Name(7);
     let wide = span(0, 64);
-    let create = Event::Create {
+    let created = |right, fresh| Event::Create {
         written: None,
         span: wide,
-        right: Right::ReadWrite,
+        right,
+        fresh,
     };
+    let create = created(Right::ReadWrite, false);
+    let fresh = created(Right::ReadOnly, true);
     let borrow = |right, kind| Event::Borrow {
         written: None,
         parent: name,
@@ -38,6 +41,11 @@ fn spellings() -> [(Event, &'static str, &'static str); 7] {
     let drop = Event::Drop { name };
     [
         (create, "(create 0 64 rw)\n", "(create 40 0 64 rw)\n"),
+        (
+            fresh,
+            "(create 0 64 ro fresh)\n",
+            "(create 40 0 64 ro fresh)\n",
+        ),
         (shared, "(borrow 7 8 4 ro)\n", "(borrow 40 7 8 4 ro)\n"),
         (raw, "(borrow 7 8 4 rw raw)\n", "(borrow 40 7 8 4 rw raw)\n"),
         (
@@ -55,10 +63,13 @@ fn spellings() -> [(Event, &'static str, &'static str); 7] {
 fn with_name(event: Event, name: u32) -> Event {
     let written = Some(Name(name));
     match event {
-        Event::Create { span, right, .. } => Event::Create {
+        Event::Create {
+            span, right, fresh, ..
+        } => Event::Create {
             written,
             span,
             right,
+            fresh,
         },
         Event::Borrow {
             parent,
@@ -100,8 +111,12 @@ fn events_are_written_and_read() {
             assert_eq!(read_event(spelling, line), Err(Refusal::Misspelt));
         }
     }
-    // A reference is not written as such, and a create has no kind.
+    // A reference is not written as such, a create has no kind, and a borrow no mark of its own.
     for line in [
+        "(borrow 7 8 4 rw fresh)\n",
+        "(borrow 7 8 4 rw raw fresh)\n",
+        "(create 0 64 fresh rw)\n",
+        "(create 0 64 rw fresh fresh)\n",
         "(borrow 7 8 4 rw reference)\n",
         "(borrow 7 8 4 raw rw)\n",
         "(borrow 7 8 4 rw raw cell)\n",
@@ -145,14 +160,16 @@ fn lines_have_their_longest_lengths() {
 #[test]
 fn events_change_the_table() {
     let mut table = [Cap::EMPTY; 2];
+    let mut written = Written::NONE;
     let mut tally = Tally::default();
-    let mut take = |event| apply(&mut table, &mut tally, event);
+    let mut take = |event| apply(&mut table, &mut written, &mut tally, event);
     let right = Right::ReadWrite;
     let whole = span(0, 8);
     let root = Event::Create {
         written: None,
         span: whole,
         right,
+        fresh: false,
     };
     let borrow = Event::Borrow {
         written: None,
@@ -174,12 +191,14 @@ fn events_change_the_table() {
 #[test]
 fn written_names_are_judged() {
     let mut table = [Cap::EMPTY; 2];
+    let mut written = Written::NONE;
     let mut tally = Tally::default();
-    let mut take = |event| apply(&mut table, &mut tally, event);
+    let mut take = |event| apply(&mut table, &mut written, &mut tally, event);
     let root = Event::Create {
         written: None,
         span: span(0, 8),
         right: Right::ReadWrite,
+        fresh: false,
     };
     let misnamed = Answer::Refused(Refusal::Misnamed);
     assert_eq!(take(with_name(root, 0)), misnamed);
@@ -189,6 +208,7 @@ fn written_names_are_judged() {
         written: None,
         span: span(8, 8),
         right: Right::ReadWrite,
+        fresh: false,
     };
     assert_eq!(take(beside), Answer::Allowed(Some(Name(2))));
     assert_eq!(take(with_name(root, 2)), misnamed);
@@ -200,12 +220,14 @@ fn written_names_are_judged() {
 #[test]
 fn a_create_ends_what_it_touches() {
     let mut table = [Cap::EMPTY; 3];
+    let mut written = Written::NONE;
     let mut tally = Tally::default();
-    let mut take = |event| apply(&mut table, &mut tally, event);
+    let mut take = |event| apply(&mut table, &mut written, &mut tally, event);
     let create = |start, length| Event::Create {
         written: None,
         span: span(start, length),
         right: Right::ReadWrite,
+        fresh: false,
     };
     let borrow = Event::Borrow {
         written: None,
@@ -234,26 +256,36 @@ fn a_create_ends_what_it_touches() {
 /// A table of which the first root is made, over 16 addresses, and what is done to it.
 struct Part {
     table: [Cap; 8],
+    written: Written,
     tally: Tally,
 }
 
 impl Part {
     fn new() -> Part {
+        Part::with_root(false)
+    }
+
+    fn with_root(fresh: bool) -> Part {
         let mut part = Part {
             table: [Cap::EMPTY; 8],
+            written: Written::NONE,
             tally: Tally::default(),
         };
-        let root = part.take(Event::Create {
-            written: None,
-            span: span(0, 16),
-            right: Right::ReadWrite,
-        });
-        assert_eq!(root, Answer::Allowed(Some(Name(1))));
+        assert_eq!(part.create(0, 16, fresh), Answer::Allowed(Some(Name(1))));
         part
     }
 
     fn take(&mut self, event: Event) -> Answer {
-        apply(&mut self.table, &mut self.tally, event)
+        apply(&mut self.table, &mut self.written, &mut self.tally, event)
+    }
+
+    fn create(&mut self, start: u32, length: u32, fresh: bool) -> Answer {
+        self.take(Event::Create {
+            written: None,
+            span: span(start, length),
+            right: Right::ReadWrite,
+            fresh,
+        })
     }
 
     /// A borrow of the first 8 addresses.
@@ -352,18 +384,106 @@ fn rows_of_unknown_kind_are_disordered() {
 }
 
 #[test]
+fn fresh_memory_is_written_before_it_is_read() {
+    let mut part = Part::with_root(true);
+    let unwritten = Answer::Refused(Refusal::NotWritten);
+    assert_eq!(part.borrow(1, Kind::Cell), Answer::Allowed(Some(Name(2))));
+    assert_eq!((part.table[0].fresh, part.table[1].fresh), (1, 1));
+    assert_eq!((part.read(1), part.read(2)), (unwritten, unwritten));
+    let nothing = Event::Read {
+        name: Name(1),
+        span: span(0, 0),
+    };
+    assert_eq!(part.take(nothing), Answer::Allowed(None));
+    // What is written through one is written for both, and no more than that.
+    let half = Event::Write {
+        name: Name(2),
+        span: span(0, 4),
+    };
+    assert_eq!(part.take(half), Answer::Allowed(None));
+    assert_eq!(part.written.0[..2], [0x0f, 0]);
+    assert!(part.written.contains(Addr(3)) && !part.written.contains(Addr(4)));
+    assert_eq!(part.read(1), unwritten);
+    assert_eq!(part.write(1), Answer::Allowed(None));
+    assert_eq!(part.read(1), Answer::Allowed(None));
+    assert_eq!(part.written.0[..2], [0xff, 0]);
+    // Handed out again, it has to be written again; what is not fresh may be read as it is.
+    assert_eq!(part.create(6, 4, true), Answer::Allowed(Some(Name(3))));
+    assert_eq!(part.written.0[..2], [0x3f, 0]);
+    let again = Event::Read {
+        name: Name(3),
+        span: span(6, 1),
+    };
+    assert_eq!(part.take(again), unwritten);
+    assert_eq!(part.create(0, 8, false), Answer::Allowed(Some(Name(4))));
+    assert_eq!(part.table[0].fresh, 0);
+    assert_eq!(part.read(4), Answer::Allowed(None));
+    assert_eq!(part.written, Written::NONE);
+    assert_eq!(Written::default(), Written::NONE);
+}
+
+#[test]
+fn fresh_memory_ends_where_the_bits_do() {
+    let mut part = Part::new();
+    let illegal = Answer::Refused(Refusal::IllegalSpan);
+    let end = WRITTEN_ADDRESSES;
+    for (start, length) in [(end - 1, 2), (end, 1), (end + 1, 0), (0, end + 1)] {
+        assert_eq!(part.create(start, length, true), illegal);
+    }
+    assert_eq!(part.create(end, 0, true), Answer::Allowed(Some(Name(2))));
+    assert_eq!(
+        part.create(end - 1, 1, true),
+        Answer::Allowed(Some(Name(3)))
+    );
+    assert_eq!(part.create(end, 8, false), Answer::Allowed(Some(Name(4))));
+    for (name, start) in [(3, end - 1), (4, end)] {
+        let (name, span) = (Name(name), span(start, 1));
+        let write = part.take(Event::Write { name, span });
+        assert_eq!(write, Answer::Allowed(None));
+    }
+    let mut bytes = [0; WRITTEN_BYTES];
+    bytes[WRITTEN_BYTES - 1] = 0x80;
+    assert_eq!(part.written, Written(bytes));
+    assert!(part.written.contains(Addr(end - 1)));
+    assert!(!part.written.contains(Addr(end)) && !part.written.contains(Addr(u32::MAX)));
+}
+
+#[test]
+fn rows_of_wrong_marks_are_disordered() {
+    let disordered = Answer::Refused(Refusal::Disordered);
+    for fresh in [false, true] {
+        let mut part = Part::with_root(fresh);
+        assert_eq!(part.borrow(1, Kind::Raw), Answer::Allowed(Some(Name(2))));
+        assert_eq!(part.write(1), Answer::Allowed(None));
+        let right = part.table;
+        for marks in [[0, 1], [1, 0], [2, 2], [256, 256], [u32::MAX, u32::MAX]] {
+            part.table[0].fresh = marks[0];
+            part.table[1].fresh = marks[1];
+            assert_eq!(part.read(1), disordered);
+        }
+        part.table = right;
+        part.table[0].length = WRITTEN_ADDRESSES + 1;
+        let wide = part.read(1);
+        assert_eq!(wide == disordered, fresh);
+        part.table = right;
+        assert_eq!(part.read(1), Answer::Allowed(None));
+    }
+}
+
+#[test]
 fn names_are_dropped_together() {
     let mut table = [Cap::EMPTY; 4];
+    let mut written = Written::NONE;
     let mut tally = Tally::default();
     let text = b"(create 0 8 rw)\n(borrow 1 0 4 rw)\n(create 8 8 rw)\n(create 16 8 rw)\n";
     let lines = 4;
     assert_eq!(
-        run(&mut table, &mut tally, text),
+        run(&mut table, &mut written, &mut tally, text),
         RunAnswer::Allowed { lines }
     );
     let mut take = |names: &[u32]| {
         let names: Vec<Name> = names.iter().copied().map(Name).collect();
-        drop_all(&mut table, &mut tally, &names)
+        drop_all(&mut table, &mut written, &mut tally, &names)
     };
     assert_eq!(take(&[1, 3, 5]), Answer::Refused(Refusal::Unissued));
     assert_eq!(take(&[1, 2, 3]), Answer::Allowed(None));
@@ -373,11 +493,11 @@ fn names_are_dropped_together() {
     }
     assert_eq!((table[0].name, table[1]), (4, Cap::EMPTY));
     assert_eq!((tally.drops, tally.refused), (1, 6));
-    let answer = run(&mut table, &mut tally, b"(drop 4 5)\n");
+    let answer = run(&mut table, &mut written, &mut tally, b"(drop 4 5)\n");
     let refusal = Refusal::Unissued;
     assert_eq!(answer, RunAnswer::Refused { refusal, line: 1 });
     table[3].name = 1;
-    let answer = drop_all(&mut table, &mut tally, &[]);
+    let answer = drop_all(&mut table, &mut written, &mut tally, &[]);
     assert_eq!(answer, Answer::Refused(Refusal::Disordered));
     assert_eq!(tally.refused, 7);
 }
@@ -410,11 +530,13 @@ fn names_dropped_together_are_written_and_read() {
 #[test]
 fn many_requests_are_taken_in_turn() {
     let mut table = [Cap::EMPTY; 3];
+    let mut written = Written::NONE;
     let mut tally = Tally::default();
     let create = |start| Event::Create {
         written: None,
         span: span(start, 8),
         right: Right::ReadWrite,
+        fresh: false,
     };
     let names = [Name(1), Name(3), Name(2)];
     let requests = [
@@ -444,18 +566,39 @@ fn many_requests_are_taken_in_turn() {
         Answer::Allowed(None),
     ];
     let mut room = [Outcome::EMPTY; 20];
-    let answers = apply_all(&mut table, &mut tally, &requests, &names, &mut room);
+    let answers = apply_all(
+        &mut table,
+        &mut written,
+        &mut tally,
+        &requests,
+        &names,
+        &mut room,
+    );
     assert!(answers.iter().map(|outcome| outcome.answer()).eq(expected));
     assert_eq!(table, [Cap::EMPTY; 3]);
     assert_eq!((tally.issued, tally.drops, tally.refused), (3, 2, 6));
     // As many as there is room for, and none.
-    let answers = apply_all(&mut table, &mut tally, &requests, &names, &mut room[..1]);
+    let answers = apply_all(
+        &mut table,
+        &mut written,
+        &mut tally,
+        &requests,
+        &names,
+        &mut room[..1],
+    );
     assert_eq!(answers.len(), 1);
     assert_eq!(answers[0].answer(), Answer::Allowed(Some(Name(4))));
-    let answers = apply_all(&mut table, &mut tally, &[], &[], &mut room);
+    let answers = apply_all(&mut table, &mut written, &mut tally, &[], &[], &mut room);
     assert_eq!((answers.len(), tally.issued), (0, 4));
     table[2].name = 1;
-    let answers = apply_all(&mut table, &mut tally, &requests, &names, &mut room);
+    let answers = apply_all(
+        &mut table,
+        &mut written,
+        &mut tally,
+        &requests,
+        &names,
+        &mut room,
+    );
     let disordered = Answer::Refused(Refusal::Disordered);
     assert_eq!(answers.len(), requests.len());
     assert!(answers.iter().all(|outcome| outcome.answer() == disordered));
@@ -465,21 +608,32 @@ fn many_requests_are_taken_in_turn() {
 #[test]
 fn runs_stop_at_a_refusal() {
     let mut table = vec![Cap::EMPTY; 4];
+    let mut written = Written::NONE;
     let mut tally = Tally::default();
-    let answer = run(&mut table, &mut tally, b"(create 0 8 rw)\n(drop 1)\n");
+    let answer = run(
+        &mut table,
+        &mut written,
+        &mut tally,
+        b"(create 0 8 rw)\n(drop 1)\n",
+    );
     assert_eq!(answer, RunAnswer::Allowed { lines: 2 });
-    let answer = run(&mut table, &mut tally, b"(create 0 8 ro)\n(write 2 0 8)\n");
+    let answer = run(
+        &mut table,
+        &mut written,
+        &mut tally,
+        b"(create 0 8 ro)\n(write 2 0 8)\n",
+    );
     let refusal = Refusal::ReadOnly;
     assert_eq!(answer, RunAnswer::Refused { refusal, line: 2 });
     let named = b"(trace 2)\n(create 3 0 8 rw)\n(create 5 0 8 rw)\n";
-    let answer = run(&mut table, &mut tally, named);
+    let answer = run(&mut table, &mut written, &mut tally, named);
     let refusal = Refusal::Misnamed;
     assert_eq!(answer, RunAnswer::Refused { refusal, line: 3 });
-    let answer = run(&mut table, &mut tally, NAMED_HEADER);
+    let answer = run(&mut table, &mut written, &mut tally, NAMED_HEADER);
     assert_eq!(answer, RunAnswer::Allowed { lines: 1 });
     table[3].name = 1;
     let refusal = Refusal::Disordered;
-    let answer = run(&mut table, &mut tally, b"");
+    let answer = run(&mut table, &mut written, &mut tally, b"");
     assert_eq!(answer, RunAnswer::Refused { refusal, line: 0 });
 }
 
@@ -535,23 +689,60 @@ fn listings_have_kinds() {
 }
 
 #[test]
+fn listings_have_marks() {
+    let listing = b"(issued 2)\n(1 0 8 rw fresh (2 0 4 ro cell fresh))\n";
+    let mut table = [Cap::EMPTY; 3];
+    let mut tally = Tally::default();
+    assert_eq!(read_listing(listing, &mut table, &mut tally), Ok(()));
+    assert_eq!(table.map(|row| row.fresh), [1, 1, 0]);
+    let mut out = [0; MAX_LISTING];
+    assert_eq!(write_listing(&table, 2, &mut out), Ok(listing.len()));
+    assert!(out.starts_with(listing));
+    for wrong in [
+        "(issued 1)\n(1 0 8 fresh rw)\n",
+        "(issued 1)\n(1 65536 1 rw fresh)\n",
+        "(issued 2)\n(1 0 8 rw fresh (2 0 4 ro cell))\n",
+        "(issued 2)\n(1 0 8 rw (2 0 4 ro fresh))\n",
+        "(issued 2)\n(1 0 8 rw fresh (2 0 4 ro fresh cell))\n",
+    ] {
+        let read = read_listing(wrong.as_bytes(), &mut table, &mut tally);
+        assert_eq!(read, Err(Refusal::Misspelt));
+    }
+    // The bits are not in a listing: here they are those of a table that wrote the first four.
+    let mut written = Written::NONE;
+    written.0[0] = 0x0f;
+    let text = b"(read 2 0 4)\n(read 1 0 8)\n";
+    let answer = run(&mut table, &mut written, &mut tally, text);
+    let refusal = Refusal::NotWritten;
+    assert_eq!(answer, RunAnswer::Refused { refusal, line: 2 });
+    assert_eq!(written.0[0], 0x0f);
+}
+
+#[test]
 fn capcheck_prints_the_verdict_and_the_listing() {
     let mut out = vec![0; MAX_CHECK];
     let length = check(b"(create 0 8 rw)\n", &mut out).unwrap();
     assert_eq!(&out[..length], b"(allowed 1)\n(issued 1)\n(1 0 8 rw)\n");
+    let length = check(b"(create 0 8 rw fresh)\n(read 1 0 8)\n", &mut out).unwrap();
+    let expected = b"(refused 16 2)\n(issued 1)\n(1 0 8 rw fresh)\n";
+    assert_eq!(&out[..length], expected);
     assert_eq!(check(b"", &mut []), Err(Refusal::BufferTooShort));
 }
 
 #[test]
 fn refusals_have_their_numbers() {
-    for number in 1..=15 {
+    for number in 1..=16 {
         let refusal = Refusal::from_number(number).unwrap();
         assert_eq!(u32::from(refusal.number()), number);
     }
     assert_eq!(Refusal::from_number(0), None);
-    assert_eq!(Refusal::from_number(16), None);
+    assert_eq!(Refusal::from_number(17), None);
     assert_eq!(
         Refusal::Ended.to_string(),
         "refusal 5, the capability has ended"
+    );
+    assert_eq!(
+        Refusal::NotWritten.to_string(),
+        "refusal 16, read before it was written"
     );
 }

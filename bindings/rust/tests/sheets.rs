@@ -2,7 +2,7 @@
 
 use kelzoud::{
     apply, apply_all, drop_all, run, Access, Addr, Answer, Cap, Effect, Event, Kind, Lent, Name,
-    Origin, Outcome, Refusal, Request, Right, RunAnswer, Sheet, Span, Tally, MAX_SHEET,
+    Origin, Outcome, Refusal, Request, Right, RunAnswer, Sheet, Span, Tally, Written, MAX_SHEET,
 };
 
 const KINDS: [Kind; 3] = [Kind::Reference, Kind::Raw, Kind::Cell];
@@ -40,6 +40,7 @@ const ROOT: Event = Event::Create {
     written: None,
     span: WHOLE,
     right: Right::ReadWrite,
+    fresh: false,
 };
 
 fn borrow(parent: u32, kind: Kind) -> Event {
@@ -60,10 +61,11 @@ fn used(access: Access, name: u32) -> Event {
     }
 }
 
-/// A table of four rows with its tally.
-#[derive(Clone, Copy, Default, Debug, PartialEq)]
+/// A table of four rows with its written bits and its tally.
+#[derive(Clone, Default, Debug, PartialEq)]
 struct Part {
     table: [Cap; 4],
+    written: Written,
     tally: Tally,
 }
 
@@ -71,7 +73,7 @@ impl Part {
     fn lend(&mut self, sheet: Sheet) -> Lent<'_> {
         Lent {
             sheet,
-            ..Lent::new(&mut self.table, &mut self.tally)
+            ..Lent::new(&mut self.table, &mut self.written, &mut self.tally)
         }
     }
 
@@ -264,6 +266,38 @@ fn a_create_is_a_strangers_write() {
 }
 
 #[test]
+fn bits_are_followed_by_any_sheet() {
+    let fresh = Event::Create {
+        written: None,
+        span: WHOLE,
+        right: Right::ReadOnly,
+        fresh: true,
+    };
+    let half = Event::Create {
+        written: None,
+        span: Span {
+            start: Addr(4),
+            length: 4,
+        },
+        right: Right::ReadWrite,
+        fresh: false,
+    };
+    let unwritten = Answer::Refused(Refusal::NotWritten);
+    // Where a create keeps what it strikes, others may write for what is fresh, and take it back.
+    let sheet = all_of(Effect::Keep);
+    let mut part = Part::after(&[fresh, ROOT], sheet);
+    assert_eq!(part.lend(sheet).apply(used(Access::Read, 1)), unwritten);
+    let events = [used(Access::Write, 2), used(Access::Read, 1), half];
+    for event in events {
+        assert!(matches!(part.lend(sheet).apply(event), Answer::Allowed(_)));
+    }
+    assert_eq!(part.written.0[0], 0x0f);
+    assert_eq!(part.lend(sheet).apply(used(Access::Read, 1)), unwritten);
+    let read = part.lend(sheet).apply(used(Access::Read, 2));
+    assert_eq!(read, Answer::Allowed(None));
+}
+
+#[test]
 fn many_requests_and_runs_go_by_the_sheet() {
     let text = b"(create 0 8 rw)\n(borrow 1 0 8 rw)\n(read 1 0 8)\n(write 2 0 8)\n";
     let names = [Name(1), Name(2)];
@@ -324,13 +358,13 @@ fn without_a_sheet_it_is_the_default_one() {
         }
         let mut part = Part::default();
         for event in events {
-            apply(&mut part.table, &mut part.tally, event);
+            apply(&mut part.table, &mut part.written, &mut part.tally, event);
         }
         assert_eq!(part, expected);
 
         let mut part = Part::default();
         for event in events {
-            Lent::new(&mut part.table, &mut part.tally).apply(event);
+            Lent::new(&mut part.table, &mut part.written, &mut part.tally).apply(event);
         }
         assert_eq!(part, expected);
 
@@ -339,6 +373,7 @@ fn without_a_sheet_it_is_the_default_one() {
         let requests = events.map(Request::from);
         apply_all(
             &mut part.table,
+            &mut part.written,
             &mut part.tally,
             &requests,
             &[],
@@ -346,7 +381,12 @@ fn without_a_sheet_it_is_the_default_one() {
         );
         assert_eq!(part, expected);
         assert_eq!(
-            drop_all(&mut part.table, &mut part.tally, &[Name(1)]),
+            drop_all(
+                &mut part.table,
+                &mut part.written,
+                &mut part.tally,
+                &[Name(1)]
+            ),
             Answer::Allowed(None)
         );
         assert_eq!(part.table, [Cap::EMPTY; 4]);
@@ -355,7 +395,7 @@ fn without_a_sheet_it_is_the_default_one() {
     let text = b"(create 0 8 rw)\n(borrow 1 0 8 rw)\n(read 1 0 8)\n(write 2 0 8)\n";
     let refusal = Refusal::ReadOnly;
     assert_eq!(
-        run(&mut part.table, &mut part.tally, text),
+        run(&mut part.table, &mut part.written, &mut part.tally, text),
         RunAnswer::Refused { refusal, line: 4 }
     );
 }
@@ -364,7 +404,7 @@ fn without_a_sheet_it_is_the_default_one() {
 fn a_disordered_table_is_refused_by_any_sheet() {
     let mut part = Part::default();
     part.table[3].name = 1;
-    let before = part;
+    let before = part.clone();
     for effect in EFFECTS {
         let mut lent = part.lend(all_of(effect));
         let disordered = Answer::Refused(Refusal::Disordered);
