@@ -1,7 +1,8 @@
 /*
  * How much stack each call of the library writes: the stack below a call is painted before it, and looked
- * through afterwards. On 1,024 rows, a root and chains below it down to depth 64. What a call leaves
- * unwritten of its frames does not show.
+ * through afterwards. On 1,024 rows, a root and chains below it down to depth 64, all of them fresh and
+ * their memory written, so that reads look at its bits. What a call leaves unwritten of its frames does
+ * not show.
  */
 #include <stdio.h>
 #include <stdlib.h>
@@ -12,14 +13,14 @@
 enum { PAINTED = 1 << 18, PAINT = 0xa5 };
 
 static kz_part part;
-static kz_part fresh;
+static kz_part made;
 static uint8_t text[KZ_MAX_CHECK];
 static size_t text_len;
 static const uint32_t names[] = {2, 3};
 
 static void events(void) {
     const kz_lent lent = kz_lend(&part);
-    static const kz_event event = {KZ_WRITE, 1, 0, 64, 0, 0, 0, 0};
+    static const kz_event event = {KZ_WRITE, 1, 0, 64, 0, 0, 0, 0, 0};
     kz_apply(&lent, &event);
 }
 
@@ -31,9 +32,9 @@ static void drops(void) {
 static void batch(void) {
     const kz_lent lent = kz_lend(&part);
     static const kz_event all[] = {
-        {KZ_READ, 5, 0, 64, 0, 0, 0, 0},
-        {KZ_DROP_ALL, 0, 0, 2, 0, 0, 0, 0},
-        {KZ_WRITE, 1, 0, 64, 0, 0, 0, 0},
+        {KZ_READ, 5, 0, 64, 0, 0, 0, 0, 0},
+        {KZ_DROP_ALL, 0, 0, 2, 0, 0, 0, 0, 0},
+        {KZ_WRITE, 1, 0, 64, 0, 0, 0, 0, 0},
     };
     static kz_answer answers[3];
     kz_apply_all(&lent, all, 3, names, 2, answers);
@@ -46,17 +47,19 @@ static void run(void) {
 }
 
 static void write_event(void) {
-    static const kz_event event = {KZ_BORROW, 1, 0, 64, KZ_RW, 0, 0, KZ_CELL};
+    static const kz_event event = {KZ_BORROW, 1, 0, 64, KZ_RW, 0, 0, KZ_CELL, 0};
     static uint8_t out[KZ_MAX_LINE];
     kz_write_event(&event, NULL, 0, out, sizeof out);
 }
 
 static void read_event(void) {
     static const char line[] = "(borrow 1 0 64 rw cell)\n";
+    static const char create[] = "(create 0 64 rw fresh)\n";
     static const char drop[] = "(drop 2 3)\n";
     static kz_event event;
     static uint32_t found[KZ_MAX_GROUP];
     kz_read_event(0, (const uint8_t *)line, sizeof line - 1, &event, found);
+    kz_read_event(0, (const uint8_t *)create, sizeof create - 1, &event, found);
     kz_read_event(0, (const uint8_t *)drop, sizeof drop - 1, &event, found);
 }
 
@@ -78,7 +81,7 @@ static size_t sheet_len;
 
 static void events_by_sheet(void) {
     kz_lent lent = kz_lend(&part);
-    static const kz_event event = {KZ_WRITE, 1, 0, 64, 0, 0, 0, 0};
+    static const kz_event event = {KZ_WRITE, 1, 0, 64, 0, 0, 0, 0, 0};
     lent.sheet = &sheet;
     kz_apply(&lent, &event);
 }
@@ -98,7 +101,7 @@ static char trace[KZ_MAX_INPUT];
 static size_t trace_len;
 
 static void deep_trace(void) {
-    trace_len = (size_t)sprintf(trace, "(create 0 64 rw)\n");
+    trace_len = (size_t)sprintf(trace, "(create 0 64 rw fresh)\n");
     for (int depth = 1; depth < KZ_MAX_DEPTH; depth++)
         trace_len += (size_t)sprintf(trace + trace_len, "(borrow %d 0 64 rw cell)\n", depth);
     trace_len += (size_t)sprintf(trace + trace_len, "(write 64 0 8)\n(read 64 0 8)\n(drop 63 64)\n");
@@ -127,7 +130,7 @@ static __attribute__((noinline)) size_t written(void) {
 static void nothing(void) {}
 
 static __attribute__((noinline)) size_t measure(void (*call)(void)) {
-    part = fresh;
+    part = made;
     paint();
     call();
     return written();
@@ -135,8 +138,9 @@ static __attribute__((noinline)) size_t measure(void (*call)(void)) {
 
 /* All rows live, as deep as a row can be; they have one span. */
 static void deep_rows(void) {
-    const kz_lent lent = kz_lend(&fresh);
-    kz_create(&lent, 0, 64, KZ_RW);
+    const kz_lent lent = kz_lend(&made);
+    kz_create_fresh(&lent, 0, 64, KZ_RW);
+    kz_write(&lent, 1, 0, 64);
     for (uint32_t at = 1; at < KZ_MAX_ROWS; at++)
         kz_borrow_as(&lent, at % (KZ_MAX_DEPTH - 1) == 1 ? 1 : at, 0, 64, KZ_RW, at % 3);
 }
@@ -155,7 +159,7 @@ int main(void) {
     };
     deep_rows();
     deep_trace();
-    const kz_lent lent = kz_lend(&fresh);
+    const kz_lent lent = kz_lend(&made);
     text_len = kz_write_listing(&lent, text, sizeof text).value;
     for (size_t place = 0; place < KZ_SHEET_PLACES; place++)
         sheet.results[place] = (uint8_t)(place % 3);

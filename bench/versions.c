@@ -1,6 +1,8 @@
 /*
  * Times kz_abi_apply of two versions of the library side by side, in one process, in turns. The rows of
- * the other version may have another number of words; words that only one of the two has are 0.
+ * the other version may have another number of words; words that only one of the two has are 0. So no
+ * row is fresh, and of the written bits, which an older version is not lent, the time is that of
+ * following creates and writes.
  */
 #include <stdint.h>
 #include <stdio.h>
@@ -17,10 +19,21 @@ enum { NAME, PARENT, START, LENGTH, RIGHT, DEPTH };
 static const uint32_t tree_length = 1u << 20;
 static const uint32_t beside = 1u << 21;
 
+/* Written bits, the same in every call: no answer depends on what they are. */
+static uint8_t bits[KZ_WRITTEN_BYTES];
+
 /* One event by the default sheet. */
 typedef uint64_t apply_fn(uint32_t *table, size_t rows, uint32_t *tally, const uint32_t *event);
 
-#ifdef OTHER_TAKES_SHEETS
+#if defined OTHER_TAKES_BITS
+uint64_t other_apply(uint32_t *table, size_t rows, uint8_t *written, size_t written_size,
+                     uint32_t *tally, const uint8_t *sheet, size_t sheet_len,
+                     const uint32_t *event, const uint32_t *names, size_t names_len);
+
+static uint64_t by_other(uint32_t *table, size_t rows, uint32_t *tally, const uint32_t *event) {
+    return other_apply(table, rows, bits, sizeof bits, tally, NULL, 0, event, NULL, 0);
+}
+#elif defined OTHER_TAKES_SHEETS
 uint64_t other_apply(uint32_t *table, size_t rows, uint32_t *tally, const uint8_t *sheet,
                      size_t sheet_len, const uint32_t *event, const uint32_t *names,
                      size_t names_len);
@@ -38,8 +51,8 @@ static uint64_t by_other(uint32_t *table, size_t rows, uint32_t *tally, const ui
 #endif
 
 static uint64_t by_this(uint32_t *table, size_t rows, uint32_t *tally, const uint32_t *event) {
-    return kz_abi_apply((kz_cap *)table, rows, (kz_tally *)tally, NULL, 0, (const kz_event *)event,
-                        NULL, 0);
+    return kz_abi_apply((kz_cap *)table, rows, bits, sizeof bits, (kz_tally *)tally, NULL, 0,
+                        (const kz_event *)event, NULL, 0);
 }
 
 typedef struct version {

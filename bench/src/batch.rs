@@ -2,7 +2,7 @@
 
 use std::hint::black_box;
 
-use interface::{Interface, MAX_GROUP, SHEET_PLACES, Words};
+use interface::{Interface, MAX_GROUP, SHEET_PLACES, WRITTEN_BYTES, Words};
 
 use crate::shape::{Lent, READ_WRITE};
 use crate::timing::Batch;
@@ -14,12 +14,14 @@ const BATCH_BYTES: usize = 128 * 1024;
 /// How many lines, or rows of listings, stand in a batch.
 const BATCH_LINES: usize = 4 * 1024;
 
-type LentCall = Box<dyn FnMut(&dyn Interface, &mut Lent)>;
+type LentCall = Box<dyn FnMut(&dyn Interface, &mut Lent, &mut [u8])>;
 
 /// Calls that change what is lent: each has a copy of its own, made anew before every batch.
 struct OnCopies {
     original: Lent,
     copies: Vec<Lent>,
+    /// The written bits, which all copies share: no call clears any, so that each finds them all set.
+    written: Vec<u8>,
     /// How many calls, or events of one call, are timed on a copy.
     on_each: usize,
     call: LentCall,
@@ -29,10 +31,11 @@ fn on_copies(
     original: Lent,
     copies: usize,
     on_each: usize,
-    call: impl FnMut(&dyn Interface, &mut Lent) + 'static,
+    call: impl FnMut(&dyn Interface, &mut Lent, &mut [u8]) + 'static,
 ) -> Box<dyn Batch> {
     Box::new(OnCopies {
         copies: vec![original.clone(); copies],
+        written: vec![u8::MAX; WRITTEN_BYTES],
         original,
         on_each,
         call: Box::new(call),
@@ -49,7 +52,7 @@ impl Batch for OnCopies {
 
     fn call(&mut self, implementation: &dyn Interface) {
         for copy in &mut self.copies {
-            (self.call)(implementation, copy);
+            (self.call)(implementation, copy, &mut self.written);
         }
     }
 
@@ -109,21 +112,19 @@ pub fn apply(event: Words, lent: Lent) -> Box<dyn Batch> {
 
 pub fn apply_refused(refusal: u64, event: Words, lent: Lent) -> Box<dyn Batch> {
     let bytes = lent.table.len() * size_of::<interface::Cap>();
-    on_copies(lent, BATCH_BYTES / bytes, 1, move |implementation, lent| {
-        let (table, tally) = (&mut lent.table, &mut lent.tally);
-        refused(
-            refusal,
-            implementation.apply_words(table, tally, &event, &[]),
-        );
+    let copies = BATCH_BYTES / bytes;
+    on_copies(lent, copies, 1, move |implementation, lent, written| {
+        let answer = implementation.apply_words(lent.memory(written), &event, &[]);
+        refused(refusal, answer);
     })
 }
 
 /// Each event by a call of its own.
 pub fn apply_each(events: Vec<Words>, lent: Lent) -> Box<dyn Batch> {
-    on_copies(lent, 1, events.len(), move |implementation, lent| {
+    let count = events.len();
+    on_copies(lent, 1, count, move |implementation, lent, written| {
         for event in &events {
-            let (table, tally) = (&mut lent.table, &mut lent.tally);
-            allowed(implementation.apply_words(table, tally, event, &[]));
+            allowed(implementation.apply_words(lent.memory(written), event, &[]));
         }
     })
 }
@@ -131,17 +132,18 @@ pub fn apply_each(events: Vec<Words>, lent: Lent) -> Box<dyn Batch> {
 /// All events by one call.
 pub fn apply_all(events: Vec<Words>, lent: Lent) -> Box<dyn Batch> {
     let mut answers = vec![[0; 2]; events.len()];
-    on_copies(lent, 1, events.len(), move |implementation, lent| {
-        let (table, tally) = (&mut lent.table, &mut lent.tally);
-        let taken = implementation.apply_all(table, tally, &events, &[], &mut answers);
+    let count = events.len();
+    on_copies(lent, 1, count, move |implementation, lent, written| {
+        let memory = lent.memory(written);
+        let taken = implementation.apply_all(memory, &events, &[], &mut answers);
         assert_eq!(taken, events.len());
         assert!(black_box(&answers).iter().all(|answer| answer[0] == 0));
     })
 }
 
 pub fn run(lent: Lent, text: Vec<u8>) -> Box<dyn Batch> {
-    on_copies(lent, 1, 1, move |implementation, lent| {
-        allowed(implementation.run(&mut lent.table, &mut lent.tally, &text));
+    on_copies(lent, 1, 1, move |implementation, lent, written| {
+        allowed(implementation.run(lent.memory(written), &text));
     })
 }
 

@@ -1,8 +1,8 @@
 //! Times each call of the C interface, the library beside the baseline where this was built with
-//! `KELZOUD_LIB` set: how the times grow with the rows, how they depend on the table's shape, and what
-//! is gained by many events in one call.
+//! `KELZOUD_LIB` set: how the times grow with the rows, how they depend on the table's shape, what is
+//! gained by many events in one call, and how the times grow with the written bits.
 //!
-//! `bench [rows] [shapes] [many]`: with words only those tables are made.
+//! `bench [rows] [shapes] [many] [bits]`: with words only those tables are made.
 
 mod batch;
 mod clock;
@@ -14,9 +14,10 @@ mod workload;
 
 use std::env;
 
-use interface::{CELL, REFERENCE};
+use interface::{CELL, REFERENCE, Words};
 use shape::{
-    Case, Shape, cells, chains, random_trees, roots, shared_slots, spread_star, star, two_trees,
+    Case, Shape, cells, chains, marked, random_trees, roots, shared_slots, spread_star, star,
+    two_trees,
 };
 use timing::{Batch, Contenders, median_times};
 use workload::{
@@ -119,6 +120,24 @@ const MANY_SIZES: [usize; 4] = [16, 64, 256, 1_000];
 /// On how many rows the events are given again with cells.
 const MANY_WITH_CELLS: usize = 1_000;
 
+/// On how many rows written bits are timed, and of how many addresses.
+const BITS_ROWS: usize = 16;
+const BITS_LENGTHS: [u32; 4] = [1, 64, 4_096, 65_536];
+
+/// The same from within a byte on.
+const FROM_WITHIN: u32 = 4;
+const LENGTHS_WITHIN: [u32; 4] = [1, 64, 4_096, 65_528];
+
+/// An access, where it starts, and how many addresses it has.
+type BitsMeasurement = (&'static str, u32, u32, [u32; 4]);
+
+const ON_BITS: [BitsMeasurement; 4] = [
+    ("write", WRITE, 0, BITS_LENGTHS),
+    ("write within", WRITE, FROM_WITHIN, LENGTHS_WITHIN),
+    ("marked read", READ, 0, BITS_LENGTHS),
+    ("read within", READ, FROM_WITHIN, LENGTHS_WITHIN),
+];
+
 const NOTES: &str = "\
 Times are medians of the processor time of one call, both implementations taking turns; 'growth' is
 the time over the time at a quarter of the rows. All rows are live: two trees of borrows, their rows
@@ -130,7 +149,7 @@ span. A listing is written into and read from the same buffers each time. A run 
 bytes of lines, all allowed and in the same proportions at every size, that keep the table nearly
 full; its creates are beside the trees and end nothing. All these rows are references. 'write in
 cells' goes through the deepest row inside a cell and touches all rows: half of them are outside the
-cell and kept, and of those inside all but the ones above the deepest end.";
+cell and kept, and of those inside all but the ones above the deepest end. All addresses are behind those that have a written bit.";
 
 const SHAPE_NOTES: &str = "\
 The same calls by shape, through the first row over its whole span, where there are cells through the
@@ -145,16 +164,23 @@ Time for one event of 1,000, by a call for each and by one call for all, on the 
 full; 'gain' is the one over the other. The events are a run's; with cells the rows are those of the
 shape, and each object is written through a borrow of a cell of it.";
 
+const BITS_NOTES: &str = "\
+Writes and reads through a marked root of all 65,536 addresses that have a written bit, alone in 16
+rows: 'length' is how many addresses are written or read, and 'growth' the time over that of the row
+above. All are written already, so that a read looks at every bit and a write sets each again. Those
+'within' start in the middle of a byte, the others at its edge.";
+
 fn main() {
     let contenders: Vec<_> = interface::library()
         .into_iter()
         .chain([interface::baseline()])
         .collect();
     let wanted: Vec<String> = env::args().skip(1).collect();
-    let tables: [Table; 3] = [
+    let tables: [Table; 4] = [
         ("rows", NOTES, growth_by_rows),
         ("shapes", SHAPE_NOTES, ratios_by_shape),
         ("many", MANY_NOTES, many_events),
+        ("bits", BITS_NOTES, growth_by_bits),
     ];
     for (name, notes, table) in tables {
         if wanted.is_empty() || wanted.iter().any(|word| word == name) {
@@ -166,7 +192,7 @@ fn main() {
 }
 
 fn growth_by_rows(contenders: &Contenders) {
-    print::growth_heading(contenders);
+    print::growth_heading(contenders, "rows");
     for (name, batch) in ON_LINES {
         let times = median_times(contenders, &mut *batch());
         print::growth_row(name, None, &times, None);
@@ -182,6 +208,33 @@ fn growth_rows(contenders: &Contenders, name: &str, shape: Shape, batch: Timed) 
     for rows in SIZES {
         let times = median_times(contenders, &mut *batch(Case::full(shape, rows)));
         print::growth_row(name, Some(rows), &times, previous.as_deref());
+        previous = Some(times);
+    }
+}
+
+fn growth_by_bits(contenders: &Contenders) {
+    print::growth_heading(contenders, "length");
+    for measurement in ON_BITS {
+        bits_rows(contenders, measurement);
+    }
+}
+
+fn bits_rows(contenders: &Contenders, (name, kind, start, lengths): BitsMeasurement) {
+    let case = Case {
+        shape: marked,
+        live: 1,
+        lent: BITS_ROWS,
+    };
+    let mut previous: Option<Vec<f64>> = None;
+    for length in lengths {
+        let lent = case.with_room(1);
+        let access = Words {
+            start,
+            length,
+            ..event_on_user(&lent, kind)
+        };
+        let times = median_times(contenders, &mut *batch::apply(access, lent));
+        print::growth_row(name, Some(length as usize), &times, previous.as_deref());
         previous = Some(times);
     }
 }

@@ -2,8 +2,9 @@
 
 use crate::timing::Contenders;
 
-pub fn growth_heading(contenders: &Contenders) {
-    print!("{:<14}{:>6}", "call", "rows");
+/// The heading of a table whose times grow with so many rows, or with another number.
+pub fn growth_heading(contenders: &Contenders, grows_with: &str) {
+    print!("{:<14}{grows_with:>6}", "call");
     for contender in contenders {
         print!("{:>15}{:>8}", contender.name(), "growth");
     }
@@ -11,7 +12,7 @@ pub fn growth_heading(contenders: &Contenders) {
     println!("{ratio:>8}");
 }
 
-/// A call's times at a number of rows, and their growth from those at fewer rows.
+/// A call's times at a number of rows, or at another number, and their growth from those at fewer.
 pub fn growth_row(name: &str, rows: Option<usize>, times: &[f64], previous: Option<&[f64]>) {
     let rows = rows.map_or("any".to_string(), |rows| rows.to_string());
     print!("{name:<14}{rows:>6}");

@@ -1,6 +1,6 @@
 //! Tables to time the calls on: who is borrowed from whom, and which names they have.
 
-use interface::{CELL, Cap, REFERENCE, Tally};
+use interface::{CELL, Cap, FRESH, Memory, REFERENCE, Tally};
 
 use crate::random::Random;
 
@@ -12,14 +12,28 @@ const MAX_NAME: u32 = 1_000_000;
 /// The length of the span of each of the two trees. No other shape reaches behind them.
 const TREE_LENGTH: u32 = 1 << 20;
 
+/// How many addresses have a written bit. But for what times these bits, every shape begins behind them.
+pub const WRITABLE: u32 = 1 << 16;
+
 /// The first address behind every shape.
-pub const BESIDE: u32 = 2 * TREE_LENGTH;
+pub const BESIDE: u32 = WRITABLE + 2 * TREE_LENGTH;
 
 /// A lent table and tally.
 #[derive(Clone)]
 pub struct Lent {
     pub table: Vec<Cap>,
     pub tally: Tally,
+}
+
+impl Lent {
+    /// The same with written bits.
+    pub fn memory<'a>(&'a mut self, written: &'a mut [u8]) -> Memory<'a> {
+        Memory {
+            table: &mut self.table,
+            written,
+            tally: &mut self.tally,
+        }
+    }
 }
 
 /// Makes a table of so many live rows.
@@ -172,20 +186,32 @@ pub fn cells(live: usize) -> Vec<Cap> {
     table
 }
 
+/// Marked roots over all addresses that have a written bit.
+pub fn marked(live: usize) -> Vec<Cap> {
+    let marked = |at: u32| Cap {
+        start: 0,
+        fresh: FRESH,
+        ..root(every_second(at), 0, WRITABLE)
+    };
+    (0..live as u32).map(marked).collect()
+}
+
 /// The name of a row where every second name has ended.
 fn every_second(at: u32) -> u32 {
     2 * at + 1
 }
 
-fn root(name: u32, start: u32, length: u32) -> Cap {
+/// A root so far behind the addresses that have a written bit.
+fn root(name: u32, offset: u32, length: u32) -> Cap {
     Cap {
         name,
         parent: 0,
-        start,
+        start: WRITABLE + offset,
         length,
         right: READ_WRITE,
         depth: 1,
         kind: REFERENCE,
+        fresh: 0,
     }
 }
 

@@ -16,8 +16,14 @@ fn is_group(names: &[u32]) -> bool {
 }
 
 /// Drops the names of a group together, or none of them.
-pub fn drop_all(table: &mut [Cap], tally: &mut Tally, names: &[u32]) -> Result<(), Refusal> {
-    in_order(table, tally, &[], Together(names)).unwrap_or(Err(Refusal::Disordered))
+pub fn drop_all(
+    table: &mut [Cap],
+    written: &mut [u8],
+    tally: &mut Tally,
+    names: &[u32],
+) -> Result<(), Refusal> {
+    let together = Together(names);
+    in_order(table, written, tally, &[], together).unwrap_or(Err(Refusal::Disordered))
 }
 
 struct Together<'a>(&'a [u32]);

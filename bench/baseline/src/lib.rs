@@ -14,6 +14,7 @@ mod run;
 mod sheet;
 mod step;
 mod text;
+mod written;
 
 pub use event::{DROP_ALL, Event, Kind, Refusal};
 pub use group::{MAX_GROUP, drop_all, read_drop, write_drop};
@@ -24,3 +25,4 @@ pub use order::{CELL, Cap, MAX_DEPTH, MAX_NAME, MAX_ROWS, RAW, REFERENCE};
 pub use run::{check, run};
 pub use sheet::{SHEET_PLACES, read_sheet, write_sheet};
 pub use step::{Tally, apply};
+pub use written::{FRESH, WRITTEN_BYTES};

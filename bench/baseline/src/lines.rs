@@ -35,8 +35,10 @@ pub fn write_event(event: Event, spelling: Spelling, out: &mut [u8]) -> Result<u
     if kind.makes() {
         writer.next_right(u32::from(event.right));
     }
-    if kind == Kind::Borrow {
-        writer.next_kind(u32::from(event.cap_kind));
+    match kind {
+        Kind::Create => writer.next_mark(u32::from(event.fresh)),
+        Kind::Borrow => writer.next_kind(u32::from(event.cap_kind)),
+        _ => {}
     }
     writer.put(b")\n");
     let length = writer.length();
@@ -78,6 +80,7 @@ pub(crate) fn next_event(reader: &mut Reader, spelling: Spelling) -> Option<Even
             start: reader.next_number()?,
             length: reader.next_number()?,
             right: reader.next_right()?,
+            fresh: reader.next_mark()? as u8,
             ..Event::default()
         },
         b'b' => Event {
@@ -88,6 +91,7 @@ pub(crate) fn next_event(reader: &mut Reader, spelling: Spelling) -> Option<Even
             length: reader.next_number()?,
             right: reader.next_right()?,
             cap_kind: reader.next_kind()? as u8,
+            ..Event::default()
         },
         b'r' => next_access(reader, Kind::Read)?,
         b'w' => next_access(reader, Kind::Write)?,

@@ -1,4 +1,4 @@
-//! Many events on a lent table and tally.
+//! Many events on a lent table, written bits and tally.
 
 use crate::event::{DROP_ALL, Event, Refusal};
 use crate::group::drop_names;
@@ -10,6 +10,7 @@ use crate::step::{Ordered, Tally, Work, in_order};
 /// made. An event of the kind `DROP_ALL` drops the names `names[start..start + length]` together.
 pub fn apply_all(
     table: &mut [Cap],
+    written: &mut [u8],
     tally: &mut Tally,
     sheet: &[u8],
     events: &[impl Into<Event> + Copy],
@@ -24,7 +25,7 @@ pub fn apply_all(
         names,
         answers,
     };
-    if in_order(table, tally, sheet, many).is_none() {
+    if in_order(table, written, tally, sheet, many).is_none() {
         answers.fill([Refusal::Disordered as u32, 0]);
     }
     taken
@@ -66,7 +67,7 @@ fn names_of<'a>(event: &Event, names: &'a [u32]) -> &'a [u32] {
 #[cfg(test)]
 mod tests {
     use super::*;
-    use crate::{MAX_ROWS, SHEET_PLACES, apply, drop_all};
+    use crate::{MAX_ROWS, SHEET_PLACES, WRITTEN_BYTES, apply, drop_all};
 
     /// Numbers that look random and are the same each time (xorshift).
     struct Random(u64);
@@ -94,8 +95,11 @@ mod tests {
             let kind = self.pick(&[0, 1, 1, 2, 2, 2, 2, 2, 3, 4, 5, DROP_ALL]);
             let name = (issued + 1).saturating_sub(self.below(12));
             let row = table.iter().find(|row| row.name == name);
+            let fresh = self.pick(&[0, 0, 0, 1, 1, 1, 2, 255]);
             let (start, length) = match (kind, row) {
                 (DROP_ALL, _) => (self.below(NAMES as u32 + 2), self.below(4)),
+                // What is marked needs addresses that have a bit.
+                (1, _) if fresh == 1 => (self.below(15) << 12, self.pick(&[4_096, 8_192])),
                 (1, _) | (_, None) => (self.below(1 << 20) << 12, self.pick(&[4_096, 8_192])),
                 (_, Some(row)) => {
                     let start = row.start + self.pick(&[0, 0, 1]);
@@ -110,6 +114,61 @@ mod tests {
                 length,
                 right: self.pick(&[2, 2, 2, 1, 0]),
                 cap_kind: self.pick(&[0, 0, 0, 0, 0, 0, 1, 1, 2, 2, 3, 255]),
+                fresh,
+            }
+        }
+    }
+
+    /// What is lent for events.
+    #[derive(Clone, Debug, PartialEq)]
+    struct Lent {
+        table: Vec<Cap>,
+        written: Vec<u8>,
+        tally: Tally,
+    }
+
+    impl Lent {
+        fn empty(rows: usize) -> Lent {
+            Lent {
+                table: vec![Cap::default(); rows],
+                written: vec![0; WRITTEN_BYTES],
+                tally: Tally::default(),
+            }
+        }
+
+        fn all(&mut self, events: &[Event], names: &[u32], answers: &mut [[u32; 2]]) -> usize {
+            self.all_by(&[], events, names, answers)
+        }
+
+        fn all_by(
+            &mut self,
+            sheet: &[u8],
+            events: &[Event],
+            names: &[u32],
+            answers: &mut [[u32; 2]],
+        ) -> usize {
+            let (table, tally) = (&mut self.table, &mut self.tally);
+            apply_all(
+                table,
+                &mut self.written,
+                tally,
+                sheet,
+                events,
+                names,
+                answers,
+            )
+        }
+
+        fn one_by(&mut self, sheet: &[u8], event: &Event, names: &[u32]) -> [u32; 2] {
+            let (table, tally) = (&mut self.table, &mut self.tally);
+            let written = &mut self.written;
+            let answer = match event.kind {
+                DROP_ALL => drop_all(table, written, tally, names_of(event, names)).map(|()| 0),
+                _ => apply(table, written, tally, sheet, *event),
+            };
+            match answer {
+                Ok(value) => [0, value],
+                Err(refusal) => [refusal as u32, 0],
             }
         }
     }
@@ -117,61 +176,45 @@ mod tests {
     /// How many names are lent beside the events.
     const NAMES: usize = 6;
 
-    fn one_by_one(
-        table: &mut [Cap],
-        tally: &mut Tally,
-        sheet: &[u8],
-        event: &Event,
-        names: &[u32],
-    ) -> Result<u32, Refusal> {
-        match event.kind {
-            DROP_ALL => drop_all(table, tally, names_of(event, names)).map(|()| 0),
-            _ => apply(table, tally, sheet, *event),
-        }
-    }
-
     #[test]
     fn many_events_are_as_one_after_the_other() {
         let mut random = Random(1);
-        let mut met = [0; 14];
+        let mut met = [0; 17];
         for rows in [0, 1, 5, 16, 17, 64, 65, 256, 257, MAX_ROWS, MAX_ROWS + 1] {
             for _ in 0..40 {
-                let mut table = vec![Cap::default(); rows];
-                let mut tally = Tally::default();
+                let mut lent = Lent::empty(rows);
                 let sheet = random.sheet();
                 for _ in 0..8 {
-                    let (mut table_of_one, mut tally_of_one) = (table.clone(), tally);
-                    // Near the names that are made, so that groups of live names are met.
-                    let names = [(); NAMES].map(|()| tally.issued + random.below(6));
-                    let mut events = Vec::new();
-                    let mut expected = Vec::new();
-                    for _ in 0..random.below(60) {
-                        let event = random.event(&table_of_one, tally_of_one.issued);
-                        let (table, tally) = (&mut table_of_one, &mut tally_of_one);
-                        let answer = one_by_one(table, tally, &sheet, &event, &names);
-                        events.push(event);
-                        expected.push(match answer {
-                            Ok(value) => [0, value],
-                            Err(refusal) => [refusal as u32, 0],
-                        });
+                    for answer in some_events(&mut random, &mut lent, &sheet) {
+                        met[answer[0] as usize] += 1;
                     }
-                    let mut answers = vec![[7, 7]; events.len()];
-                    let (table, tally) = (&mut table, &mut tally);
-                    let taken = apply_all(table, tally, &sheet, &events, &names, &mut answers);
-                    assert_eq!(taken, events.len());
-                    assert_eq!(answers, expected);
-                    assert_eq!(*table, table_of_one);
-                    assert_eq!(*tally, tally_of_one);
-                    answers
-                        .iter()
-                        .for_each(|answer| met[answer[0] as usize] += 1);
                 }
             }
         }
         // A depth of 64 and a million names are not reached here, and no buffer is written.
-        for refusal in [0, 1, 2, 3, 4, 5, 6, 7, 10, 12, 13] {
+        for refusal in [0, 1, 2, 3, 4, 5, 6, 7, 10, 12, 13, 16] {
             assert!(met[refusal] > 0, "refusal {refusal} was not met: {met:?}");
         }
+    }
+
+    /// Some events one by one, and then in one call on what is lent: their answers.
+    fn some_events(random: &mut Random, lent: &mut Lent, sheet: &[u8]) -> Vec<[u32; 2]> {
+        let mut one_by_one = lent.clone();
+        // Near the names that are made, so that groups of live names are met.
+        let names = [(); NAMES].map(|()| lent.tally.issued + random.below(6));
+        let mut events = Vec::new();
+        let mut expected = Vec::new();
+        for _ in 0..random.below(60) {
+            let event = random.event(&one_by_one.table, one_by_one.tally.issued);
+            expected.push(one_by_one.one_by(sheet, &event, &names));
+            events.push(event);
+        }
+        let mut answers = vec![[7, 7]; events.len()];
+        let taken = lent.all_by(sheet, &events, &names, &mut answers);
+        assert_eq!(taken, events.len());
+        assert_eq!(answers, expected);
+        assert_eq!(*lent, one_by_one);
+        answers
     }
 
     #[test]
@@ -182,13 +225,11 @@ mod tests {
             right: 2,
             ..Event::default()
         };
-        let mut table = [Cap::default(); 4];
-        let mut tally = Tally::default();
+        let mut lent = Lent::empty(4);
         let mut answers = [[7, 7]; 2];
-        let (table, tally) = (&mut table, &mut tally);
-        let taken = apply_all(table, tally, &[], &[create; 3], &[], &mut answers);
+        let taken = lent.all(&[create; 3], &[], &mut answers);
         assert_eq!((taken, answers), (2, [[0, 1], [0, 2]]));
-        let taken = apply_all(table, tally, &[], &[create; 1], &[], &mut answers);
+        let taken = lent.all(&[create; 1], &[], &mut answers);
         assert_eq!((taken, answers), (1, [[0, 3], [0, 2]]));
     }
 
@@ -202,8 +243,7 @@ mod tests {
         };
         let most = u32::MAX;
         let places = [(1, 2), (2, 1), (3, 0), (most, most), (most, 2), (0, 2)];
-        let mut table = [Cap::default(); 2];
-        let mut tally = Tally::default();
+        let mut lent = Lent::empty(2);
         for length in 1..=2 {
             let create = Event {
                 kind: 1,
@@ -211,26 +251,28 @@ mod tests {
                 right: 2,
                 ..Event::default()
             };
-            assert_eq!(apply(&mut table, &mut tally, &[], create), Ok(length));
+            assert_eq!(lent.one_by(&[], &create, &[]), [0, length]);
         }
         let mut answers = [[7, 7]; 6];
-        let events = places.map(drop_all);
-        apply_all(&mut table, &mut tally, &[], &events, &[1, 2], &mut answers);
+        lent.all(&places.map(drop_all), &[1, 2], &mut answers);
         assert_eq!(answers[..5], [[13, 0]; 5]);
-        assert_eq!((answers[5], table), ([0, 0], [Cap::default(); 2]));
-        assert_eq!((tally.refused, tally.drops), (5, 1));
+        assert_eq!((answers[5], lent.table), ([0, 0], vec![Cap::default(); 2]));
+        assert_eq!((lent.tally.refused, lent.tally.drops), (5, 1));
     }
 
+    /// A table that is not in order, and bits of another length.
     #[test]
-    fn a_disordered_table_refuses_all() {
-        let mut table = [Cap::default(); 4];
-        table[1].name = 1;
-        let before = table;
-        let mut tally = Tally::default();
-        let mut answers = [[7, 7]; 3];
-        let events = [Event::default(); 2];
-        let taken = apply_all(&mut table, &mut tally, &[], &events, &[], &mut answers);
-        assert_eq!((taken, answers), (2, [[1, 0], [1, 0], [7, 7]]));
-        assert_eq!((table, tally), (before, Tally::default()));
+    fn disordered_memory_refuses_all() {
+        let mut disordered = Lent::empty(4);
+        disordered.table[1].name = 1;
+        let mut short = Lent::empty(4);
+        short.written.pop();
+        for mut lent in [disordered, short] {
+            let before = lent.clone();
+            let mut answers = [[7, 7]; 3];
+            let taken = lent.all(&[Event::default(); 2], &[], &mut answers);
+            assert_eq!((taken, answers), (2, [[1, 0], [1, 0], [7, 7]]));
+            assert_eq!(lent, before);
+        }
     }
 }

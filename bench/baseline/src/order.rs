@@ -1,5 +1,7 @@
 //! Records, the order of a table, and an index of parents over the live rows.
 
+use crate::written::{FRESH, WRITABLE};
+
 pub const MAX_ROWS: usize = 1_024;
 pub const MAX_NAME: u32 = 1_000_000;
 pub const MAX_DEPTH: u32 = 64;
@@ -22,6 +24,8 @@ pub struct Cap {
     pub depth: u32,
     /// `REFERENCE`, `RAW` or `CELL`.
     pub kind: u32,
+    /// 0 or `FRESH`.
+    pub fresh: u32,
 }
 
 /// The kinds of capabilities.
@@ -37,12 +41,13 @@ pub(crate) const EMPTY: Cap = Cap {
     right: 0,
     depth: 0,
     kind: 0,
+    fresh: 0,
 };
 
 #[derive(Clone, Copy)]
 pub(crate) struct Span {
-    start: u64,
-    end: u64,
+    pub(crate) start: u64,
+    pub(crate) end: u64,
 }
 
 impl Span {
@@ -92,6 +97,8 @@ struct Outer {
     depth: u32,
     /// The highest kind that a row may have in it: a root is a reference.
     highest_kind: u32,
+    /// The lowest mark and the highest that a row may have in it.
+    marks: (u32, u32),
 }
 
 impl Outer {
@@ -100,6 +107,7 @@ impl Outer {
         right: 2,
         depth: 0,
         highest_kind: REFERENCE,
+        marks: (0, FRESH),
     };
 
     #[inline]
@@ -109,6 +117,7 @@ impl Outer {
             right: parent.right,
             depth: parent.depth,
             highest_kind: CELL,
+            marks: (parent.fresh, parent.fresh),
         }
     }
 
@@ -121,6 +130,9 @@ impl Outer {
             & (row.depth == self.depth + 1)
             & (row.depth <= MAX_DEPTH)
             & (row.kind <= self.highest_kind)
+            & (self.marks.0 <= row.fresh)
+            & (row.fresh <= self.marks.1)
+            & ((row.fresh == 0) | (row.span().end <= WRITABLE))
     }
 }
 
@@ -215,7 +227,7 @@ impl<const SLOTS: usize> Places<SLOTS> {
 /// Without an early end, which would keep the compiler from taking several rows at once.
 fn are_empty(rows: &[Cap]) -> bool {
     let place = |row: &Cap| row.name | row.parent | row.start | row.length;
-    let bits = |row: &Cap| place(row) | row.right | row.depth | row.kind;
+    let bits = |row: &Cap| place(row) | row.right | row.depth | row.kind | row.fresh;
     rows.iter().fold(0, |any, row| any | bits(row)) == 0
 }
 

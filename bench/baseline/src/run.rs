@@ -7,6 +7,7 @@ use crate::listing::write_after;
 use crate::order::{Cap, EMPTY, Index, MAX_ROWS};
 use crate::step::{Ordered, Tally, Work, in_order};
 use crate::text::{Reader, Writer};
+use crate::written::{WRITTEN_BYTES, Written};
 
 /// The longest input that `check` runs, in bytes.
 const MAX_INPUT: usize = 65_536;
@@ -18,8 +19,15 @@ const HEADER: &[u8] = b"(trace 2)\n";
 type Answer = Result<u32, (Refusal, u32)>;
 
 /// Takes lines by a sheet until one is refused.
-pub fn run(table: &mut [Cap], tally: &mut Tally, sheet: &[u8], text: &[u8]) -> Answer {
-    in_order(table, tally, sheet, Lines(text)).unwrap_or(Err((Refusal::Disordered, 0)))
+pub fn run(
+    table: &mut [Cap],
+    written: &mut [u8],
+    tally: &mut Tally,
+    sheet: &[u8],
+    text: &[u8],
+) -> Answer {
+    let lines = Lines(text);
+    in_order(table, written, tally, sheet, lines).unwrap_or(Err((Refusal::Disordered, 0)))
 }
 
 struct Lines<'a>(&'a [u8]);
@@ -75,10 +83,12 @@ pub fn check(input: &[u8], out: &mut [u8]) -> Result<u32, Refusal> {
     }
     let mut table = [EMPTY; MAX_ROWS];
     let mut index = Index::<MAX_ROWS>::EMPTY;
+    let mut written = [0; WRITTEN_BYTES];
     let mut tally = Tally::default();
     let ordered = Ordered {
         table: &mut table,
         index: &mut index,
+        written: Written::of(&mut written),
         tally: &mut tally,
         sheet: None,
     };

@@ -1,10 +1,11 @@
-//! Events on a lent table and tally, one or many.
+//! Events on a lent table, written bits and tally, one or many.
 
 use crate::event::{Event, Kind, Refusal};
 use crate::order::{
     CELL, Cap, EMPTY, Index, MAX_DEPTH, MAX_NAME, MAX_ROWS, RAW, REFERENCE, SLOTS, Span, find,
 };
 use crate::sheet::{Sheet, Take};
+use crate::written::{FRESH, Written};
 
 #[repr(C)]
 #[derive(Clone, Copy, Debug, Default, PartialEq, Eq)]
@@ -39,28 +40,31 @@ pub(crate) trait Work {
 }
 
 /// Checks the order of a lent table once and works on it by the sheet; nothing where the table is
-/// disordered.
+/// disordered or the written bits are not as many as there have to be.
 /// What is kept beside the table is as large as the table needs: clearing it is a good part of the
 /// time for few rows.
 pub(crate) fn in_order<W: Work>(
     table: &mut [Cap],
+    written: &mut [u8],
     tally: &mut Tally,
     sheet: &[u8],
     work: W,
 ) -> Option<W::Answer> {
+    let written = Written::lent(written)?;
     let sheet = Sheet::lent(sheet);
     let sheet = sheet.as_ref();
     match table.len() {
-        0..=16 => in_rows::<16, 32, W>(table, tally, sheet, work),
-        17..=64 => in_rows::<64, 128, W>(table, tally, sheet, work),
-        65..=256 => in_rows::<256, 512, W>(table, tally, sheet, work),
-        257..=MAX_ROWS => in_rows::<MAX_ROWS, SLOTS, W>(table, tally, sheet, work),
+        0..=16 => in_rows::<16, 32, W>(table, written, tally, sheet, work),
+        17..=64 => in_rows::<64, 128, W>(table, written, tally, sheet, work),
+        65..=256 => in_rows::<256, 512, W>(table, written, tally, sheet, work),
+        257..=MAX_ROWS => in_rows::<MAX_ROWS, SLOTS, W>(table, written, tally, sheet, work),
         _ => None,
     }
 }
 
 fn in_rows<const ROWS: usize, const SLOTS: usize, W: Work>(
     table: &mut [Cap],
+    written: Written,
     tally: &mut Tally,
     sheet: Option<&Sheet>,
     work: W,
@@ -70,6 +74,7 @@ fn in_rows<const ROWS: usize, const SLOTS: usize, W: Work>(
     Some(work.on(Ordered {
         table,
         index,
+        written,
         tally,
         sheet,
     }))
@@ -79,11 +84,13 @@ fn in_rows<const ROWS: usize, const SLOTS: usize, W: Work>(
 /// another layout need not copy them first.
 pub fn apply(
     table: &mut [Cap],
+    written: &mut [u8],
     tally: &mut Tally,
     sheet: &[u8],
     event: impl Into<Event>,
 ) -> Result<u32, Refusal> {
-    in_order(table, tally, sheet, One(event.into())).unwrap_or(Err(Refusal::Disordered))
+    let one = One(event.into());
+    in_order(table, written, tally, sheet, one).unwrap_or(Err(Refusal::Disordered))
 }
 
 struct One(Event);
@@ -96,10 +103,11 @@ impl Work for One {
     }
 }
 
-/// A lent table whose order the index vouches for, and its tally. The index follows the table.
+/// A lent table whose order the index vouches for, its written bits and its tally. The index follows the table.
 pub(crate) struct Ordered<'a, const ROWS: usize> {
     pub(crate) table: &'a mut [Cap],
     pub(crate) index: &'a mut Index<ROWS>,
+    pub(crate) written: Written<'a>,
     pub(crate) tally: &'a mut Tally,
     /// The sheet by which events are carried out, where it is not the default one.
     pub(crate) sheet: Option<&'a Sheet>,
@@ -221,7 +229,7 @@ impl<const ROWS: usize> Ordered<'_, ROWS> {
     /// The event's kind and the row that it goes through (none for a create), or the first refusal.
     fn judge(&self, event: Event) -> Result<(Kind, Option<usize>), Refusal> {
         let kind = event.known_kind().ok_or(Refusal::Misspelt)?;
-        if kind.has_span() && !event.span().is_legal() {
+        if kind.has_span() && !event.is_in_place(kind) {
             return Err(Refusal::IllegalSpan);
         }
         let user = match kind.has_name() {
@@ -256,6 +264,10 @@ impl<const ROWS: usize> Ordered<'_, ROWS> {
         if needs_read_write && user.right != 2 {
             return Err(Refusal::ReadOnly);
         }
+        let is_marked_read = kind == Kind::Read && user.fresh == FRESH;
+        if is_marked_read && !self.written.are_set(event.span()) {
+            return Err(Refusal::NotWritten);
+        }
         if kind == Kind::Borrow && user.depth == MAX_DEPTH {
             return Err(Refusal::TooDeep);
         }
@@ -278,6 +290,11 @@ impl<const ROWS: usize> Ordered<'_, ROWS> {
 
     fn carry_out(&mut self, event: Event, kind: Kind, user: Option<usize>) -> u32 {
         self.tally.count_allowed(kind);
+        match kind {
+            Kind::Create => self.written.clear(event.span()),
+            Kind::Write => self.written.set(event.span()),
+            _ => {}
+        }
         match (kind, user) {
             (Kind::Borrow, _) => {}
             (Kind::Drop, Some(at)) => {
@@ -380,12 +397,12 @@ impl<const ROWS: usize> Ordered<'_, ROWS> {
     }
 
     fn append(&mut self, event: Event, parent: Option<usize>) -> u32 {
-        let (parent_name, parent_depth, kind) = match parent {
+        let (parent_name, parent_depth, kind, fresh) = match parent {
             Some(at) => {
                 let row = &self.table[at];
-                (row.name, row.depth, event.cap_kind.into())
+                (row.name, row.depth, event.cap_kind.into(), row.fresh)
             }
-            None => (0, 0, REFERENCE),
+            None => (0, 0, REFERENCE, event.fresh.into()),
         };
         self.tally.issued += 1;
         let row = self.index.live;
@@ -397,6 +414,7 @@ impl<const ROWS: usize> Ordered<'_, ROWS> {
             right: u32::from(event.right),
             depth: parent_depth + 1,
             kind,
+            fresh,
         };
         self.index.parents[row] = parent.unwrap_or(row) as u16;
         self.index.live = row + 1;

@@ -1,6 +1,7 @@
 //! Text in pieces: a cursor that reads and a cursor that writes.
 
 use crate::order::{CELL, RAW, REFERENCE};
+use crate::written::FRESH;
 
 #[derive(Clone, Copy)]
 pub(crate) struct Reader<'a> {
@@ -99,6 +100,16 @@ impl<'a> Reader<'a> {
         self.skip(kind_word(kind))?;
         Some(kind)
     }
+
+    /// A space and the word of the mark, or nothing where there is none.
+    #[inline]
+    pub(crate) fn next_mark(&mut self) -> Option<u32> {
+        if (self.peek(0), self.peek(1)) != (Some(b' '), Some(b'f')) {
+            return Some(0);
+        }
+        self.skip(mark_word(FRESH))?;
+        Some(FRESH)
+    }
 }
 
 /// The word of a kind, with the space before it. A reference has none.
@@ -107,6 +118,15 @@ pub(crate) fn kind_word(kind: u32) -> &'static [u8] {
     match kind {
         RAW => b" raw",
         CELL => b" cell",
+        _ => b"",
+    }
+}
+
+/// The word of a mark, with the space before it. Without one there is none.
+#[inline]
+pub(crate) fn mark_word(fresh: u32) -> &'static [u8] {
+    match fresh {
+        FRESH => b" fresh",
         _ => b"",
     }
 }
@@ -181,6 +201,12 @@ impl<'a> Writer<'a> {
     #[inline]
     pub(crate) fn next_kind(&mut self, kind: u32) {
         self.put(kind_word(kind));
+    }
+
+    /// A space and the word of the mark, or nothing where there is none.
+    #[inline]
+    pub(crate) fn next_mark(&mut self, fresh: u32) {
+        self.put(mark_word(fresh));
     }
 }
 

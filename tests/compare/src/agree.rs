@@ -2,12 +2,15 @@
 
 use std::fmt::Debug;
 
-use interface::{AnswerWords, Cap, DROP_ALL, Event, Interface, MAX_GROUP, SHEET_PLACES, Words};
-use oracle::{Refused, Row, Sheet, Span, Spelling, Tally};
+use interface::{
+    AnswerWords, Cap, DROP_ALL, Event, Interface, MAX_GROUP, Memory, SHEET_PLACES, Words,
+};
+use oracle::{Refused, Row, Sheet, Span, Spelling, Tally, Written};
 
 use crate::report::{Checked, Met, MetAnswers, check_few};
 use crate::sheets;
 use crate::strikes;
+use crate::written;
 
 /// The implementation under test.
 pub type Subject = &'static dyn Interface;
@@ -19,15 +22,57 @@ pub type Agreed = Result<(), String>;
 #[derive(Clone, Debug, PartialEq)]
 pub struct Lent {
     pub rows: Vec<Row>,
+    pub bits: Bits,
     pub tally: Tally,
 }
 
 impl Lent {
-    /// So many empty rows, and a tally of zeros.
+    /// These rows and this tally, with nothing written.
+    pub fn of(rows: Vec<Row>, tally: Tally) -> Lent {
+        let bits = Bits::Of(Written::default());
+        Lent { rows, bits, tally }
+    }
+
+    /// So many empty rows, nothing written, and a tally of zeros.
     pub fn empty(rows: usize) -> Lent {
-        Lent {
-            rows: vec![Row::default(); rows],
-            tally: Tally::default(),
+        Lent::of(vec![Row::default(); rows], Tally::default())
+    }
+}
+
+/// The lent bytes of written bits: those of a set of addresses, or some of another length, which are none.
+#[derive(Clone, Debug, PartialEq)]
+pub enum Bits {
+    Of(Written),
+    Other(Vec<u8>),
+}
+
+impl Bits {
+    pub fn lent(bytes: &[u8]) -> Bits {
+        match Written::lent(bytes) {
+            Some(written) => Bits::Of(written),
+            None => Bits::Other(bytes.to_vec()),
+        }
+    }
+
+    pub fn bytes(&self) -> Vec<u8> {
+        match self {
+            Bits::Of(written) => written.bytes(),
+            Bits::Other(bytes) => bytes.clone(),
+        }
+    }
+
+    /// The written addresses, if the bytes are as many as there have to be.
+    pub fn written(&self) -> Option<&Written> {
+        match self {
+            Bits::Of(written) => Some(written),
+            Bits::Other(_) => None,
+        }
+    }
+
+    fn written_mut(&mut self) -> Option<&mut Written> {
+        match self {
+            Bits::Of(written) => Some(written),
+            Bits::Other(_) => None,
         }
     }
 }
@@ -87,9 +132,11 @@ pub fn oracle_event(event: Event) -> oracle::Event {
         name,
         right,
         cap_kind,
+        fresh,
         ..
     } = event;
-    oracle::Event::from_fields(kind, written, name, span_of(event), right, cap_kind.into())
+    let (cap_kind, fresh) = (cap_kind.into(), fresh.into());
+    oracle::Event::from_fields(kind, written, name, span_of(event), right, cap_kind, fresh)
 }
 
 /// What words ask for: an event, or names to drop together.
@@ -123,6 +170,7 @@ pub fn asked<'a>(words: &Words, names: &'a [u32]) -> Asked<'a> {
         span,
         right,
         words.cap_kind,
+        words.fresh,
     ))
 }
 
@@ -146,9 +194,10 @@ pub fn same_answer(expected: u64, found: u64) -> Agreed {
     same("answer (number, value)", parts(expected), parts(found))
 }
 
-/// The table and tally that a call left.
+/// The table, written bits and tally that a call left.
 pub struct Found {
     table: Vec<Cap>,
+    written: Vec<u8>,
     tally: interface::Tally,
 }
 
@@ -157,6 +206,7 @@ impl Found {
     pub fn lent(&self) -> Lent {
         Lent {
             rows: self.table.iter().map(row_of).collect(),
+            bits: Bits::lent(&self.written),
             tally: oracle_tally(self.tally),
         }
     }
@@ -167,7 +217,18 @@ fn same_lent(expected: &Lent, found: &Found) -> Agreed {
     for (at, (row, cap)) in expected.rows.iter().zip(&found.table).enumerate() {
         same(&format!("row {at}"), cap_of(row), *cap)?;
     }
+    same_bits(&expected.bits.bytes(), &found.written)?;
     same("tally", interface_tally(expected.tally), found.tally)
+}
+
+fn same_bits(expected: &[u8], found: &[u8]) -> Agreed {
+    if expected == found {
+        return Ok(());
+    }
+    let differs = |at: &usize| expected[*at] != found[*at];
+    let at = (0..expected.len()).find(differs).unwrap_or(expected.len());
+    let [expected, found] = [expected[at], found[at]];
+    same(&format!("written bits, byte {at}"), expected, found)
 }
 
 /// A row that stands after the lent ones and is not the call's to write.
@@ -179,6 +240,7 @@ const GUARD_ROW: Cap = Cap {
     right: 4,
     depth: 5,
     kind: 6,
+    fresh: 7,
 };
 
 pub fn cap_of(row: &Row) -> Cap {
@@ -190,6 +252,7 @@ pub fn cap_of(row: &Row) -> Cap {
         right: row.right,
         depth: row.depth,
         kind: row.kind,
+        fresh: row.fresh,
     }
 }
 
@@ -202,6 +265,7 @@ fn row_of(cap: &Cap) -> Row {
         right: cap.right,
         depth: cap.depth,
         kind: cap.kind,
+        fresh: cap.fresh,
     }
 }
 
@@ -230,27 +294,42 @@ fn oracle_tally(tally: interface::Tally) -> Tally {
 }
 
 /// Calls with a copy of what is lent; gives the answer and the copy as the call left it.
-pub fn lend(
-    lent: &Lent,
-    call: impl FnOnce(&mut [Cap], &mut interface::Tally) -> u64,
-) -> Result<(u64, Found), String> {
+pub fn lend(lent: &Lent, call: impl FnOnce(Memory) -> u64) -> Result<(u64, Found), String> {
     let mut table: Vec<Cap> = lent.rows.iter().map(cap_of).collect();
     table.push(GUARD_ROW);
+    let mut written = lent.bits.bytes();
+    let bytes = written.len();
+    written.extend([GUARD_BYTE; GUARD_BYTES]);
     let mut tally = interface_tally(lent.tally);
-    let answer = call(&mut table[..lent.rows.len()], &mut tally);
+    let answer = call(Memory {
+        table: &mut table[..lent.rows.len()],
+        written: &mut written[..bytes],
+        tally: &mut tally,
+    });
     same("the row after the table", Some(GUARD_ROW), table.pop())?;
-    Ok((answer, Found { table, tally }))
+    let behind = written.split_off(bytes);
+    same(
+        "the bytes after the bits",
+        vec![GUARD_BYTE; GUARD_BYTES],
+        behind,
+    )?;
+    let found = Found {
+        table,
+        written,
+        tally,
+    };
+    Ok((answer, found))
 }
 
 /// The answers to events, names dropped together among them.
 static MET: MetAnswers = Met::none();
 
-/// The refusal that only a writer gives.
-pub const BUFFER_TOO_SHORT: usize = 11;
+/// The refusals that no event gets: that of a writer, and those of the text of a sheet.
+pub const OF_TEXTS: [usize; 3] = [11, 14, 15];
 
 /// Whether events have met every answer that an event can meet, and how often.
 pub fn every_answer_met() -> Checked {
-    MET.every_answer_but(&[BUFFER_TOO_SHORT])
+    MET.every_answer_but(&OF_TEXTS)
 }
 
 /// Sorts of creates, for what they meet.
@@ -296,8 +375,18 @@ pub fn oracle_apply(lent: &mut Lent, event: Event) -> Result<u32, Refused> {
 
 /// The same by a sheet.
 pub fn oracle_apply_by(by: By, lent: &mut Lent, event: Event) -> Result<u32, Refused> {
-    let event = oracle_event(event);
-    oracle::apply_by(sheet_of(by), &mut lent.rows, &mut lent.tally, event)
+    oracle_take(by, lent, oracle_event(event))
+}
+
+fn oracle_take(by: By, lent: &mut Lent, event: oracle::Event) -> Result<u32, Refused> {
+    let written = lent.bits.written_mut();
+    oracle::apply_by(
+        sheet_of(by),
+        &mut lent.rows,
+        written,
+        &mut lent.tally,
+        event,
+    )
 }
 
 /// One event on what is lent, which is then as the event leaves it.
@@ -307,9 +396,9 @@ pub fn apply(subject: Subject, lent: &mut Lent, event: Event) -> Result<u64, Str
 
 /// The same by a sheet.
 pub fn apply_by(subject: Subject, by: By, lent: &mut Lent, event: Event) -> Result<u64, String> {
-    let (answer, found) = lend(lent, |table, tally| match by {
-        None => subject.apply(table, tally, event),
-        Some(sheet) => subject.apply_by(&sheet.bytes, table, tally, event),
+    let (answer, found) = lend(lent, |memory| match by {
+        None => subject.apply(memory, event),
+        Some(sheet) => subject.apply_by(&sheet.bytes, memory, event),
     })?;
     let before = lent.clone();
     let verdict = oracle_apply_by(by, lent, event);
@@ -322,6 +411,7 @@ pub fn apply_by(subject: Subject, by: By, lent: &mut Lent, event: Event) -> Resu
         }
         Some(sheet) => sheets::count(sheet, &before, lent, event, verdict),
     }
+    written::count(&before, event, verdict);
     MET.count_answer(verdict);
     same_answer(packed(verdict), answer)?;
     same_lent(lent, &found)?;
@@ -339,9 +429,7 @@ pub fn apply_each(subject: Subject, mut lent: Lent, events: &[Event]) -> Agreed 
 /// What words ask for, by the oracle alone.
 fn oracle_ask(by: By, lent: &mut Lent, words: &Words, names: &[u32]) -> Result<u32, Refused> {
     match asked(words, names) {
-        Asked::Event(event) => {
-            oracle::apply_by(sheet_of(by), &mut lent.rows, &mut lent.tally, event)
-        }
+        Asked::Event(event) => oracle_take(by, lent, event),
         Asked::Names(names) => oracle_drop_all(lent, names),
     }
 }
@@ -364,8 +452,8 @@ pub fn apply_words_by(
     words: &Words,
     names: &[u32],
 ) -> Result<u64, String> {
-    let (answer, found) = lend(lent, |table, tally| {
-        subject.apply_words_by(bytes_of(by), table, tally, words, names)
+    let (answer, found) = lend(lent, |memory| {
+        subject.apply_words_by(bytes_of(by), memory, words, names)
     })?;
     let verdict = oracle_ask(by, lent, words, names);
     MET.count_answer(verdict);
@@ -401,9 +489,9 @@ pub fn apply_all_by(
     let untouched = |at: usize| [UNTOUCHED ^ at as u32, !(at as u32)];
     let mut answers: Vec<AnswerWords> = (0..room + GUARD_ANSWERS).map(untouched).collect();
     let mut expected = answers.clone();
-    let (taken, found) = lend(lent, |table, tally| {
+    let (taken, found) = lend(lent, |memory| {
         let answers = &mut answers[..room];
-        subject.apply_all_by(bytes_of(by), table, tally, events, names, answers) as u64
+        subject.apply_all_by(bytes_of(by), memory, events, names, answers) as u64
     })?;
     let count = events.len().min(room);
     for (words, answer) in events.iter().zip(&mut expected[..room]) {
@@ -425,18 +513,22 @@ pub fn apply_all_by(
 
 /// Checks what is lent; on failure gives few rows that still fail.
 pub fn check_rows(lent: &Lent, check: impl Fn(Lent) -> Agreed) -> Agreed {
-    let tally = lent.tally;
     let with_rows = |rows: &[Row]| {
-        let rows = rows.to_vec();
-        check(Lent { rows, tally })
+        check(Lent {
+            rows: rows.to_vec(),
+            ..lent.clone()
+        })
     };
-    check_few(&lent.rows, with_rows)
-        .map_err(|(why, rows)| format!("{why}\n  rows {rows:?}\n  tally {tally:?}"))
+    check_few(&lent.rows, with_rows).map_err(|(why, rows)| {
+        let Lent { bits, tally, .. } = lent;
+        format!("{why}\n  rows {rows:?}\n  bits {bits:?}\n  tally {tally:?}")
+    })
 }
 
 /// Names dropped together by the oracle alone.
 pub fn oracle_drop_all(lent: &mut Lent, names: &[u32]) -> Result<u32, Refused> {
-    oracle::drop_all(&mut lent.rows, &mut lent.tally, names)
+    let written = lent.bits.written();
+    oracle::drop_all(&mut lent.rows, written, &mut lent.tally, names)
 }
 
 /// Names dropped together on what is lent, which is then as the call leaves it.
@@ -451,9 +543,9 @@ pub fn drop_all_by(
     lent: &mut Lent,
     names: &[u32],
 ) -> Result<u64, String> {
-    let (answer, found) = lend(lent, |table, tally| match by {
-        None => subject.drop_all(table, tally, names),
-        Some(sheet) => subject.drop_all_by(&sheet.bytes, table, tally, names),
+    let (answer, found) = lend(lent, |memory| match by {
+        None => subject.drop_all(memory, names),
+        Some(sheet) => subject.drop_all_by(&sheet.bytes, memory, names),
     })?;
     let verdict = oracle_drop_all(lent, names);
     MET.count_answer(verdict);
@@ -469,10 +561,9 @@ pub fn run(subject: Subject, lent: &mut Lent, text: &[u8]) -> Result<u64, String
 
 /// The same by a sheet.
 pub fn run_by(subject: Subject, by: By, lent: &mut Lent, text: &[u8]) -> Result<u64, String> {
-    let (answer, found) = lend(lent, |table, tally| {
-        subject.run_by(bytes_of(by), table, tally, text)
-    })?;
-    let verdict = oracle::run_by(sheet_of(by), &mut lent.rows, &mut lent.tally, text);
+    let (answer, found) = lend(lent, |memory| subject.run_by(bytes_of(by), memory, text))?;
+    let written = lent.bits.written_mut();
+    let verdict = oracle::run_by(sheet_of(by), &mut lent.rows, written, &mut lent.tally, text);
     same_answer(packed_run(verdict), answer)?;
     same_lent(lent, &found)?;
     Ok(answer)
@@ -481,10 +572,20 @@ pub fn run_by(subject: Subject, by: By, lent: &mut Lent, text: &[u8]) -> Result<
 /// What words and names hold before a line is read into them, and after a refusal.
 const UNTOUCHED: u32 = 0xA5A5_A5A5;
 
-const UNTOUCHED_WORDS: Words = words_of([UNTOUCHED; 8]);
+const UNTOUCHED_WORDS: Words = words_of([UNTOUCHED; 9]);
 
-const fn words_of(words: [u32; 8]) -> Words {
-    let [kind, name, start, length, right, named, written, cap_kind] = words;
+const fn words_of(words: [u32; 9]) -> Words {
+    let [
+        kind,
+        name,
+        start,
+        length,
+        right,
+        named,
+        written,
+        cap_kind,
+        fresh,
+    ] = words;
     Words {
         kind,
         name,
@@ -494,6 +595,7 @@ const fn words_of(words: [u32; 8]) -> Words {
         named,
         written,
         cap_kind,
+        fresh,
     }
 }
 
@@ -534,7 +636,7 @@ fn expected_line(line: &[u8], named: u32) -> Option<(Words, Vec<u32>)> {
     }
     let names = oracle::read_drop_line(line)?;
     let count = names.len() as u32;
-    Some((words_of([DROP_ALL, 0, 0, count, 0, 0, 0, 0]), names))
+    Some((words_of([DROP_ALL, 0, 0, count, 0, 0, 0, 0, 0]), names))
 }
 
 /// The line of what words ask for.
@@ -583,9 +685,10 @@ pub fn check(subject: Subject, input: &[u8]) -> Agreed {
     )
 }
 
+/// A listing that is read leaves the bits, which the call is not lent.
 pub fn read_listing(subject: Subject, text: &[u8], lent: &Lent) -> Agreed {
-    let (answer, found) = lend(lent, |table, tally| {
-        subject.read_listing(text, table, tally)
+    let (answer, found) = lend(lent, |memory| {
+        subject.read_listing(text, memory.table, memory.tally)
     })?;
     match oracle::read_listing(text, lent.rows.len()) {
         Ok((issued, rows)) => {
@@ -594,7 +697,8 @@ pub fn read_listing(subject: Subject, text: &[u8], lent: &Lent) -> Agreed {
                 ..lent.tally
             };
             same_answer(packed(Ok(0)), answer)?;
-            same_lent(&Lent { rows, tally }, &found)
+            let bits = lent.bits.clone();
+            same_lent(&Lent { rows, bits, tally }, &found)
         }
         Err(number) => {
             same_answer(packed(Err(number)), answer)?;
@@ -636,8 +740,11 @@ pub fn write_sheet_into(subject: Subject, sheet: &[u8], size: usize) -> Agreed {
     into_buffer(size, expected, |out| subject.write_sheet(sheet, out))
 }
 
-/// Bytes that stand after an output buffer and are not the call's to write.
+/// Bytes that stand after an output buffer, or after lent bits, and are not the call's to write.
 const GUARD_BYTES: usize = 32;
+
+/// What those after lent bits are.
+const GUARD_BYTE: u8 = 0x5A;
 
 /// Writes into output buffers that are too short, just long enough and longer.
 fn into_buffers(

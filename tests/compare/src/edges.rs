@@ -79,15 +79,15 @@ fn for_pairs(places: &[u64], check: impl Fn(Span, Span) -> Checked) -> Checked {
     Ok(cases)
 }
 
-fn event(kind: u8, name: u32, span: Span) -> Event {
+/// An event over a span, with both rights where it gives one.
+pub fn event(kind: u8, name: u32, span: Span) -> Event {
     Event {
         kind,
-        written: None,
         name,
         start: span.start,
         length: span.length,
         right: 2,
-        cap_kind: 0,
+        ..Event::default()
     }
 }
 

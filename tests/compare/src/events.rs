@@ -144,7 +144,7 @@ fn noise(random: &mut Random) -> Lent {
     let rows = rows.collect();
     let mut tally = generate::tally(random);
     tally.issued = random.number();
-    Lent { rows, tally }
+    Lent::of(rows, tally)
 }
 
 /// A root and a chain of borrows below it, named from a number on.
@@ -161,6 +161,7 @@ pub fn chain(first_name: u32, rows: usize) -> Vec<Row> {
         right: 2,
         depth,
         kind: 0,
+        fresh: 0,
     };
     (1..=rows as u32).map(row).collect()
 }
@@ -197,8 +198,7 @@ fn at_limits(random: &mut Random, subject: Subject, spelling: Spelling) -> Check
             rows.extend((0..spare).map(|_| Row::default()));
             let mut tally = generate::tally(random);
             tally.issued = issued;
-            let rows = rows.clone();
-            let lent = Lent { rows, tally };
+            let lent = Lent::of(rows.clone(), tally);
             for _ in 0..2 {
                 cases += on_table(random, subject, &lent, 6, spelling)?;
             }
@@ -271,6 +271,7 @@ fn create_as_write(subject: Subject, lent: &Lent, create: Event) -> Checked {
         name,
         start: create.start,
         length: create.length,
+        fresh: create.fresh.into(),
         ..chain(1, 1)[0]
     };
     let kind = 4;

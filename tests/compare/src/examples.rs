@@ -1,4 +1,4 @@
-//! Every trace and example of document 01 and of cards 1, 2, 4 and 6, with the answers written out.
+//! Every trace and example of document 01 and of cards 1, 2, 4, 6 and 9, with the answers written out.
 
 use interface::{Event, Words};
 use oracle::{MAX_DEPTH, MAX_GROUP, MAX_NAME, MAX_ROWS, Spelling, Tally, traces};
@@ -386,7 +386,7 @@ pub fn groups(report: &mut Report, subject: Subject) {
     report.group("capcheck on reused memory", |_| {
         capcheck(subject, REUSED_INPUT, REUSED_OUTPUT)
     });
-    for (name, steps, listing) in traces::KINDS {
+    for (name, steps, listing) in traces::KINDS.into_iter().chain(traces::MARKS) {
         report.group(name, |_| in_sizes(subject, KINDS_ROOM, steps, listing));
     }
     report.group("capcheck on raw capabilities and cells", |_| {
@@ -511,6 +511,7 @@ fn read(subject: Subject, line: &str) -> Result<Event, String> {
         length: words.length,
         right: words.right as u8,
         cap_kind: words.cap_kind as u8,
+        fresh: words.fresh as u8,
     })
 }
 
@@ -658,9 +659,10 @@ fn named_traces(subject: Subject) -> Checked {
     let in_room = TRACES.map(|(_, steps, listing)| (16, steps, listing));
     let in_two = REFUSALS.map(|(_, steps, listing)| (2, steps, listing));
     let reused = REUSED.map(|(_, sizes, steps, listing)| (sizes[0], steps, listing));
-    let of_kinds = traces::KINDS.map(|(_, steps, listing)| (KINDS_ROOM[0], steps, listing));
+    let of_cards = traces::KINDS.into_iter().chain(traces::MARKS);
+    let of_cards = of_cards.map(|(_, steps, listing)| (KINDS_ROOM[0], steps, listing));
     let traces = in_room.into_iter().chain(in_two).chain(reused);
-    let traces = traces.chain(of_kinds);
+    let traces = traces.chain(of_cards);
     let traces = traces.map(|(rows, steps, listing)| Trace {
         rows,
         issued: 0,

@@ -1,9 +1,12 @@
-//! Random tables, tallies, events and texts.
+//! Random tables, written bits, tallies, events and texts.
 
 use interface::Event;
-use oracle::{HEADER, MAX_DEPTH, MAX_GROUP, MAX_NAME, Row, Span, Spelling, Tally};
+use oracle::{
+    FRESH, HEADER, MAX_DEPTH, MAX_GROUP, MAX_NAME, Row, Span, Spelling, Tally, WRITABLE,
+    WRITTEN_BYTES, Written,
+};
 
-use crate::agree::{self, Lent, oracle_event};
+use crate::agree::{self, Bits, Lent, oracle_event};
 use crate::random::Random;
 
 /// The shape of a table in order.
@@ -41,6 +44,7 @@ pub fn area(random: &mut Random) -> Span {
         span(0, 12),
         span(0, 64),
         span(4_096, 40),
+        span(WRITABLE - 16, 24),
         span(u32::MAX - 15, 16),
         span(1, u32::MAX),
     ])
@@ -106,7 +110,46 @@ pub fn tally(random: &mut Random) -> Tally {
     }
 }
 
-/// A table in order, with an issued number that fits it.
+/// Written bits: none, all of an area's, or any pieces of it, and rarely any bits at all.
+pub fn bits(random: &mut Random, area: Span) -> Bits {
+    if random.one_in(200) {
+        let bytes: Vec<u8> = (0..WRITTEN_BYTES).map(|_| random.next() as u8).collect();
+        return Bits::lent(&bytes);
+    }
+    let mut written = Written::default();
+    match random.below(4) {
+        0 => {}
+        1 => written.add(area),
+        _ => {
+            for _ in 0..random.between(1, 5) {
+                let span = inside(random, area);
+                match random.one_in(3) {
+                    true => written.remove(span),
+                    false => written.add(span),
+                }
+            }
+        }
+    }
+    Bits::Of(written)
+}
+
+/// Numbers of bytes that are not lent rightly.
+pub const OTHER_LENGTHS: [usize; 6] = [
+    0,
+    1,
+    WRITTEN_BYTES - 1,
+    WRITTEN_BYTES + 1,
+    2 * WRITTEN_BYTES,
+    65_536,
+];
+
+/// Bytes of another length than that of written bits.
+pub fn other_bits(random: &mut Random) -> Bits {
+    let length = random.pick(&OTHER_LENGTHS);
+    Bits::lent(&vec![random.pick(&[0, 1, 255]); length])
+}
+
+/// A table in order, with an issued number that fits it and bits of the same area.
 pub fn ordered(random: &mut Random, shape: &Shape) -> Lent {
     let area = area(random);
     let widest_gap = random.between(1, 4) as u32;
@@ -128,7 +171,8 @@ pub fn ordered(random: &mut Random, shape: &Shape) -> Lent {
         issued: issued(random, last_name),
         ..tally(random)
     };
-    Lent { rows, tally }
+    let bits = bits(random, area);
+    Lent { rows, bits, tally }
 }
 
 /// A table in order with one tree, whose capabilities have one span and most of them a kind: whatever
@@ -173,7 +217,14 @@ fn row(random: &mut Random, name: u32, parent: Option<Row>, area: Span) -> Row {
         right: if random.one_in(10) { 1 } else { highest },
         depth: parent.map_or(0, |parent| parent.depth) + 1,
         kind: parent.map_or(0, |_| random.pick(&KINDS)),
+        fresh: parent.map_or_else(|| root_mark(random, span), |parent| parent.fresh),
     }
+}
+
+/// The mark of a root: a third of those that may have one.
+fn root_mark(random: &mut Random, span: Span) -> u32 {
+    let may_be_marked = span.end() <= u64::from(WRITABLE);
+    u32::from(may_be_marked && random.one_in(3)) * FRESH
 }
 
 /// The kinds of what is borrowed: raw ones and cells are a third.
@@ -181,6 +232,9 @@ const KINDS: [u32; 6] = [0, 0, 0, 0, 1, 2];
 
 /// Numbers that are no kind, of which some end in the byte of one.
 pub const NO_KINDS: [u32; 10] = [3, 4, 128, 255, 256, 257, 258, 65_537, 1 << 31, u32::MAX];
+
+/// Numbers that are no mark, of which some end in the byte of one.
+pub const NO_MARKS: [u32; 10] = [2, 3, 128, 255, 256, 257, 65_536, 65_537, 1 << 31, u32::MAX];
 
 fn issued(random: &mut Random, last_name: u32) -> u32 {
     let highest = match random.below(4) {
@@ -201,10 +255,12 @@ pub fn noise_row(random: &mut Random) -> Row {
         right: random.number(),
         depth: random.number(),
         kind: random.number(),
+        fresh: random.number(),
     }
 }
 
-/// Changes something of a lent table or of its issued number. It may still be in order then.
+/// Changes something of a lent table, of its issued number or of how many bits are lent. It may still be in
+/// order then.
 pub fn disturb(random: &mut Random, lent: &mut Lent) {
     if lent.rows.is_empty() || random.one_in(8) {
         let last_name = oracle::live_rows(&lent.rows)
@@ -221,7 +277,7 @@ pub fn disturb(random: &mut Random, lent: &mut Lent) {
         return;
     }
     let (one, other) = (random.index(lent.rows.len()), random.index(lent.rows.len()));
-    match random.below(14) {
+    match random.below(20) {
         0 => lent.rows.swap(one, other),
         1 => lent.rows[one] = lent.rows[other],
         2 => lent.rows[one] = Row::default(),
@@ -231,18 +287,45 @@ pub fn disturb(random: &mut Random, lent: &mut Lent) {
             .resize(random.between(1_024, 1_026), Row::default()),
         5 => lent.rows[one].kind = random.pick(&NO_KINDS),
         6 => lent.rows[one].kind = random.pick(&[1, 2]),
+        7 => lent.rows[one].fresh = random.pick(&NO_MARKS),
+        8 => lent.rows[one].fresh ^= FRESH,
+        9 | 10 => mark_tree(lent, one),
+        11 => lent.bits = other_bits(random),
         _ => disturb_field(random, &mut lent.rows[one]),
     }
 }
 
+/// Gives a row's tree the mark, or takes it: in order unless a span ends too high.
+fn mark_tree(lent: &mut Lent, at: usize) {
+    let rows = &mut lent.rows;
+    let root_of = |rows: &[Row], at: usize| {
+        let mut root = at;
+        // Rows that are not in order might go round and round.
+        for _ in 0..rows.len() {
+            let parent = rows[root].parent;
+            let above = rows
+                .iter()
+                .position(|row| row.name == parent && parent != 0);
+            root = above.unwrap_or(root);
+        }
+        root
+    };
+    let root = root_of(rows, at);
+    let tree: Vec<usize> = (0..rows.len())
+        .filter(|at| root_of(rows, *at) == root)
+        .collect();
+    tree.into_iter().for_each(|at| rows[at].fresh ^= FRESH);
+}
+
 fn disturb_field(random: &mut Random, row: &mut Row) {
-    let field = match random.below(7) {
+    let field = match random.below(8) {
         0 => &mut row.name,
         1 => &mut row.parent,
         2 => &mut row.start,
         3 => &mut row.length,
         4 => &mut row.right,
         5 => &mut row.kind,
+        6 => &mut row.fresh,
         _ => &mut row.depth,
     };
     *field = near(random, *field);
@@ -307,6 +390,7 @@ fn event(random: &mut Random, lent: &Lent, area: Span, spelling: Spelling) -> Ev
             false => random.pick(&[1, 2, 2, 2]),
         },
         cap_kind: cap_kind(random, kind),
+        fresh: mark(random, kind),
     }
 }
 
@@ -315,6 +399,14 @@ pub fn cap_kind(random: &mut Random, kind: u8) -> u8 {
     match kind != 2 || random.one_in(25) {
         true => random.pick(&[0, 1, 2, 3, 4, 128, 254, 255]),
         false => random.pick(&KINDS) as u8,
+    }
+}
+
+/// The mark that an event of this sort has for what it creates, and anything where it creates nothing.
+pub fn mark(random: &mut Random, kind: u8) -> u8 {
+    match kind != 1 || random.one_in(25) {
+        true => random.pick(&[0, 1, 2, 3, 128, 254, 255]),
+        false => random.pick(&[0, 0, 1]),
     }
 }
 
@@ -360,7 +452,7 @@ pub fn events(random: &mut Random, mut lent: Lent, count: usize, spelling: Spell
     for _ in 0..count {
         let mut event = self::event(random, &lent, area, spelling);
         let mut tries = random.below(6);
-        while tries > 0 && !is_allowed(&lent, event) {
+        while tries > 0 && !is_wanted(random, &lent, event) {
             event = self::event(random, &lent, area, spelling);
             tries -= 1;
         }
@@ -370,8 +462,14 @@ pub fn events(random: &mut Random, mut lent: Lent, count: usize, spelling: Spell
     events
 }
 
-fn is_allowed(lent: &Lent, event: Event) -> bool {
-    agree::oracle_apply(&mut lent.clone(), event).is_ok()
+/// Whether an event is allowed. Few reads find something that is not written, so half of these are wanted
+/// too.
+fn is_wanted(random: &mut Random, lent: &Lent, event: Event) -> bool {
+    match agree::oracle_apply(&mut lent.clone(), event) {
+        Ok(_) => true,
+        Err(16) => random.one_in(2),
+        Err(_) => false,
+    }
 }
 
 /// So many of the items, in their order; all of them where they are fewer.
@@ -532,10 +630,19 @@ pub fn trace(events: &[Event], spelling: Spelling) -> Vec<u8> {
 }
 
 /// Bytes that mean something somewhere in a text, and some that mean nothing.
-const BYTES: &[u8] = b"0123456789abcdeloprstuw ()\n\t\r-+.,\0\x7f\x80\xffRWA";
+const BYTES: &[u8] = b"0123456789abcdefhloprstuw ()\n\t\r-+.,\0\x7f\x80\xffRWA";
 
-/// Words that are kinds somewhere, and some that are none anywhere.
-const WORDS: [&[u8]; 6] = [b" raw", b" cell", b" raw", b" cell", b" reference", b" rw"];
+/// Words that are kinds or marks somewhere, and some that are none anywhere.
+const WORDS: [&[u8]; 8] = [
+    b" raw",
+    b" cell",
+    b" raw",
+    b" cell",
+    b" fresh",
+    b" fresh",
+    b" reference",
+    b" rw",
+];
 
 /// Cuts, inserts or changes bytes.
 pub fn damage(random: &mut Random, text: &mut Vec<u8>) {
@@ -590,6 +697,11 @@ fn put_forms(text: &mut String, rows: &[Row], names: &[u32], parents: &[u32], pa
             3 => " reference",
             _ => " raw cell",
         };
+        let mark = match row.fresh {
+            0 => "",
+            1 => " fresh",
+            _ => " fresh fresh",
+        };
         let opening = if parent == 0 { "(" } else { " (" };
         let Row {
             name,
@@ -597,7 +709,7 @@ fn put_forms(text: &mut String, rows: &[Row], names: &[u32], parents: &[u32], pa
             length,
             ..
         } = row;
-        *text += &format!("{opening}{name} {start} {length} {right}{kind}");
+        *text += &format!("{opening}{name} {start} {length} {right}{kind}{mark}");
         put_forms(text, rows, names, parents, names[at]);
         *text += if parent == 0 { ")\n" } else { ")" };
     }

@@ -120,7 +120,7 @@ static MET: MetAnswers = Met::none();
 /// is so long that the names are spent.
 pub fn every_answer_met() -> Checked {
     let names_spent = 9;
-    MET.every_answer_but(&[names_spent, agree::BUFFER_TOO_SHORT])
+    MET.every_answer_but(&[&agree::OF_TEXTS[..], &[names_spent]].concat())
 }
 
 /// Checks a list; on failure gives a short list that still fails.
@@ -170,6 +170,8 @@ fn follow(subject: Subject, by: By, mut lent: Lent, requests: &[Request]) -> Agr
         if history.table() != lent.rows || history.count() != lent.tally.issued {
             return Err(format!("history: another table, {:?}", history.table()));
         }
+        let written = history.written();
+        same("history: written", Some(&written), lent.bits.written())?;
         lost.check(&lent)?;
     }
     let last_spans = match by {
@@ -245,6 +247,7 @@ fn demand_three(
                     length: span.length,
                     right: 0,
                     cap_kind: u8::MAX,
+                    fresh: u8::MAX,
                 };
                 let answer = agree::apply_by(subject, by, &mut lent.clone(), event)?;
                 if (answer >> 32 == 0) != expected {

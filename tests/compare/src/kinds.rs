@@ -362,6 +362,7 @@ fn longest(subject: Subject) -> Checked {
         length: u32::MAX,
         right: 2,
         cap_kind: CELL as u8,
+        fresh: 0,
     };
     let written = Some(u32::MAX);
     let lines = [
@@ -396,6 +397,7 @@ fn longest_table() -> Lent {
         right: 2,
         depth: if name == first { 1 } else { 2 },
         kind: if name == first { REFERENCE } else { CELL },
+        fresh: 0,
     };
     let mut lent = Lent::empty(0);
     lent.rows = (first..=last).map(row).collect();

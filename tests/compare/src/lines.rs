@@ -9,8 +9,9 @@ use crate::random::Random;
 use crate::report::{Checked, Report, check_few};
 
 /// One line of each kind and some that are nearly lines.
-const SAMPLES: [&str; 14] = [
+const SAMPLES: [&str; 15] = [
     "(create 0 64 rw)\n",
+    "(create 8 8 ro fresh)\n",
     "(create 4294967295 1 ro)\n",
     "(borrow 1 10 8 rw)\n",
     "(borrow 1 0 8 rw raw)\n",
@@ -27,8 +28,9 @@ const SAMPLES: [&str; 14] = [
 ];
 
 /// The same for the named spelling, and lines of the plain one.
-const NAMED_SAMPLES: [&str; 16] = [
+const NAMED_SAMPLES: [&str; 17] = [
     "(create 1 0 64 rw)\n",
+    "(create 1 0 8 rw fresh)\n",
     "(create 4294967295 4294967295 1 ro)\n",
     "(create 0 0 0 rw)\n",
     "(borrow 2 1 10 8 rw)\n",
@@ -115,6 +117,7 @@ fn random_event(random: &mut Random, spelling: Spelling) -> Event {
         false => random.between(1, 5) as u8,
     };
     let cap_kind = generate::cap_kind(random, kind);
+    let fresh = generate::mark(random, kind);
     Event {
         kind,
         name: random.number(),
@@ -129,6 +132,7 @@ fn random_event(random: &mut Random, spelling: Spelling) -> Event {
             Spelling::Named => Some(random.number()),
         },
         cap_kind,
+        fresh,
     }
 }
 

@@ -8,13 +8,14 @@ use crate::lines::{check_text, each_byte};
 use crate::random::Random;
 use crate::report::{Checked, Report};
 
-const SAMPLES: [&str; 6] = [
+const SAMPLES: [&str; 7] = [
     "(issued 0)\n",
     "(issued 3)\n(1 0 64 rw (2 0 16 ro) (3 16 16 rw))\n",
     "(issued 12)\n(2 0 8 rw (5 0 8 ro (9 1 2 ro)))\n(10 4294967295 1 ro)\n",
     "(issued 1000000)\n(999999 0 1 rw)\n(1000000 0 1 ro)\n",
     "(issued 2)\n(2 0 8 rw (1 0 8 rw))\n",
     "(issued 4)\n(1 0 64 rw (2 0 8 rw raw (3 0 4 ro)) (4 8 8 ro cell))\n",
+    "(issued 3)\n(1 0 8 rw fresh (2 0 4 ro cell fresh))\n(3 8 8 ro)\n",
 ];
 
 pub fn groups(report: &mut Report, subject: Subject) {
@@ -91,8 +92,13 @@ fn lent_for(random: &mut Random, listed: &Lent) -> Lent {
     let old_row = generate::noise_row(random);
     let mut tally = generate::tally(random);
     tally.issued = random.number();
+    let bits = match random.one_in(4) {
+        true => generate::other_bits(random),
+        false => listed.bits.clone(),
+    };
     Lent {
         rows: vec![old_row; rows],
+        bits,
         tally,
     }
 }

@@ -24,6 +24,7 @@ mod spellings;
 mod strikes;
 mod thinned;
 mod together;
+mod written;
 
 use std::env;
 use std::process::ExitCode;
@@ -90,6 +91,7 @@ fn main() -> ExitCode {
     sheets::groups(&mut report, subject);
     sheet_texts::groups(&mut report, subject);
     thinned::groups(&mut report, subject);
+    written::groups(&mut report, subject);
     report.met("every answer of an event was met", agree::every_answer_met);
     report.met(
         "every answer of the history was met",

@@ -43,7 +43,7 @@ pub fn groups(report: &mut Report, subject: Subject) {
 }
 
 /// Sorts of calls with many events, for what they meet.
-const SORTS: [&str; 25] = [
+const SORTS: [&str; 30] = [
     "a refused event between allowed ones",
     "allowed, names within the list",
     "refused 5, names that an allowed event before it has in the list too",
@@ -60,6 +60,11 @@ const SORTS: [&str; 25] = [
     "allowed, what is borrowed has a kind",
     "refused 2, a kind of what is borrowed above a byte whose last byte is known",
     "allowed, another event with a number that is no kind",
+    "allowed, what is created is marked",
+    "refused 2, a mark above a byte whose last byte is known",
+    "allowed, another event with a number that is no mark",
+    "refused 16",
+    "bits of another length, two events or more",
     "allowed, a number above 1 says that a name is written",
     "refused 12, a number above a byte whose last byte is 0 says so",
     "every event allowed, two or more",
@@ -72,7 +77,7 @@ const SORTS: [&str; 25] = [
 ];
 
 /// How often calls were of each sort.
-static SORTS_MET: Met<25> = Met::none();
+static SORTS_MET: Met<30> = Met::none();
 
 /// Events, and the list in which their names stand.
 #[derive(Clone, Debug)]
@@ -110,7 +115,10 @@ fn count_sorts(lent: &Lent, many: &Many, room: usize, answers: &[AnswerWords]) {
     let last_byte = |number: u32| number > 255 && matches!(number & 255, 1..=6);
     let last_right = |number: u32| number > 255 && matches!(number & 255, 1 | 2);
     let last_kind = |number: u32| number > 255 && number & 255 <= 2;
+    let last_mark = |number: u32| number > 255 && number & 255 <= 1;
     let borrows = |words: &Words| words.kind == 2;
+    let creates = |words: &Words| words.kind == 1;
+    let is_known_right = |words: &Words| matches!(words.right, 1 | 2);
     SORTS_MET.count([
         between.is_some_and(|between| between.contains(&false)),
         any(&|words, refusal| refusal == 0 && inner(words)),
@@ -132,10 +140,16 @@ fn count_sorts(lent: &Lent, many: &Many, room: usize, answers: &[AnswerWords]) {
         any(&|words, refusal| refusal == 2 && makes(words) && last_right(words.right)),
         any(&|words, refusal| refusal == 0 && borrows(words) && words.cap_kind != 0),
         any(&|words, refusal| {
-            let is_known_right = matches!(words.right, 1 | 2);
-            refusal == 2 && borrows(words) && is_known_right && last_kind(words.cap_kind)
+            refusal == 2 && borrows(words) && is_known_right(words) && last_kind(words.cap_kind)
         }),
         any(&|words, refusal| refusal == 0 && !borrows(words) && words.cap_kind > 2),
+        any(&|words, refusal| refusal == 0 && creates(words) && words.fresh == 1),
+        any(&|words, refusal| {
+            refusal == 2 && creates(words) && is_known_right(words) && last_mark(words.fresh)
+        }),
+        any(&|words, refusal| refusal == 0 && !creates(words) && words.fresh > 1),
+        any(&|_, refusal| refusal == 16),
+        lent.bits.written().is_none() && answers.len() > 1,
         any(&|words, refusal| refusal == 0 && makes(words) && words.named > 1),
         any(&|words, refusal| refusal == 12 && words.named > 255 && words.named & 255 == 0),
         allowed.len() > 1 && !allowed.contains(&false),
@@ -211,6 +225,9 @@ fn words_of_event(random: &mut Random, event: interface::Event) -> Words {
     if words.kind != 2 && random.one_in(2) {
         words.cap_kind = random.number();
     }
+    if words.kind != 1 && random.one_in(2) {
+        words.fresh = random.number();
+    }
     match random.below(60) {
         0 | 1 => words.kind = random.pick(&KINDS),
         2 => words.kind |= 1 << random.between(8, 31),
@@ -219,6 +236,8 @@ fn words_of_event(random: &mut Random, event: interface::Event) -> Words {
         6..=9 => words.written = random.number(),
         10 | 11 => words.cap_kind = random.pick(&generate::NO_KINDS),
         12 => words.cap_kind |= 1 << random.between(8, 31),
+        13 | 14 => words.fresh = random.pick(&generate::NO_MARKS),
+        15 | 16 => words.fresh |= 1 << random.between(8, 31),
         _ => {}
     }
     words
@@ -244,6 +263,7 @@ fn place(random: &mut Random, list: &mut Vec<u32>, names: &[u32]) -> Words {
         named: random.pick(&[0, 1, u32::MAX]),
         written: random.number(),
         cap_kind: random.number(),
+        fresh: random.number(),
         ..Words::drop_all(start as u32, names.len() as u32)
     }
 }
@@ -452,7 +472,7 @@ fn edges(subject: Subject) -> Checked {
                         right,
                         named,
                         written,
-                        cap_kind: 0,
+                        ..Words::default()
                     };
                     check_words(subject, &lent, &words, &[1, 2])?;
                     cases += 1;

@@ -106,7 +106,7 @@ impl<const SORTS: usize> Met<SORTS> {
 }
 
 /// How often requests were allowed, and refused by each number.
-pub type MetAnswers = Met<14>;
+pub type MetAnswers = Met<17>;
 
 impl MetAnswers {
     pub fn count_answer(&self, answer: Result<u32, Refused>) {
@@ -120,7 +120,7 @@ impl MetAnswers {
         let as_due = |number: usize| (met[number] > 0) != never.contains(&number);
         match (0..met.len()).all(as_due) {
             true => Ok(met.iter().sum()),
-            false => Err(format!("allowed and refusals 1 to 13: {met:?}")),
+            false => Err(format!("allowed and refusals 1 to 16: {met:?}")),
         }
     }
 }

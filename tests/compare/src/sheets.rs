@@ -59,7 +59,7 @@ pub fn groups(report: &mut Report, subject: Subject) {
         SHEETS_MET.every_sort(&SHEETS, LEAST)
     });
     report.met("every answer to an event by a sheet was met", || {
-        ANSWERS_MET.every_answer_but(&[agree::BUFFER_TOO_SHORT])
+        ANSWERS_MET.every_answer_but(&agree::OF_TEXTS)
     });
 }
 
@@ -205,7 +205,7 @@ fn result(random: &mut Random, weights: [u64; 3]) -> u8 {
 /// The few addresses that requests are made over.
 pub fn area(random: &mut Random) -> Span {
     Span {
-        start: random.pick(&[0, 0, 4_096, u32::MAX - 7]),
+        start: random.pick(&[0, 0, 4_093, 65_532, u32::MAX - 7]),
         length: 8,
     }
 }
@@ -248,6 +248,7 @@ pub fn request(random: &mut Random, lent: &Lent, area: Span, spelling: Spelling)
         length: span.length,
         right: if random.one_in(8) { 1 } else { 2 },
         cap_kind: random.pick(&[REFERENCE, REFERENCE, RAW, CELL]) as u8,
+        fresh: random.pick(&[0, 0, 0, 1]),
     };
     Request::Single(match random.one_in(16) {
         true => spoilt(random, event, issued),
@@ -257,7 +258,7 @@ pub fn request(random: &mut Random, lent: &Lent, area: Span, spelling: Spelling)
 
 /// The event with something wrong, in most cases.
 fn spoilt(random: &mut Random, event: Event, issued: u32) -> Event {
-    match random.below(7) {
+    match random.below(8) {
         0 | 1 => Event {
             name: generate::stray_name(random, issued),
             ..event
@@ -276,6 +277,10 @@ fn spoilt(random: &mut Random, event: Event, issued: u32) -> Event {
         },
         5 => Event {
             cap_kind: random.pick(&[3, 4, 255]),
+            ..event
+        },
+        6 => Event {
+            fresh: random.pick(&[2, 3, 255]),
             ..event
         },
         _ => Event {

@@ -75,8 +75,11 @@ pub fn count(before: &Lent, after: &Lent, event: Event, verdict: Result<u32, Ref
     }
 }
 
-/// Counts a table that is in order but for its kinds.
+/// Counts a table that is in order but for its kinds, where the bits are in order too.
 fn count_disorder(lent: &Lent) {
+    if lent.bits.written().is_none() {
+        return;
+    }
     let any = |holds: fn(&Row) -> bool| lent.rows.iter().any(holds);
     let mut without = lent.rows.clone();
     without.iter_mut().for_each(|row| row.kind = REFERENCE);

@@ -132,10 +132,9 @@ impl Start<'_> {
         let (events, names) = sheets::words_of(requests);
         let sheet = agree::bytes_of(self.by);
         let mut answers = vec![[u32::MAX; 2]; requests.len()];
-        let (taken, found) = agree::lend(self.lent, |table, tally| {
-            let answers = &mut answers;
-            let call = self.subject;
-            call.apply_all_by(sheet, table, tally, &events, &names, answers) as u64
+        let (taken, found) = agree::lend(self.lent, |memory| {
+            let (call, answers) = (self.subject, &mut answers);
+            call.apply_all_by(sheet, memory, &events, &names, answers) as u64
         })?;
         same("events taken", requests.len() as u64, taken)?;
         let left = found.lent();
@@ -145,9 +144,8 @@ impl Start<'_> {
     /// A text that must be allowed, of so many lines, and leave what requests left.
     fn run(self, text: &[u8], lines: usize, left: &Lent) -> Agreed {
         let sheet = agree::bytes_of(self.by);
-        let (answer, found) = agree::lend(self.lent, |table, tally| {
-            self.subject.run_by(sheet, table, tally, text)
-        })?;
+        let (answer, found) =
+            agree::lend(self.lent, |memory| self.subject.run_by(sheet, memory, text))?;
         same_answer(lines as u64, answer)?;
         same("what a text leaves", left, &found.lent())?;
         if !self.is_checks_own() {
@@ -161,11 +159,12 @@ impl Start<'_> {
         same("what is printed", &expected[..], &out[..expected.len()])
     }
 
-    /// Whether `kz_check` begins on the same: no live row, no name issued, and card 6's sheet. It has all
-    /// the rows that a list may need, and prints no other count.
+    /// Whether `kz_check` begins on the same: no live row, nothing written, no name issued, and card 6's
+    /// sheet. It has all the rows that a list may need, and prints no other count.
     fn is_checks_own(self) -> bool {
         self.by.is_none()
             && self.lent.tally.issued == 0
+            && self.lent.bits == Lent::empty(0).bits
             && oracle::live_rows(&self.lent.rows).is_empty()
     }
 }
@@ -259,6 +258,7 @@ fn compare(
             rights += 1;
         }
     }
+    same("written bits", &whole.left.bits, &rest.left.bits)?;
     // With the read the count is one higher, but for its ceiling.
     let reads = rest.left.tally.reads.saturating_add(places.len() as u32);
     let tally = Tally {

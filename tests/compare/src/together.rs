@@ -188,8 +188,7 @@ fn with_gaps(random: &mut Random, rows: Vec<Row>) -> Lent {
     };
     let mut tally = generate::tally(random);
     tally.issued = rows.len() as u32 * 2 + 1;
-    let rows = rows.into_iter().map(doubled).collect();
-    Lent { rows, tally }
+    Lent::of(rows.into_iter().map(doubled).collect(), tally)
 }
 
 /// Names on tables in order. Refused lists are not counted.

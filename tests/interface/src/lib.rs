@@ -1,7 +1,9 @@
 //! The C interface as a trait, over the library or over the baseline, so that whatever tests or
 //! measures the one can test or measure the other.
 
-pub use baseline::{CELL, Cap, Event, MAX_GROUP, RAW, REFERENCE, SHEET_PLACES, Tally};
+pub use baseline::{
+    CELL, Cap, Event, FRESH, MAX_GROUP, RAW, REFERENCE, SHEET_PLACES, Tally, WRITTEN_BYTES,
+};
 pub use words::{AnswerWords, DROP_ALL, Words};
 
 #[cfg(library)]
@@ -13,6 +15,13 @@ mod library;
 mod plain;
 mod words;
 
+/// What a caller lends for events. Written bits are bytes of any number, of which but one is right.
+pub struct Memory<'a> {
+    pub table: &'a mut [Cap],
+    pub written: &'a mut [u8],
+    pub tally: &'a mut Tally,
+}
+
 /// The functions of the C interface, and below them the same in the shapes that a caller has at hand.
 /// Each but the two for many events answers the refusal's number times 2^32 plus a value. A sheet is its
 /// bytes, none of them for the default one.
@@ -20,27 +29,19 @@ pub trait Interface {
     fn name(&self) -> &'static str;
 
     /// `kz_abi_apply`: an event, or names dropped together that stand in the list.
-    fn apply_words_by(
-        &self,
-        sheet: &[u8],
-        table: &mut [Cap],
-        tally: &mut Tally,
-        words: &Words,
-        names: &[u32],
-    ) -> u64;
+    fn apply_words_by(&self, sheet: &[u8], memory: Memory, words: &Words, names: &[u32]) -> u64;
 
     /// `kz_abi_apply_all`: as many events as there are answers for, and how many were taken.
     fn apply_all_by(
         &self,
         sheet: &[u8],
-        table: &mut [Cap],
-        tally: &mut Tally,
+        memory: Memory,
         events: &[Words],
         names: &[u32],
         answers: &mut [AnswerWords],
     ) -> usize;
 
-    fn run_by(&self, sheet: &[u8], table: &mut [Cap], tally: &mut Tally, text: &[u8]) -> u64;
+    fn run_by(&self, sheet: &[u8], memory: Memory, text: &[u8]) -> u64;
 
     /// `kz_abi_write_event`: the line of what `apply_words` takes.
     fn write_words(&self, words: &Words, names: &[u32], out: &mut [u8]) -> u64;
@@ -65,58 +66,45 @@ pub trait Interface {
     fn check(&self, input: &[u8], out: &mut [u8]) -> u64;
 
     /// What `apply_words_by` takes, by the default sheet.
-    fn apply_words(
-        &self,
-        table: &mut [Cap],
-        tally: &mut Tally,
-        words: &Words,
-        names: &[u32],
-    ) -> u64 {
-        self.apply_words_by(&[], table, tally, words, names)
+    fn apply_words(&self, memory: Memory, words: &Words, names: &[u32]) -> u64 {
+        self.apply_words_by(&[], memory, words, names)
     }
 
     /// Many events by the default sheet.
     fn apply_all(
         &self,
-        table: &mut [Cap],
-        tally: &mut Tally,
+        memory: Memory,
         events: &[Words],
         names: &[u32],
         answers: &mut [AnswerWords],
     ) -> usize {
-        self.apply_all_by(&[], table, tally, events, names, answers)
+        self.apply_all_by(&[], memory, events, names, answers)
     }
 
     /// A run by the default sheet.
-    fn run(&self, table: &mut [Cap], tally: &mut Tally, text: &[u8]) -> u64 {
-        self.run_by(&[], table, tally, text)
+    fn run(&self, memory: Memory, text: &[u8]) -> u64 {
+        self.run_by(&[], memory, text)
     }
 
     /// One event by a sheet.
-    fn apply_by(&self, sheet: &[u8], table: &mut [Cap], tally: &mut Tally, event: Event) -> u64 {
-        self.apply_words_by(sheet, table, tally, &event.into(), &[])
+    fn apply_by(&self, sheet: &[u8], memory: Memory, event: Event) -> u64 {
+        self.apply_words_by(sheet, memory, &event.into(), &[])
     }
 
     /// One event by the default sheet.
-    fn apply(&self, table: &mut [Cap], tally: &mut Tally, event: Event) -> u64 {
-        self.apply_by(&[], table, tally, event)
+    fn apply(&self, memory: Memory, event: Event) -> u64 {
+        self.apply_by(&[], memory, event)
     }
 
     /// Names dropped together, with a sheet lent.
-    fn drop_all_by(
-        &self,
-        sheet: &[u8],
-        table: &mut [Cap],
-        tally: &mut Tally,
-        names: &[u32],
-    ) -> u64 {
+    fn drop_all_by(&self, sheet: &[u8], memory: Memory, names: &[u32]) -> u64 {
         let words = Words::drop_all(0, names.len() as u32);
-        self.apply_words_by(sheet, table, tally, &words, names)
+        self.apply_words_by(sheet, memory, &words, names)
     }
 
     /// Names dropped together.
-    fn drop_all(&self, table: &mut [Cap], tally: &mut Tally, names: &[u32]) -> u64 {
-        self.drop_all_by(&[], table, tally, names)
+    fn drop_all(&self, memory: Memory, names: &[u32]) -> u64 {
+        self.drop_all_by(&[], memory, names)
     }
 
     /// An event's line, in the named spelling where a name is written.

@@ -3,7 +3,7 @@
 
 use std::ptr;
 
-use crate::{AnswerWords, Cap, Interface, MAX_GROUP, SHEET_PLACES, Tally, Words, ffi};
+use crate::{AnswerWords, Cap, Interface, MAX_GROUP, Memory, SHEET_PLACES, Tally, Words, ffi};
 
 pub struct Library;
 
@@ -18,19 +18,14 @@ impl Interface for Library {
         "C library"
     }
 
-    fn apply_words_by(
-        &self,
-        sheet: &[u8],
-        table: &mut [Cap],
-        tally: &mut Tally,
-        words: &Words,
-        names: &[u32],
-    ) -> u64 {
+    fn apply_words_by(&self, sheet: &[u8], memory: Memory, words: &Words, names: &[u32]) -> u64 {
         unsafe {
             ffi::kz_abi_apply(
-                table.as_mut_ptr(),
-                table.len(),
-                tally,
+                memory.table.as_mut_ptr(),
+                memory.table.len(),
+                memory.written.as_mut_ptr(),
+                memory.written.len(),
+                memory.tally,
                 sheet.as_ptr(),
                 sheet.len(),
                 ptr::from_ref(words).cast(),
@@ -43,17 +38,18 @@ impl Interface for Library {
     fn apply_all_by(
         &self,
         sheet: &[u8],
-        table: &mut [Cap],
-        tally: &mut Tally,
+        memory: Memory,
         events: &[Words],
         names: &[u32],
         answers: &mut [AnswerWords],
     ) -> usize {
         unsafe {
             ffi::kz_abi_apply_all(
-                table.as_mut_ptr(),
-                table.len(),
-                tally,
+                memory.table.as_mut_ptr(),
+                memory.table.len(),
+                memory.written.as_mut_ptr(),
+                memory.written.len(),
+                memory.tally,
                 sheet.as_ptr(),
                 sheet.len(),
                 events.as_ptr().cast(),
@@ -66,12 +62,14 @@ impl Interface for Library {
         }
     }
 
-    fn run_by(&self, sheet: &[u8], table: &mut [Cap], tally: &mut Tally, text: &[u8]) -> u64 {
+    fn run_by(&self, sheet: &[u8], memory: Memory, text: &[u8]) -> u64 {
         unsafe {
             ffi::kz_abi_run(
-                table.as_mut_ptr(),
-                table.len(),
-                tally,
+                memory.table.as_mut_ptr(),
+                memory.table.len(),
+                memory.written.as_mut_ptr(),
+                memory.written.len(),
+                memory.tally,
                 sheet.as_ptr(),
                 sheet.len(),
                 text.as_ptr(),

@@ -2,7 +2,7 @@
 
 use baseline::{Cap, Event, MAX_GROUP, Refusal, SHEET_PLACES, Spelling, Tally};
 
-use crate::{AnswerWords, DROP_ALL, Interface, Words};
+use crate::{AnswerWords, DROP_ALL, Interface, Memory, Words};
 
 pub struct Baseline;
 
@@ -20,39 +20,51 @@ fn group<'a>(words: &Words, names: &'a [u32]) -> Option<&'a [u32]> {
     (words.kind == DROP_ALL).then(|| names.get(start..end).unwrap_or(&[]))
 }
 
+/// One event. Words are turned into it where it is carried out.
+fn apply(memory: Memory, sheet: &[u8], event: impl Into<Event>) -> Result<u32, Refusal> {
+    let Memory {
+        table,
+        written,
+        tally,
+    } = memory;
+    baseline::apply(table, written, tally, sheet, event)
+}
+
 impl Interface for Baseline {
     fn name(&self) -> &'static str {
         "baseline"
     }
 
-    fn apply_words_by(
-        &self,
-        sheet: &[u8],
-        table: &mut [Cap],
-        tally: &mut Tally,
-        words: &Words,
-        names: &[u32],
-    ) -> u64 {
+    fn apply_words_by(&self, sheet: &[u8], memory: Memory, words: &Words, names: &[u32]) -> u64 {
         match group(words, names) {
-            Some(names) => self.drop_all(table, tally, names),
-            None => packed(baseline::apply(table, tally, sheet, *words)),
+            Some(names) => self.drop_all(memory, names),
+            None => packed(apply(memory, sheet, *words)),
         }
     }
 
     fn apply_all_by(
         &self,
         sheet: &[u8],
-        table: &mut [Cap],
-        tally: &mut Tally,
+        memory: Memory,
         events: &[Words],
         names: &[u32],
         answers: &mut [AnswerWords],
     ) -> usize {
-        baseline::apply_all(table, tally, sheet, events, names, answers)
+        let Memory {
+            table,
+            written,
+            tally,
+        } = memory;
+        baseline::apply_all(table, written, tally, sheet, events, names, answers)
     }
 
-    fn run_by(&self, sheet: &[u8], table: &mut [Cap], tally: &mut Tally, text: &[u8]) -> u64 {
-        match baseline::run(table, tally, sheet, text) {
+    fn run_by(&self, sheet: &[u8], memory: Memory, text: &[u8]) -> u64 {
+        let Memory {
+            table,
+            written,
+            tally,
+        } = memory;
+        match baseline::run(table, written, tally, sheet, text) {
             Ok(lines) => u64::from(lines),
             Err((refusal, line)) => packed(Err(refusal)) + u64::from(line),
         }
@@ -106,12 +118,17 @@ impl Interface for Baseline {
         packed(baseline::check(input, out))
     }
 
-    fn apply_by(&self, sheet: &[u8], table: &mut [Cap], tally: &mut Tally, event: Event) -> u64 {
-        packed(baseline::apply(table, tally, sheet, event))
+    fn apply_by(&self, sheet: &[u8], memory: Memory, event: Event) -> u64 {
+        packed(apply(memory, sheet, event))
     }
 
-    fn drop_all(&self, table: &mut [Cap], tally: &mut Tally, names: &[u32]) -> u64 {
-        packed(baseline::drop_all(table, tally, names).map(|()| 0))
+    fn drop_all(&self, memory: Memory, names: &[u32]) -> u64 {
+        let Memory {
+            table,
+            written,
+            tally,
+        } = memory;
+        packed(baseline::drop_all(table, written, tally, names).map(|()| 0))
     }
 
     fn write_event(&self, event: Event, out: &mut [u8]) -> u64 {

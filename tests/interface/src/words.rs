@@ -18,6 +18,7 @@ pub struct Words {
     pub named: u32,
     pub written: u32,
     pub cap_kind: u32,
+    pub fresh: u32,
 }
 
 impl Words {
@@ -43,11 +44,12 @@ impl From<Event> for Words {
             named: event.written.is_some().into(),
             written: event.written.unwrap_or(0),
             cap_kind: event.cap_kind.into(),
+            fresh: event.fresh.into(),
         }
     }
 }
 
-/// Kinds and rights above what the baseline's have room for are as unknown as 0 is, and kinds of
+/// Kinds and rights above what the baseline's have room for are as unknown as 0 is, and kinds and marks of
 /// capabilities, of which 0 is known, as the last that there is room for.
 impl From<Words> for Event {
     fn from(words: Words) -> Event {
@@ -59,6 +61,7 @@ impl From<Words> for Event {
             length: words.length,
             right: words.right.try_into().unwrap_or(0),
             cap_kind: words.cap_kind.try_into().unwrap_or(u8::MAX),
+            fresh: words.fresh.try_into().unwrap_or(u8::MAX),
         }
     }
 }

@@ -2,12 +2,15 @@
 //!
 //! It asks nothing of the lent table's rules: what refuses an event is written here again, kind by kind.
 
+use std::collections::BTreeSet;
+
 use crate::sheet::{Access, Outcome, Sheet, Source};
 use crate::span::{ADDRESSES, Span};
 use crate::values::{
-    CELL, Event, MAX_DEPTH, MAX_GROUP, MAX_NAME, MAX_ROWS, RAW, READ_ONLY, READ_WRITE, REFERENCE,
-    Refused, Row,
+    CELL, Event, FRESH, MAX_DEPTH, MAX_GROUP, MAX_NAME, MAX_ROWS, RAW, READ_ONLY, READ_WRITE,
+    REFERENCE, Refused, Row,
 };
+use crate::written::{WRITABLE, Written};
 
 /// An allowed event. A create or borrow is noted with the name that it made, the others with 0.
 #[derive(Clone, Copy, Debug, PartialEq)]
@@ -43,6 +46,17 @@ fn judge_right(right: u8) -> Judged {
 /// Card 6: kinds are 0, 1 and 2.
 fn judge_kind(kind: u32) -> Judged {
     refuse(2, kind > CELL)
+}
+
+/// Card 9: marks are 0 and 1.
+fn judge_mark(fresh: u32) -> Judged {
+    refuse(2, fresh > FRESH)
+}
+
+/// Card 9: 'a `fresh` create ending above 65,536 is refusal 3'.
+fn judge_place(span: Span, fresh: u32) -> Judged {
+    judge_span(span)?;
+    refuse(3, fresh == FRESH && span.end() > u64::from(WRITABLE))
 }
 
 fn judge_span(span: Span) -> Judged {
@@ -105,7 +119,8 @@ impl History {
         Ok(0)
     }
 
-    /// What refuses each kind of event, the lowest number first, with 12 between 9 and 10 (card 1).
+    /// What refuses each kind of event, the lowest number first, with 12 between 9 and 10 (card 1) and 16
+    /// after 7 (card 9).
     fn judge(&self, event: Event) -> Judged {
         self.judge_rows()?;
         match event {
@@ -113,9 +128,11 @@ impl History {
                 written,
                 span,
                 right,
+                fresh,
             } => {
                 judge_right(right)?;
-                judge_span(span)?;
+                judge_mark(fresh)?;
+                judge_place(span, fresh)?;
                 self.judge_new_name(written)
             }
             Event::Borrow {
@@ -132,7 +149,10 @@ impl History {
                 refuse(8, self.depth(parent) == MAX_DEPTH)?;
                 self.judge_new_name(written)
             }
-            Event::Read { name, span } => self.judge_use(name, span),
+            Event::Read { name, span } => {
+                self.judge_use(name, span)?;
+                refuse(16, self.is_marked(name) && !self.is_written(span))
+            }
             Event::Write { name, span } => {
                 self.judge_use(name, span)?;
                 refuse(7, !self.is_read_write(name))
@@ -200,6 +220,7 @@ impl History {
             right: right.into(),
             depth: self.depth(name),
             kind: made.kind,
+            fresh: self.mark(name),
         })
     }
 
@@ -219,6 +240,72 @@ impl History {
     /// Whether the name was noted with this kind.
     fn is_of_kind(&self, name: u32, kind: u32) -> bool {
         self.made(name).is_some_and(|made| made.kind == kind)
+    }
+
+    /// Card 9: the mark that a name's root was noted with, which the borrows below it carry.
+    fn mark(&self, name: u32) -> u32 {
+        let root = self.ancestry(name).last().and_then(|root| self.made(*root));
+        let noted = root.and_then(|root| self.notes[root.at].event.fresh());
+        noted.unwrap_or(0)
+    }
+
+    fn is_marked(&self, name: u32) -> bool {
+        self.mark(name) == FRESH
+    }
+
+    /// Card 9: whether an address is 'written since the last allowed create over it', that is, whether of
+    /// the notes of writes and creates over it the last is a write.
+    fn is_address_written(&self, address: u64) -> bool {
+        let last = self.notes.iter().rev().find(|note| match note.event {
+            Event::Create { span, .. } | Event::Write { span, .. } => span.has(address),
+            _ => false,
+        });
+        last.is_some_and(|note| matches!(note.event, Event::Write { .. }))
+    }
+
+    /// Addresses of a span that tell of all of them: its first, and each at which the span of a create or
+    /// write starts or has come to its end. Up to the next of these the notes over an address are the same.
+    fn telling(&self, span: Span) -> BTreeSet<u64> {
+        let noted = self.notes.iter().filter_map(|note| match note.event {
+            Event::Create { span, .. } | Event::Write { span, .. } => Some(span),
+            _ => None,
+        });
+        let edges = noted.flat_map(|noted| [noted.start.into(), noted.end()]);
+        let all = edges.chain([span.start.into()]);
+        all.filter(|address| span.has(*address)).collect()
+    }
+
+    /// Whether each address of a span is written.
+    fn is_written(&self, span: Span) -> bool {
+        match span.is_short() {
+            true => span
+                .addresses()
+                .all(|address| self.is_address_written(address)),
+            false => self
+                .telling(span)
+                .into_iter()
+                .all(|address| self.is_address_written(address)),
+        }
+    }
+
+    /// The addresses that are written.
+    pub fn written(&self) -> Written {
+        let whole = Span {
+            start: 0,
+            length: WRITABLE,
+        };
+        let starts = self.telling(whole);
+        let ends = starts.iter().copied().skip(1).chain([whole.end()]);
+        let mut written = Written::default();
+        for (start, end) in starts.iter().zip(ends) {
+            if self.is_address_written(*start) {
+                written.add(Span {
+                    start: *start as u32,
+                    length: (end - start) as u32,
+                });
+            }
+        }
+        written
     }
 
     /// The name, its noted parent, and so on up to its root.
@@ -346,16 +433,21 @@ impl History {
             .is_some_and(|made| made.right == READ_WRITE && !self.any_later(made, lowers))
     }
 
-    /// Demand 3 of a read: the capability was made, the span is legal and within its own, and it
-    /// lives.
+    /// Demand 3 of a read: that of any use, and by card 9 each address is written where the capability is
+    /// marked.
     pub fn may_read(&self, name: u32, span: Span) -> bool {
+        self.may_use(name, span) && (!self.is_marked(name) || self.is_written(span))
+    }
+
+    /// The capability was made, the span is legal and within its own, and it lives.
+    fn may_use(&self, name: u32, span: Span) -> bool {
         let within = |made: Made| span.is_legal() && span.is_inside(made.span);
         self.made(name).is_some_and(within) && self.lives(name)
     }
 
-    /// Demand 3 of a write: that of a read, and the capability is still writable.
+    /// Demand 3 of a write: that of any use, and the capability is still writable.
     pub fn may_write(&self, name: u32, span: Span) -> bool {
-        self.may_read(name, span) && self.is_read_write(name)
+        self.may_use(name, span) && self.is_read_write(name)
     }
 }
 
@@ -371,6 +463,7 @@ mod tests {
                 length: 8,
             },
             right: READ_WRITE,
+            fresh: 0,
         }
     }
 

@@ -3,7 +3,7 @@
 use crate::span::Span;
 use crate::table::is_unknown;
 use crate::together::is_group;
-use crate::values::{CELL, Event, RAW, READ_ONLY, READ_WRITE, REFERENCE};
+use crate::values::{CELL, Event, FRESH, RAW, READ_ONLY, READ_WRITE, REFERENCE};
 
 /// How a create or borrow is spelt: without its new name, or with it after the word.
 #[derive(Clone, Copy, Debug, PartialEq, Eq)]
@@ -35,8 +35,16 @@ pub fn kind_word(kind: u32) -> &'static str {
     }
 }
 
-/// The event's one spelling of this sort, newline included; none where it, its right or its kind is
-/// unknown, and none for a create or borrow with a name in the plain one or without in the other.
+/// The last word of a capability with this mark, with the space before it. Without one there is none.
+pub fn mark_word(fresh: u32) -> &'static str {
+    match fresh {
+        FRESH => " fresh",
+        _ => "",
+    }
+}
+
+/// The event's one spelling of this sort, newline included; none where it, its right, its kind or its mark
+/// is unknown, and none for a create or borrow with a name in the plain one or without in the other.
 pub fn event_line(event: Event, spelling: Spelling) -> Option<String> {
     if is_unknown(event) || !spelling.suits(event) {
         return None;
@@ -46,8 +54,9 @@ pub fn event_line(event: Event, spelling: Spelling) -> Option<String> {
     let new_name = new_name.unwrap_or_default();
     let right = right_word(right);
     let kind = event.kind().map_or("", kind_word);
+    let mark = event.fresh().map_or("", mark_word);
     Some(match event {
-        Event::Create { .. } => format!("(create {new_name}{start} {length} {right})\n"),
+        Event::Create { .. } => format!("(create {new_name}{start} {length} {right}{mark})\n"),
         Event::Borrow { .. } => {
             format!("(borrow {new_name}{name} {start} {length} {right}{kind})\n")
         }
@@ -75,10 +84,11 @@ pub fn read_event_line(line: &[u8], spelling: Spelling) -> Option<Event> {
 /// A create or borrow of the words after its new name.
 fn made(kind: &[u8], written: Option<u32>, values: &[&[u8]]) -> Option<Event> {
     Some(match (kind, values) {
-        (b"create", [start, length, right]) => Event::Create {
+        (b"create", [start, length, right, last @ ..]) => Event::Create {
             written,
             span: span(start, length)?,
             right: self::right(right)?,
+            fresh: mark_of(last)?,
         },
         (b"borrow", [name, start, length, right, last @ ..]) => Event::Borrow {
             written,
@@ -155,6 +165,15 @@ fn kind_of(words: &[&[u8]]) -> Option<u32> {
         [] => Some(REFERENCE),
         [b"raw"] => Some(RAW),
         [b"cell"] => Some(CELL),
+        _ => None,
+    }
+}
+
+/// The mark that the words after a create's right say.
+fn mark_of(words: &[&[u8]]) -> Option<u32> {
+    match words {
+        [] => Some(0),
+        [b"fresh"] => Some(FRESH),
         _ => None,
     }
 }

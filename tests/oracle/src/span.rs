@@ -25,6 +25,21 @@ impl Span {
         self.end() <= ADDRESSES
     }
 
+    /// The span's addresses, one by one.
+    pub fn addresses(self) -> impl Iterator<Item = u64> {
+        addresses(self)
+    }
+
+    /// Whether its addresses are so few that they are gone through one by one.
+    pub fn is_short(self) -> bool {
+        is_short(self)
+    }
+
+    /// Whether an address is one of the span's.
+    pub fn has(self, address: u64) -> bool {
+        has(self, address)
+    }
+
     /// 'Two spans touch when they share an address.' Card 2: one of length 0 shares none.
     pub fn touches(self, other: Span) -> bool {
         match is_short(self) && is_short(other) {

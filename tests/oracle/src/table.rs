@@ -1,13 +1,15 @@
-//! The lent table and tally: when a table is in order, what refuses an event, what an event does.
+//! The lent table, written addresses and tally: when a table is in order, what refuses an event, what an
+//! event does.
 
 use std::collections::BTreeSet;
 
 use crate::sheet::{Access, Combination, Outcome, Sheet, Source};
 use crate::span::Span;
 use crate::values::{
-    CELL, Event, MAX_DEPTH, MAX_NAME, MAX_ROWS, RAW, READ_ONLY, READ_WRITE, REFERENCE, Refused,
-    Row, Tally,
+    CELL, Event, FRESH, MAX_DEPTH, MAX_NAME, MAX_ROWS, RAW, READ_ONLY, READ_WRITE, REFERENCE,
+    Refused, Row, Tally,
 };
+use crate::written::{WRITABLE, Written};
 
 /// The rows up to the last that is not all zeros.
 pub fn live_rows(rows: &[Row]) -> &[Row] {
@@ -15,7 +17,8 @@ pub fn live_rows(rows: &[Row]) -> &[Row] {
     &rows[..last.map_or(0, |last| last + 1)]
 }
 
-/// Document 01's sentence, 'A table is in order when', clause by clause, and card 6 on kinds.
+/// Document 01's sentence, 'A table is in order when', clause by clause, card 6 on kinds and card 9 on
+/// marks.
 pub fn in_order(rows: &[Row], issued: u32) -> bool {
     if rows.len() > MAX_ROWS || issued > MAX_NAME {
         return false;
@@ -30,6 +33,8 @@ fn row_is_in_order(row: &Row, earlier: &[Row]) -> bool {
     row.span().is_legal()
         && (row.right == u32::from(READ_ONLY) || row.right == u32::from(READ_WRITE))
         && is_kind(row.kind)
+        && is_mark(row.fresh)
+        && !(row.fresh == FRESH && ends_above_writable(row.span()))
         && if row.parent == 0 {
             row.depth == 1 && row.kind == REFERENCE
         } else {
@@ -42,10 +47,19 @@ fn row_fits_parent(row: &Row, parent: &Row) -> bool {
         && row.right <= parent.right
         && row.depth == parent.depth + 1
         && row.depth <= MAX_DEPTH
+        && row.fresh == parent.fresh
 }
 
 fn is_kind(number: u32) -> bool {
     number == REFERENCE || number == RAW || number == CELL
+}
+
+fn is_mark(number: u32) -> bool {
+    number == 0 || number == FRESH
+}
+
+fn ends_above_writable(span: Span) -> bool {
+    span.end() > u64::from(WRITABLE)
 }
 
 fn find(rows: &[Row], name: u32) -> Option<&Row> {
@@ -64,14 +78,14 @@ fn ancestry<'a>(live: &'a [Row], row: &'a Row) -> Vec<&'a Row> {
 }
 
 /// The number that an event is refused with: the first, in the order of the papers, whose condition
-/// holds. Card 1 puts 12 between 9 and 10.
-fn refusal(rows: &[Row], issued: u32, event: Event) -> Option<Refused> {
+/// holds. Card 1 puts 12 between 9 and 10, card 9 puts 16 after 7.
+fn refusal(rows: &[Row], written: &Written, issued: u32, event: Event) -> Option<Refused> {
     if !in_order(rows, issued) {
         return Some(1);
     }
     let conditions = [
         (2, is_unknown(event)),
-        (3, event.span().is_some_and(|span| !span.is_legal())),
+        (3, has_illegal_span(event)),
         (4, event.user().is_some_and(|name| !is_issued(name, issued))),
         (
             5,
@@ -81,6 +95,7 @@ fn refusal(rows: &[Row], issued: u32, event: Event) -> Option<Refused> {
         ),
         (6, is_outside_its_capability(rows, event)),
         (7, needs_more_than_read_only(rows, event)),
+        (16, reads_what_is_not_written(rows, written, event)),
         (8, borrows_too_deep(rows, event)),
         (9, event.makes() && issued == MAX_NAME),
         (12, event.written().is_some_and(|name| name != issued + 1)),
@@ -90,13 +105,24 @@ fn refusal(rows: &[Row], issued: u32, event: Event) -> Option<Refused> {
     holding.next().map(|(number, _)| number)
 }
 
-/// An unknown event, a right that is neither 1 nor 2, or a kind that is none of the three.
+/// An unknown event, a right that is neither 1 nor 2, a kind that is none of the three, or a mark that is
+/// neither 0 nor 1.
 pub fn is_unknown(event: Event) -> bool {
     event == Event::Unknown
         || event
             .right()
             .is_some_and(|right| right != READ_ONLY && right != READ_WRITE)
         || event.kind().is_some_and(|kind| !is_kind(kind))
+        || event.fresh().is_some_and(|fresh| !is_mark(fresh))
+}
+
+/// A span that is not legal, or of a create with the mark one that ends above the addresses that can be
+/// written.
+fn has_illegal_span(event: Event) -> bool {
+    let is_marked = event.fresh() == Some(FRESH);
+    event
+        .span()
+        .is_some_and(|span| !span.is_legal() || (is_marked && ends_above_writable(span)))
 }
 
 pub fn is_issued(name: u32, issued: u32) -> bool {
@@ -130,24 +156,43 @@ fn needs_more_than_read_only(rows: &[Row], event: Event) -> bool {
     through_read_only && needs_read_write
 }
 
+/// Card 9: 'a read through a marked capability with some address not yet written'.
+fn reads_what_is_not_written(rows: &[Row], written: &Written, event: Event) -> bool {
+    let is_marked = user_row(rows, event).is_some_and(|user| user.fresh == FRESH);
+    match event {
+        Event::Read { span, .. } => is_marked && !written.has_all(span),
+        _ => false,
+    }
+}
+
 fn borrows_too_deep(rows: &[Row], event: Event) -> bool {
     matches!(event, Event::Borrow { .. })
         && user_row(rows, event).is_some_and(|parent| parent.depth == MAX_DEPTH)
 }
 
-/// One event on a lent table and tally: the new name (0 where none is made), or the refusal.
-pub fn apply(rows: &mut [Row], tally: &mut Tally, event: Event) -> Result<u32, Refused> {
-    apply_by(None, rows, tally, event)
+/// One event on a lent table, written addresses and tally: the new name (0 where none is made), or the
+/// refusal. Lent bytes of another length than there have to be are no written addresses, and refusal 1.
+pub fn apply(
+    rows: &mut [Row],
+    written: Option<&mut Written>,
+    tally: &mut Tally,
+    event: Event,
+) -> Result<u32, Refused> {
+    apply_by(None, rows, written, tally, event)
 }
 
 /// The same by a sheet, or by card 6's sentences where there is none.
 pub fn apply_by(
     sheet: Option<&Sheet>,
     rows: &mut [Row],
+    written: Option<&mut Written>,
     tally: &mut Tally,
     event: Event,
 ) -> Result<u32, Refused> {
-    if let Some(number) = refusal(rows, tally.issued, event) {
+    let Some(written) = written else {
+        return Err(1);
+    };
+    if let Some(number) = refusal(rows, written, tally.issued, event) {
         if number != 1 {
             tally.refused = tally.refused.saturating_add(1);
         }
@@ -160,23 +205,27 @@ pub fn apply_by(
     };
     rows.fill(Row::default());
     rows[..after.len()].copy_from_slice(&after);
+    write_addresses(written, event);
     count_allowed(tally, event);
     Ok(if event.makes() { tally.issued } else { 0 })
 }
 
+/// 'Every allowed create clears its addresses, every allowed write sets its own.'
+fn write_addresses(written: &mut Written, event: Event) {
+    match event {
+        Event::Create { span, .. } => written.remove(span),
+        Event::Write { span, .. } => written.add(span),
+        _ => {}
+    }
+}
+
 fn rows_after(live: &[Row], event: Event, new_name: u32) -> Vec<Row> {
     match event {
-        Event::Create { span, right, .. } => {
+        Event::Create { span, .. } => {
             let left = without(live, &reclaimed(live, span));
-            with_new(&left, new_name, None, span, right, REFERENCE)
+            with_new(&left, event, new_name)
         }
-        Event::Borrow {
-            parent,
-            span,
-            right,
-            kind,
-            ..
-        } => with_new(live, new_name, find(live, parent), span, right, kind),
+        Event::Borrow { .. } => with_new(live, event, new_name),
         Event::Read { name, span } => {
             let lowered = below(live, &struck_by_read(live, name, span));
             let right_of = |row: &Row| match lowered.contains(&row.name) {
@@ -197,23 +246,21 @@ fn rows_after(live: &[Row], event: Event, new_name: u32) -> Vec<Row> {
     }
 }
 
-fn with_new(
-    live: &[Row],
-    name: u32,
-    parent: Option<&Row>,
-    span: Span,
-    right: u8,
-    kind: u32,
-) -> Vec<Row> {
+/// The rows, and that of what a create or borrow makes. A create makes a reference, and a borrow carries
+/// its parent's mark.
+fn with_new(live: &[Row], event: Event, name: u32) -> Vec<Row> {
     let mut rows = live.to_vec();
+    let parent = user_row(live, event);
+    let [_, _, start, length, right] = event.fields();
     rows.push(Row {
         name,
         parent: parent.map_or(0, |parent| parent.name),
-        start: span.start,
-        length: span.length,
-        right: right.into(),
+        start,
+        length,
+        right,
         depth: parent.map_or(0, |parent| parent.depth) + 1,
-        kind,
+        kind: event.kind().unwrap_or(REFERENCE),
+        fresh: parent.map_or(event.fresh().unwrap_or(0), |parent| parent.fresh),
     });
     rows
 }
@@ -294,9 +341,9 @@ fn reclaimed(live: &[Row], span: Span) -> Vec<u32> {
 fn rows_after_by(sheet: &Sheet, live: &[Row], event: Event, new_name: u32) -> Vec<Row> {
     match event {
         Event::Read { .. } | Event::Write { .. } => rows_struck(sheet, live, event),
-        Event::Create { span, right, .. } => {
+        Event::Create { .. } => {
             let left = rows_struck(sheet, live, event);
-            with_new(&left, new_name, None, span, right, REFERENCE)
+            with_new(&left, event, new_name)
         }
         _ => rows_after(live, event, new_name),
     }

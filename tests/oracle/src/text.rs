@@ -1,15 +1,16 @@
 //! Listings, runs, and what `capcheck` prints.
 
 use crate::lines::{
-    Spelling, drop_line, event_line, kind_word, number, read_drop_line, read_event_line, right,
-    right_word,
+    Spelling, drop_line, event_line, kind_word, mark_word, number, read_drop_line, read_event_line,
+    right, right_word,
 };
 use crate::sheet::Sheet;
 use crate::table::{apply_by, in_order, live_rows};
 use crate::together::drop_all;
 use crate::values::{
-    CELL, Event, MAX_DEPTH, MAX_INPUT, MAX_ROWS, RAW, REFERENCE, Refused, Row, Tally,
+    CELL, Event, FRESH, MAX_DEPTH, MAX_INPUT, MAX_ROWS, RAW, REFERENCE, Refused, Row, Tally,
 };
+use crate::written::Written;
 
 /// The number of lines allowed, or the refusal and its line.
 pub type Run = Result<u32, (Refused, u32)>;
@@ -28,13 +29,14 @@ fn form(live: &[Row], row: &Row) -> String {
         .map(|child| format!(" {}", form(live, child)))
         .collect();
     let (right, kind) = (right_word(row.right), kind_word(row.kind));
+    let mark = mark_word(row.fresh);
     let Row {
         name,
         start,
         length,
         ..
     } = row;
-    format!("({name} {start} {length} {right}{kind}{inner})")
+    format!("({name} {start} {length} {right}{kind}{mark}{inner})")
 }
 
 /// The issued number and the rows of the one table in order that has this listing, if there is one.
@@ -89,6 +91,14 @@ impl Reader<'_> {
         found.unwrap_or(REFERENCE)
     }
 
+    /// The mark whose word stands next, or none.
+    fn mark(&mut self) -> u32 {
+        match self.skip(mark_word(FRESH).as_bytes()) {
+            Some(()) => FRESH,
+            None => 0,
+        }
+    }
+
     /// One capability with all below it. Its name, which must be above that of the sibling before
     /// it, is the answer.
     fn form(&mut self, parent: u32, depth: u32, previous: u32) -> Option<u32> {
@@ -101,6 +111,7 @@ impl Reader<'_> {
         self.skip(b" ")?;
         let right = u32::from(self.right()?);
         let kind = self.kind();
+        let fresh = self.mark();
         if depth > MAX_DEPTH || name <= previous {
             return None;
         }
@@ -112,6 +123,7 @@ impl Reader<'_> {
             right,
             depth,
             kind,
+            fresh,
         });
         let mut child = 0;
         while self.rest.starts_with(b" ") {
@@ -123,7 +135,8 @@ impl Reader<'_> {
     }
 }
 
-/// The whole table and the issued number that reading a listing into so many rows leaves.
+/// The whole table and the issued number that reading a listing into so many rows leaves. It is lent no
+/// written addresses.
 pub fn read_listing(text: &[u8], rows: usize) -> Result<(u32, Vec<Row>), Refused> {
     if rows > MAX_ROWS {
         return Err(1);
@@ -169,12 +182,19 @@ fn lines(text: &[u8]) -> impl Iterator<Item = &[u8]> {
 
 /// Takes lines until one is refused. A first line that says so is no event, and is counted as a
 /// line; the others are then spelt with names.
-pub fn run(rows: &mut [Row], tally: &mut Tally, text: &[u8]) -> Run {
-    run_by(None, rows, tally, text)
+pub fn run(rows: &mut [Row], written: Option<&mut Written>, tally: &mut Tally, text: &[u8]) -> Run {
+    run_by(None, rows, written, tally, text)
 }
 
 /// The same by a sheet, or by card 6's sentences where there is none.
-pub fn run_by(sheet: Option<&Sheet>, rows: &mut [Row], tally: &mut Tally, text: &[u8]) -> Run {
+pub fn run_by(
+    sheet: Option<&Sheet>,
+    rows: &mut [Row],
+    written: Option<&mut Written>,
+    tally: &mut Tally,
+    text: &[u8],
+) -> Run {
+    let written = written.ok_or((1, 0))?;
     if !in_order(rows, tally.issued) {
         return Err((1, 0));
     }
@@ -184,11 +204,11 @@ pub fn run_by(sheet: Option<&Sheet>, rows: &mut [Row], tally: &mut Tally, text: 
     };
     for line in lines(rest) {
         let answer = match read_drop_line(line) {
-            Some(names) => drop_all(rows, tally, &names),
+            Some(names) => drop_all(rows, Some(written), tally, &names),
             // An unknown kind is refused and counted just as a misspelt line is.
             None => {
                 let event = read_event_line(line, spelling).unwrap_or(Event::Unknown);
-                apply_by(sheet, rows, tally, event)
+                apply_by(sheet, rows, Some(written), tally, event)
             }
         };
         answer.map_err(|number| (number, allowed + 1))?;
@@ -203,8 +223,9 @@ pub fn check(input: &[u8], buffer: usize) -> Result<String, Refused> {
         return fitting("(long)\n".to_string(), buffer);
     }
     let mut rows = vec![Row::default(); MAX_ROWS];
+    let mut written = Written::default();
     let mut tally = Tally::default();
-    let verdict = match run(&mut rows, &mut tally, input) {
+    let verdict = match run(&mut rows, Some(&mut written), &mut tally, input) {
         Ok(lines) => format!("(allowed {lines})\n"),
         Err((number, line)) => format!("(refused {number} {line})\n"),
     };

@@ -2,6 +2,7 @@
 
 use crate::table::{has_ended, in_order, is_issued, live_rows, subtrees, without};
 use crate::values::{MAX_GROUP, Refused, Row, Tally};
+use crate::written::Written;
 
 /// Whether there are 1 to 64 names, strictly rising.
 pub fn is_group(names: &[u32]) -> bool {
@@ -28,8 +29,17 @@ fn group_refusal(rows: &[Row], issued: u32, names: &[u32]) -> Option<Refused> {
     })
 }
 
-/// Names dropped together on a lent table and tally: 0, or the refusal. It is counted once.
-pub fn drop_all(rows: &mut [Row], tally: &mut Tally, names: &[u32]) -> Result<u32, Refused> {
+/// Names dropped together on a lent table and tally: 0, or the refusal. It is counted once. No address is
+/// looked at, but without the lent bytes it is refusal 1, as every event is.
+pub fn drop_all(
+    rows: &mut [Row],
+    written: Option<&Written>,
+    tally: &mut Tally,
+    names: &[u32],
+) -> Result<u32, Refused> {
+    if written.is_none() {
+        return Err(1);
+    }
     if let Some(number) = group_refusal(rows, tally.issued, names) {
         if number != 1 {
             tally.refused = tally.refused.saturating_add(1);

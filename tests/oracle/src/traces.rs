@@ -1,4 +1,4 @@
-//! Traces of cards 6 and 7, with their answers and listings worked out by hand from the cards' sentences.
+//! Traces of cards 6, 7 and 9, with their answers and listings worked out by hand from the cards' sentences.
 
 /// A line and its answer.
 pub type Step = (&'static str, Result<u32, u8>);
@@ -277,6 +277,201 @@ pub const KINDS: [Trace; 21] = [
     ),
 ];
 
+/// Marked capabilities and written addresses, on six rows or more with no name issued and nothing written.
+pub const MARKS: [Trace; 14] = [
+    (
+        "written before it is read",
+        &[
+            ("(create 0 8 rw fresh)", Ok(1)),
+            ("(read 1 0 1)", Err(16)),
+            ("(write 1 0 1)", Ok(0)),
+            ("(read 1 0 1)", Ok(0)),
+            ("(read 1 0 2)", Err(16)),
+            ("(read 1 1 1)", Err(16)),
+        ],
+        "(issued 1)\n(1 0 8 rw fresh)\n",
+    ),
+    (
+        "a borrow carries its parent's mark",
+        &[
+            ("(create 0 8 rw fresh)", Ok(1)),
+            ("(borrow 1 0 4 rw)", Ok(2)),
+            ("(read 2 0 4)", Err(16)),
+            ("(write 2 0 2)", Ok(0)),
+            ("(read 1 0 2)", Ok(0)),
+            ("(read 1 0 3)", Err(16)),
+            ("(read 1 8 0)", Ok(0)),
+        ],
+        "(issued 2)\n(1 0 8 rw fresh (2 0 4 ro fresh))\n",
+    ),
+    (
+        "what is not marked may be read at once",
+        &[
+            ("(create 0 8 rw)", Ok(1)),
+            ("(borrow 1 0 8 ro cell)", Ok(2)),
+            ("(read 2 0 8)", Ok(0)),
+            ("(read 1 0 8)", Ok(0)),
+        ],
+        "(issued 2)\n(1 0 8 rw (2 0 8 ro cell))\n",
+    ),
+    (
+        "a create clears its addresses, marked or not",
+        &[
+            ("(create 0 8 rw)", Ok(1)),
+            ("(write 1 0 8)", Ok(0)),
+            ("(create 4 2 rw fresh)", Ok(2)),
+            ("(read 2 4 1)", Err(16)),
+            ("(create 0 4 rw)", Ok(3)),
+            ("(read 3 0 4)", Ok(0)),
+        ],
+        "(issued 3)\n(2 4 2 rw fresh)\n(3 0 4 rw)\n",
+    ),
+    (
+        "memory that is handed out again",
+        &[
+            ("(create 0 8 rw fresh)", Ok(1)),
+            ("(write 1 0 8)", Ok(0)),
+            ("(read 1 0 8)", Ok(0)),
+            ("(create 0 8 rw fresh)", Ok(2)),
+            ("(read 2 0 8)", Err(16)),
+            ("(write 2 3 1)", Ok(0)),
+            ("(read 2 3 1)", Ok(0)),
+            ("(read 2 2 2)", Err(16)),
+            ("(read 2 3 2)", Err(16)),
+        ],
+        "(issued 2)\n(2 0 8 rw fresh)\n",
+    ),
+    (
+        "a drop clears nothing, and what a create leaves out stays written",
+        &[
+            ("(create 0 8 rw)", Ok(1)),
+            ("(write 1 2 6)", Ok(0)),
+            ("(drop 1)", Ok(0)),
+            ("(create 8 4 rw fresh)", Ok(2)),
+            ("(write 2 8 2)", Ok(0)),
+            ("(create 10 2 rw)", Ok(3)),
+            ("(create 12 4 rw fresh)", Ok(4)),
+            ("(read 4 12 1)", Err(16)),
+            ("(read 3 10 2)", Ok(0)),
+        ],
+        "(issued 4)\n(3 10 2 rw)\n(4 12 4 rw fresh)\n",
+    ),
+    (
+        "the last addresses that can be written",
+        &[
+            ("(create 65528 9 rw fresh)", Err(3)),
+            ("(create 65528 8 rw fresh)", Ok(1)),
+            ("(create 65536 0 rw fresh)", Ok(2)),
+            ("(read 2 65536 0)", Ok(0)),
+            ("(write 1 65535 1)", Ok(0)),
+            ("(read 1 65535 1)", Ok(0)),
+            ("(read 1 65528 8)", Err(16)),
+            ("(create 65537 0 rw fresh)", Err(3)),
+            ("(create 4294967295 1 rw fresh)", Err(3)),
+            ("(create 65529 8 rw)", Ok(3)),
+        ],
+        "(issued 3)\n(2 65536 0 rw fresh)\n(3 65529 8 rw)\n",
+    ),
+    (
+        "all addresses that can be written",
+        &[
+            ("(create 0 65537 rw fresh)", Err(3)),
+            ("(create 0 65536 rw fresh)", Ok(1)),
+            ("(write 1 0 65535)", Ok(0)),
+            ("(read 1 0 65535)", Ok(0)),
+            ("(read 1 0 65536)", Err(16)),
+            ("(write 1 65535 1)", Ok(0)),
+            ("(read 1 0 65536)", Ok(0)),
+        ],
+        "(issued 1)\n(1 0 65536 rw fresh)\n",
+    ),
+    (
+        "addresses above them, which have no bit",
+        &[
+            ("(create 65532 8 rw)", Ok(1)),
+            ("(write 1 65534 6)", Ok(0)),
+            ("(read 1 65532 8)", Ok(0)),
+            ("(borrow 1 65536 4 rw)", Ok(2)),
+            ("(write 2 65536 4)", Ok(0)),
+            ("(create 65532 4 ro fresh)", Ok(3)),
+            ("(read 3 65534 1)", Err(16)),
+        ],
+        "(issued 3)\n(3 65532 4 ro fresh)\n",
+    ),
+    (
+        "a fresh capability that is read-only",
+        &[
+            ("(create 0 8 ro fresh)", Ok(1)),
+            ("(read 1 0 1)", Err(16)),
+            ("(write 1 0 1)", Err(7)),
+            ("(borrow 1 0 8 rw)", Err(7)),
+            ("(borrow 1 0 4 ro cell)", Ok(2)),
+            ("(read 2 0 4)", Err(16)),
+            ("(read 2 4 0)", Ok(0)),
+        ],
+        "(issued 2)\n(1 0 8 ro fresh (2 0 4 ro cell fresh))\n",
+    ),
+    (
+        "16 stands after 3, 4, 5 and 6",
+        &[
+            ("(create 0 8 rw fresh)", Ok(1)),
+            ("(create 8 8 rw fresh)", Ok(2)),
+            ("(drop 2)", Ok(0)),
+            ("(read 1 4294967295 2)", Err(3)),
+            ("(read 3 0 1)", Err(4)),
+            ("(read 0 0 1)", Err(4)),
+            ("(read 2 8 1)", Err(5)),
+            ("(read 1 8 1)", Err(6)),
+            ("(read 1 0 9)", Err(6)),
+            ("(read 1 0 8)", Err(16)),
+        ],
+        "(issued 2)\n(1 0 8 rw fresh)\n",
+    ),
+    (
+        "what is refused writes and clears nothing",
+        &[
+            ("(create 0 8 rw fresh)", Ok(1)),
+            ("(write 1 0 9)", Err(6)),
+            ("(read 1 0 1)", Err(16)),
+            ("(write 1 0 8)", Ok(0)),
+            ("(create 0 4294967295 rw fresh)", Err(3)),
+            ("(create 4294967295 2 rw)", Err(3)),
+            ("(read 1 0 8)", Ok(0)),
+        ],
+        "(issued 1)\n(1 0 8 rw fresh)\n",
+    ),
+    (
+        "kinds with marks, written in pieces",
+        &[
+            ("(create 0 32 rw fresh)", Ok(1)),
+            ("(borrow 1 4 20 rw raw)", Ok(2)),
+            ("(borrow 2 8 8 rw cell)", Ok(3)),
+            ("(write 3 8 8)", Ok(0)),
+            ("(read 2 8 8)", Ok(0)),
+            ("(read 1 7 9)", Err(16)),
+            ("(write 2 4 4)", Ok(0)),
+            ("(read 1 4 12)", Ok(0)),
+            ("(read 1 4 13)", Err(16)),
+        ],
+        "(issued 3)\n(1 0 32 rw fresh (2 4 20 rw raw fresh (3 8 8 ro cell fresh)))\n",
+    ),
+    (
+        "fresh capabilities of length 0",
+        &[
+            ("(create 5 0 rw fresh)", Ok(1)),
+            ("(write 1 5 0)", Ok(0)),
+            ("(read 1 5 0)", Ok(0)),
+            ("(read 1 5 1)", Err(6)),
+            ("(create 0 8 rw fresh)", Ok(2)),
+            ("(write 2 4 0)", Ok(0)),
+            ("(read 2 4 0)", Ok(0)),
+            ("(read 2 4 1)", Err(16)),
+            ("(create 4 0 ro)", Ok(3)),
+        ],
+        "(issued 3)\n(1 5 0 rw fresh)\n(2 0 8 rw fresh)\n(3 4 0 ro)\n",
+    ),
+];
+
 /// What a trace shows, the text of its sheet, its lines, and the listing that they leave.
 pub type SheetTrace = (&'static str, &'static str, &'static [Step], &'static str);
 
@@ -308,7 +503,7 @@ const STRANGERS_WRITE: &str = "\
 ";
 
 /// Traces by sheets, on six rows or more with no name issued.
-pub const SHEETS: [SheetTrace; 7] = [
+pub const SHEETS: [SheetTrace; 8] = [
     (
         "a sheet that keeps all",
         KEEP_ALL,
@@ -325,6 +520,26 @@ pub const SHEETS: [SheetTrace; 7] = [
             ("(write 4 0 8)", Ok(0)),
         ],
         "(issued 4)\n(1 0 64 rw (2 0 8 rw) (3 0 8 rw))\n(4 0 8 rw)\n",
+    ),
+    (
+        "marked and not marked side by side, where all is kept",
+        KEEP_ALL,
+        &[
+            ("(create 0 8 rw fresh)", Ok(1)),
+            ("(create 4 8 rw)", Ok(2)),
+            ("(read 2 4 8)", Ok(0)),
+            ("(read 1 4 2)", Err(16)),
+            ("(write 2 4 2)", Ok(0)),
+            ("(read 1 4 2)", Ok(0)),
+            ("(write 1 0 4)", Ok(0)),
+            ("(read 1 0 6)", Ok(0)),
+            ("(read 1 0 8)", Err(16)),
+            ("(create 0 1 rw)", Ok(3)),
+            ("(read 1 0 1)", Err(16)),
+            ("(write 3 0 1)", Ok(0)),
+            ("(read 1 0 6)", Ok(0)),
+        ],
+        "(issued 3)\n(1 0 8 rw fresh)\n(2 4 8 rw)\n(3 0 1 rw)\n",
     ),
     (
         "reads that end",

@@ -1,5 +1,5 @@
-//! The values of document 01 and of cards 1, 5, 6 and 7: limits, rights, kinds, rows, tallies, events and
-//! the numbers of refusals.
+//! The values of document 01 and of cards 1, 5, 6, 7 and 9: limits, rights, kinds, marks, rows, tallies,
+//! events and the numbers of refusals.
 
 use crate::span::Span;
 
@@ -19,7 +19,10 @@ pub const REFERENCE: u32 = 0;
 pub const RAW: u32 = 1;
 pub const CELL: u32 = 2;
 
-/// The number of a refusal, 1 to 15.
+/// Card 9: the mark of what has to be written before it is read.
+pub const FRESH: u32 = 1;
+
+/// The number of a refusal, 1 to 16.
 pub type Refused = u8;
 
 /// A row of a table, or of the history's.
@@ -32,6 +35,8 @@ pub struct Row {
     pub right: u32,
     pub depth: u32,
     pub kind: u32,
+    /// The mark: 0 or `FRESH`.
+    pub fresh: u32,
 }
 
 impl Row {
@@ -61,6 +66,8 @@ pub enum Event {
         written: Option<u32>,
         span: Span,
         right: u8,
+        /// The mark of what is made. A borrow has none: it carries its parent's.
+        fresh: u32,
     },
     Borrow {
         written: Option<u32>,
@@ -87,8 +94,8 @@ pub enum Event {
 
 impl Event {
     /// The event of the C interface's values, with a written name or without; those that the event
-    /// lacks are not looked at. The first number says which event it is, the last the kind of what a
-    /// borrow makes.
+    /// lacks are not looked at. The first number says which event it is, the last two the kind of what a
+    /// borrow makes and the mark of what a create makes.
     pub fn from_fields(
         event: u8,
         written: Option<u32>,
@@ -96,12 +103,14 @@ impl Event {
         span: Span,
         right: u8,
         kind: u32,
+        fresh: u32,
     ) -> Event {
         match event {
             1 => Event::Create {
                 written,
                 span,
                 right,
+                fresh,
             },
             2 => Event::Borrow {
                 written,
@@ -134,14 +143,17 @@ impl Event {
         }
     }
 
-    /// The same, and after them whether a new name is written and which, and the kind of what a borrow
-    /// makes, as the C interface has it.
-    pub fn words(self) -> [u32; 8] {
+    /// The same, and after them whether a new name is written and which, the kind of what a borrow makes and
+    /// the mark of what a create makes, as the C interface has it.
+    pub fn words(self) -> [u32; 9] {
         let [event, name, start, length, right] = self.fields();
         let named = u32::from(self.written().is_some());
         let written = self.written().unwrap_or(0);
         let kind = self.kind().unwrap_or(0);
-        [event, name, start, length, right, named, written, kind]
+        let fresh = self.fresh().unwrap_or(0);
+        [
+            event, name, start, length, right, named, written, kind, fresh,
+        ]
     }
 
     /// The name that the event carries for what it makes.
@@ -164,6 +176,14 @@ impl Event {
     pub fn kind(self) -> Option<u32> {
         match self {
             Event::Borrow { kind, .. } => Some(kind),
+            _ => None,
+        }
+    }
+
+    /// The mark that the event asks for, in the one event that has one.
+    pub fn fresh(self) -> Option<u32> {
+        match self {
+            Event::Create { fresh, .. } => Some(fresh),
             _ => None,
         }
     }

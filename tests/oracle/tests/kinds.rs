@@ -1,55 +1,18 @@
 //! Card 6: kinds and how they are written, sentence by sentence, and traces of what is struck, each taken
 //! on a table and beside its history.
 
+mod both;
+
+use both::{Both, ROWS, after, event};
 use oracle::traces::{KINDS, Step};
 use oracle::{
-    CELL, Event, History, RAW, READ_WRITE, REFERENCE, Row, Span, Spelling, Tally, apply,
+    CELL, Event, RAW, READ_WRITE, REFERENCE, Row, Span, Spelling, Tally, Written, apply,
     event_line, in_order, listing, read_event_line, read_listing,
 };
-
-const ROWS: usize = 8;
-
-/// A table, its tally, and its history.
-struct Both {
-    rows: Vec<Row>,
-    tally: Tally,
-    history: History,
-}
-
-impl Both {
-    fn empty() -> Both {
-        Both {
-            rows: vec![Row::default(); ROWS],
-            tally: Tally::default(),
-            history: History::new(ROWS),
-        }
-    }
-
-    fn answer(&mut self, event: Event) -> Result<u32, u8> {
-        let answer = apply(&mut self.rows, &mut self.tally, event);
-        assert_eq!(answer, self.history.answer(event), "{event:?}");
-        assert_eq!(self.rows, self.history.table(), "{event:?}");
-        answer
-    }
-}
-
-/// What lines leave, each with the answer that it should have.
-fn after(steps: &[Step]) -> Both {
-    let mut both = Both::empty();
-    for (line, expected) in steps {
-        assert_eq!(both.answer(event(line)), *expected, "{line}");
-    }
-    both
-}
 
 fn listed(steps: &[Step]) -> String {
     let Both { rows, tally, .. } = after(steps);
     listing(&rows, tally.issued)
-}
-
-fn event(line: &str) -> Event {
-    let line = format!("{line}\n");
-    read_event_line(line.as_bytes(), Spelling::Plain).expect("a line")
 }
 
 fn borrow(written: Option<u32>, parent: u32, kind: u32) -> Event {
@@ -171,7 +134,9 @@ fn other_kinds_in_rows_are_refused() {
                 issued: 2,
                 ..Tally::default()
             };
-            assert_eq!(apply(&mut rows, &mut tally, event("(drop 1)")), Err(1));
+            let mut written = Written::default();
+            let answer = apply(&mut rows, Some(&mut written), &mut tally, event("(drop 1)"));
+            assert_eq!(answer, Err(1));
         }
     }
     let mut rows = of_kinds(REFERENCE, REFERENCE);

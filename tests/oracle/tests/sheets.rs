@@ -1,10 +1,11 @@
 //! Card 7: texts of sheets, sentence by sentence, and traces by sheets, each taken on a table and beside
 //! its history.
 
-use oracle::traces::{KINDS, SHEETS, Step};
+use oracle::traces::{KINDS, MARKS, SHEETS, Step};
 use oracle::{
     Access, CARD_6, CELL, Event, History, Outcome, RAW, REFERENCE, Row, Sheet, Source, Span,
-    Spelling, Tally, apply_by, combinations, listing, read_event_line, read_strikes, write_sheet,
+    Spelling, Tally, Written, apply_by, combinations, listing, read_event_line, read_strikes,
+    write_sheet,
 };
 
 const ROWS: usize = 8;
@@ -20,13 +21,16 @@ fn event(line: &str) -> Event {
 /// The listing that lines leave by a sheet, each with the answer that it should have.
 fn listed(sheet: &Sheet, steps: &[Step]) -> String {
     let mut rows = vec![Row::default(); ROWS];
+    let mut written = Written::default();
     let mut tally = Tally::default();
     let mut history = History::by(sheet.clone(), ROWS);
     for (line, expected) in steps {
-        let answer = apply_by(Some(sheet), &mut rows, &mut tally, event(line));
+        let lent = Some(&mut written);
+        let answer = apply_by(Some(sheet), &mut rows, lent, &mut tally, event(line));
         assert_eq!(answer, *expected, "{line}");
         assert_eq!(history.answer(event(line)), *expected, "{line}");
         assert_eq!(history.table(), rows, "{line}");
+        assert_eq!(history.written(), written, "{line}");
     }
     listing(&rows, tally.issued)
 }
@@ -42,7 +46,7 @@ fn every_trace_goes_as_it_says() {
 #[test]
 fn the_sheet_of_card_6_gives_its_verdicts() {
     let sheet = Sheet::lent(&[]);
-    for (name, steps, expected) in KINDS {
+    for (name, steps, expected) in KINDS.into_iter().chain(MARKS) {
         assert_eq!(listed(&sheet, steps), expected, "{name}");
     }
     assert_eq!(sheet, Sheet::lent(&CARD_6_BYTES));
@@ -177,6 +181,7 @@ fn no_other_line_is_a_rule() {
 #[test]
 fn what_a_read_strikes() {
     let mut rows = vec![Row::default(); ROWS];
+    let mut written = Written::default();
     let mut tally = Tally::default();
     for line in [
         "(create 0 16 rw)",
@@ -186,7 +191,8 @@ fn what_a_read_strikes() {
         "(borrow 1 0 8 ro cell)",
         "(borrow 1 8 8 rw)",
     ] {
-        assert!(apply_by(None, &mut rows, &mut tally, event(line)).is_ok());
+        let lent = Some(&mut written);
+        assert!(apply_by(None, &mut rows, lent, &mut tally, event(line)).is_ok());
     }
     let live = &rows[..6];
     let struck = |sheet: Option<&Sheet>, user, start, length| {
