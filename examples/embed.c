@@ -42,7 +42,7 @@ static const struct entry entries[] = {
 };
 
 struct simulator {
-    kz_lent lent;              /* the table and its tally */
+    kz_lent lent;              /* the table, its written bits and its tally */
     uint32_t names[REGISTERS]; /* the name of the capability in each register */
 };
 
@@ -95,8 +95,9 @@ static void print_summary(const struct simulator *s) {
 
 int main(void) {
     static kz_cap table[ROWS]; /* all zeros: an empty table with no name issued */
+    static uint8_t bits[KZ_WRITTEN_BYTES]; /* all zeros: no address written */
     static kz_tally tally;
-    struct simulator s = {{table, ROWS, &tally, NULL}, {0}};
+    struct simulator s = {{table, ROWS, bits, sizeof bits, &tally, NULL}, {0}};
     size_t count = sizeof entries / sizeof entries[0];
     size_t i;
     for (i = 0; i < count; i++) {
