@@ -20,8 +20,24 @@ static const uint32_t names[] = {2, 3};
 
 static void events(void) {
     const kz_lent lent = kz_lend(&part);
-    static const kz_event event = {KZ_WRITE, 1, 0, 64, 0, 0, 0, 0, 0};
+    static const kz_event event = {KZ_WRITE, 1, 0, 64, 0, 0, 0, 0, 0, 0, 0, 0};
     kz_apply(&lent, &event);
+}
+
+/* The same with limits, of which domain 0 has all rows. */
+static uint32_t limits[KZ_DOMAINS] = {KZ_MAX_ROWS};
+
+static void events_in_limits(void) {
+    kz_lent lent = kz_lend(&part);
+    lent.limits = limits;
+    lent.limit_count = KZ_DOMAINS;
+    kz_write(&lent, 1, 0, 64);
+    kz_borrow(&lent, 1, 0, 64, KZ_RW);
+}
+
+static void charge(void) {
+    const kz_lent lent = kz_lend(&part);
+    kz_charge(&lent, 5);
 }
 
 static void drops(void) {
@@ -32,9 +48,9 @@ static void drops(void) {
 static void batch(void) {
     const kz_lent lent = kz_lend(&part);
     static const kz_event all[] = {
-        {KZ_READ, 5, 0, 64, 0, 0, 0, 0, 0},
-        {KZ_DROP_ALL, 0, 0, 2, 0, 0, 0, 0, 0},
-        {KZ_WRITE, 1, 0, 64, 0, 0, 0, 0, 0},
+        {KZ_READ, 5, 0, 64, 0, 0, 0, 0, 0, 0, 0, 0},
+        {KZ_DROP_ALL, 0, 0, 2, 0, 0, 0, 0, 0, 0, 0, 0},
+        {KZ_WRITE, 1, 0, 64, 0, 0, 0, 0, 0, 0, 0, 0},
     };
     static kz_answer answers[3];
     kz_apply_all(&lent, all, 3, names, 2, answers);
@@ -42,20 +58,21 @@ static void batch(void) {
 
 static void run(void) {
     const kz_lent lent = kz_lend(&part);
-    static const char lines[] = "(read 5 0 64)\n(drop 2 3)\n(write 1 0 64)\n";
+    static const char lines[] = "(read 5 0 64)\n(drop 2 3)\n(write 1 0 64)\n"
+                                "(borrow 1 0 64 rw raw 000000000000000f)\n(as 3 (drop 1025 1026))\n";
     kz_run(&lent, (const uint8_t *)lines, sizeof lines - 1);
 }
 
 static void write_event(void) {
-    static const kz_event event = {KZ_BORROW, 1, 0, 64, KZ_RW, 0, 0, KZ_CELL, 0};
+    static const kz_event event = {KZ_BORROW, 1, 0, 64, KZ_RW, 0, 0, KZ_CELL, 0, 3, 15, 0};
     static uint8_t out[KZ_MAX_LINE];
     kz_write_event(&event, NULL, 0, out, sizeof out);
 }
 
 static void read_event(void) {
-    static const char line[] = "(borrow 1 0 64 rw cell)\n";
-    static const char create[] = "(create 0 64 rw fresh)\n";
-    static const char drop[] = "(drop 2 3)\n";
+    static const char line[] = "(as 3 (borrow 1 0 64 rw cell 000000000000000f))\n";
+    static const char create[] = "(create 0 64 rw fresh 000000000000000f)\n";
+    static const char drop[] = "(as 3 (drop 2 3))\n";
     static kz_event event;
     static uint32_t found[KZ_MAX_GROUP];
     kz_read_event(0, (const uint8_t *)line, sizeof line - 1, &event, found);
@@ -81,7 +98,7 @@ static size_t sheet_len;
 
 static void events_by_sheet(void) {
     kz_lent lent = kz_lend(&part);
-    static const kz_event event = {KZ_WRITE, 1, 0, 64, 0, 0, 0, 0, 0};
+    static const kz_event event = {KZ_WRITE, 1, 0, 64, 0, 0, 0, 0, 0, 0, 0, 0};
     lent.sheet = &sheet;
     kz_apply(&lent, &event);
 }
@@ -154,7 +171,8 @@ int main(void) {
         {"kz_run", run},                {"kz_write_event", write_event},
         {"kz_read_event", read_event},  {"kz_write_listing", write_listing},
         {"kz_read_listing", read_listing}, {"kz_check", check},
-        {"kz_apply, a sheet", events_by_sheet}, {"kz_write_sheet", write_sheet},
+        {"kz_apply, a sheet", events_by_sheet}, {"kz_apply, limits", events_in_limits},
+        {"kz_charge", charge},          {"kz_write_sheet", write_sheet},
         {"kz_read_sheet", read_sheet},
     };
     deep_rows();

@@ -1,8 +1,9 @@
 /*
  * Times kz_abi_apply of two versions of the library side by side, in one process, in turns. The rows of
- * the other version may have another number of words; words that only one of the two has are 0. So no
- * row is fresh, and of the written bits, which an older version is not lent, the time is that of
- * following creates and writes.
+ * the other version may have another number of words; words that only one of the two has are 0, but that
+ * domain 0 holds what it made. So no row is fresh, of the written bits, which an older version is not lent,
+ * the time is that of following creates and writes, and of domains that of looking at a row's maker and
+ * holders.
  */
 #include <stdint.h>
 #include <stdio.h>
@@ -14,7 +15,7 @@
 
 enum { MOST_ROWS = 1024, COPIES = 32, BATCHES = 201, TALLY_WORDS = 7, MOST_WORDS = 16 };
 enum { CREATE = 1, BORROW, READ, WRITE, DROP };
-enum { NAME, PARENT, START, LENGTH, RIGHT, DEPTH };
+enum { NAME, PARENT, START, LENGTH, RIGHT, DEPTH, HOLDERS = 9 };
 
 static const uint32_t tree_length = 1u << 20;
 static const uint32_t beside = 1u << 21;
@@ -25,7 +26,16 @@ static uint8_t bits[KZ_WRITTEN_BYTES];
 /* One event by the default sheet. */
 typedef uint64_t apply_fn(uint32_t *table, size_t rows, uint32_t *tally, const uint32_t *event);
 
-#if defined OTHER_TAKES_BITS
+#if defined OTHER_TAKES_LIMITS
+uint64_t other_apply(uint32_t *table, size_t rows, uint8_t *written, size_t written_size,
+                     uint32_t *tally, const uint8_t *sheet, size_t sheet_len,
+                     const uint32_t *limits, size_t limit_count, const uint32_t *event,
+                     const uint32_t *names, size_t names_len);
+
+static uint64_t by_other(uint32_t *table, size_t rows, uint32_t *tally, const uint32_t *event) {
+    return other_apply(table, rows, bits, sizeof bits, tally, NULL, 0, NULL, 0, event, NULL, 0);
+}
+#elif defined OTHER_TAKES_BITS
 uint64_t other_apply(uint32_t *table, size_t rows, uint8_t *written, size_t written_size,
                      uint32_t *tally, const uint8_t *sheet, size_t sheet_len,
                      const uint32_t *event, const uint32_t *names, size_t names_len);
@@ -51,8 +61,8 @@ static uint64_t by_other(uint32_t *table, size_t rows, uint32_t *tally, const ui
 #endif
 
 static uint64_t by_this(uint32_t *table, size_t rows, uint32_t *tally, const uint32_t *event) {
-    return kz_abi_apply((kz_cap *)table, rows, bits, sizeof bits, (kz_tally *)tally, NULL, 0,
-                        (const kz_event *)event, NULL, 0);
+    return kz_abi_apply((kz_cap *)table, rows, bits, sizeof bits, (kz_tally *)tally, NULL, 0, NULL,
+                        0, (const kz_event *)event, NULL, 0);
 }
 
 typedef struct version {
@@ -78,6 +88,7 @@ static void two_trees(row *table, size_t live) {
         made[NAME] = (uint32_t)(2 * at + 1);
         made[RIGHT] = 2;
         made[DEPTH] = 1;
+        made[HOLDERS] = 1;
         made[START] = tree * tree_length;
         made[LENGTH] = tree_length;
         if (at >= 2) {
@@ -107,9 +118,9 @@ static void copy_rows(const version *v, uint32_t *to, const row *table, size_t r
         memcpy(to + i * v->row_words, table[i], v->row_words * sizeof *to);
 }
 
-/* The time of a batch of calls, each on a fresh copy of the table. */
+/* The time of a batch of calls, each on a fresh copy of the table, and their refusal. */
 static double batch(const version *v, const row *table, size_t rows, uint32_t issued,
-                    const uint32_t *event) {
+                    const uint32_t *event, uint32_t *refusal) {
     static uint32_t tables[COPIES][MOST_ROWS * MOST_WORDS];
     static uint32_t tallies[COPIES][TALLY_WORDS];
     for (int i = 0; i < COPIES; i++) {
@@ -117,17 +128,24 @@ static double batch(const version *v, const row *table, size_t rows, uint32_t is
         memset(tallies[i], 0, sizeof tallies[i]);
         tallies[i][0] = issued;
     }
+    uint64_t answers = 0;
     const double start = nanoseconds();
-    for (int i = 0; i < COPIES; i++) v->apply(tables[i], rows, tallies[i], event);
+    for (int i = 0; i < COPIES; i++) answers |= v->apply(tables[i], rows, tallies[i], event);
+    *refusal = (uint32_t)(answers >> 32);
     return (nanoseconds() - start) / COPIES;
 }
 
 static void compare(const char *what, const version *versions, const row *table, size_t rows,
                     uint32_t issued, const uint32_t *event) {
     static double times[2][BATCHES];
+    uint32_t refusals[2];
     for (int n = 0; n < BATCHES; n++)
         for (int v = 0; v < 2; v++)
-            times[v][n] = batch(&versions[v], table, rows, issued, event);
+            times[v][n] = batch(&versions[v], table, rows, issued, event, &refusals[v]);
+    if (refusals[0] != refusals[1]) {
+        fprintf(stderr, "%s: refusals %u and %u\n", what, (unsigned)refusals[0], (unsigned)refusals[1]);
+        exit(1);
+    }
     for (int v = 0; v < 2; v++) qsort(times[v], BATCHES, sizeof times[v][0], by_size);
     const double other = times[0][BATCHES / 2], this = times[1][BATCHES / 2];
     printf("%-8s %5zu %9.0f %9.0f %6.2f\n", what, rows, other, this, this / other);
@@ -141,9 +159,14 @@ int main(int argc, char **argv) {
     };
     static row table[MOST_ROWS];
     const uint32_t name = 1;
+    /* What is made is held by domain 0, which an older version does not look at. */
     const uint32_t events[6][MOST_WORDS] = {
-        {CREATE, 0, beside, 64, 2},          {BORROW, name, 0, 8, 2}, {READ, name, 0, tree_length},
-        {WRITE, name, 0, tree_length},       {DROP, name},            {READ, name, beside, 8},
+        {CREATE, 0, beside, 64, 2, 0, 0, 0, 0, 0, 1},
+        {BORROW, name, 0, 8, 2, 0, 0, 0, 0, 0, 1},
+        {READ, name, 0, tree_length},
+        {WRITE, name, 0, tree_length},
+        {DROP, name},
+        {READ, name, beside, 8},
     };
     const char *names[6] = {"create", "borrow", "read", "write", "drop", "refused"};
     printf("%-8s %5s %9s %9s %6s\n", "apply", "rows", "other ns", "this ns", "ratio");

@@ -42,7 +42,7 @@ static const struct entry entries[] = {
 };
 
 struct simulator {
-    kz_lent lent;              /* the table, its written bits and its tally */
+    kz_lent lent;              /* the table, its written bits and its tally; no sheet and no limits */
     uint32_t names[REGISTERS]; /* the name of the capability in each register */
 };
 
@@ -97,7 +97,7 @@ int main(void) {
     static kz_cap table[ROWS]; /* all zeros: an empty table with no name issued */
     static uint8_t bits[KZ_WRITTEN_BYTES]; /* all zeros: no address written */
     static kz_tally tally;
-    struct simulator s = {{table, ROWS, bits, sizeof bits, &tally, NULL}, {0}};
+    struct simulator s = {{table, ROWS, bits, sizeof bits, &tally, NULL, NULL, 0}, {0}};
     size_t count = sizeof entries / sizeof entries[0];
     size_t i;
     for (i = 0; i < count; i++) {

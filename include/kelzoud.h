@@ -2,7 +2,8 @@
  * Kelzoud: a capability table that revokes on use.
  *
  * The caller lends all memory: a table of capabilities, the written bits of its addresses, a tally of
- * events, a conflict sheet where the default one does not serve, texts and output buffers.
+ * events, a conflict sheet where the default one does not serve, a sheet of limits where domains are to
+ * have them, texts and output buffers.
  * The library keeps nothing between calls, allocates nothing and has no global state, so calls with
  * different memory may run at the same time on different threads.
  *
@@ -14,7 +15,7 @@
  *     them.
  *   - Whatever a call may write overlaps nothing else that the call is given.
  * Nothing else is asked. Every event, table, tally, sheet, line, text and listing gets an answer, and
- * so do any written bits, of whatever length.
+ * so do any written bits and any limits, of whatever length.
  *
  * A call answers with a kz_answer: a refusal, which is 0 when the call was allowed, and a value, as
  * each call says. A call that is refused changes nothing that was lent, except as kz_apply,
@@ -22,7 +23,7 @@
  *
  * First come the values and structs, then the calls, and at the end what the calls are made of, for
  * the foreign function interfaces of other languages. A program that makes no other calls than those
- * for events, kz_lend to kz_drop_all, may link libkelzoud-events.a in place of libkelzoud.a.
+ * for events, kz_lend to kz_charge, may link libkelzoud-events.a in place of libkelzoud.a.
  */
 #ifndef KELZOUD_H
 #define KELZOUD_H
@@ -40,15 +41,16 @@ enum {
     KZ_MAX_NAME = 1000000,        /* names that are ever given out */
     KZ_MAX_DEPTH = 64,            /* depth of a capability */
     KZ_MAX_GROUP = 64,            /* names that are dropped together */
+    KZ_DOMAINS = 64,              /* domains that act on a table, 0 to 63 */
     KZ_WRITTEN_BYTES = 8192,      /* bytes of written bits, no fewer and no more */
     KZ_WRITTEN_ADDRESSES = 65536, /* addresses that have a written bit, from 0 on */
     KZ_MAX_INPUT = 65536,         /* bytes of input that kz_check runs */
-    KZ_MAX_LINE = 50,             /* bytes of an event line, its newline included */
-    KZ_MAX_NAMED_LINE = 61,       /* the same where new names are written out */
-    KZ_MAX_DROP_LINE = 711,       /* the same of a line of KZ_MAX_GROUP names */
+    KZ_MAX_LINE = 75,             /* bytes of an event line, its newline included */
+    KZ_MAX_NAMED_LINE = 86,       /* the same where new names are written out */
+    KZ_MAX_DROP_LINE = 719,       /* the same of a line of KZ_MAX_GROUP names */
     KZ_MAX_SHEET = 1005,          /* bytes of the text that kz_write_sheet writes */
-    KZ_MAX_LISTING = 39949,       /* bytes of a listing */
-    KZ_MAX_CHECK = 39968          /* bytes that kz_check writes */
+    KZ_MAX_LISTING = 60429,       /* bytes of a listing */
+    KZ_MAX_CHECK = 60448          /* bytes that kz_check writes */
 };
 
 /* The first line of a text in which new names are written out. */
@@ -79,22 +81,27 @@ enum {
 
 /* The refusals in the order in which they are judged: where several apply, the first is given. */
 enum kz_refusal {
-    KZ_DISORDERED = 1,       /* the table is not in order, as kz_cap says, or has too many rows; or the
-                                written bits are not KZ_WRITTEN_BYTES bytes */
+    KZ_DISORDERED = 1,       /* the table is not in order, as kz_cap says, or has too many rows; the
+                                written bits are not KZ_WRITTEN_BYTES bytes; or the lent limits are
+                                not as kz_lent says */
     KZ_MISGROUPED = 13,      /* lent names: none, more than KZ_MAX_GROUP, or not strictly rising */
-    KZ_MISSPELT = 2,         /* text that is not spelled so; an unknown kind, right, cap_kind or mark */
+    KZ_MISSPELT = 2,         /* text that is not spelled so; an unknown kind, right, cap_kind, mark or
+                                domain; holders without the domain that acts */
     KZ_GIVEN_TWICE = 14,     /* a sheet's text gives a combination twice */
     KZ_NOT_GIVEN = 15,       /* a sheet's text leaves a combination out */
     KZ_ILLEGAL_SPAN = 3,     /* an end above 4,294,967,296; of a fresh create, above 65,536 */
     KZ_UNISSUED = 4,         /* name 0, or a name above the issued number */
     KZ_ENDED = 5,            /* a name that was issued, and whose capability has ended */
+    KZ_NOT_HOLDER = 17,      /* a capability that the domain that acts does not hold */
     KZ_OUTSIDE_SPAN = 6,     /* a span that is not inside the capability's */
     KZ_READ_ONLY = 7,        /* a write through a read-only capability, or a read-write borrow of it */
     KZ_NOT_WRITTEN = 16,     /* a read through a fresh capability of an address that is not written */
     KZ_TOO_DEEP = 8,         /* a borrow from depth KZ_MAX_DEPTH */
     KZ_NAMES_SPENT = 9,      /* a create or borrow when KZ_MAX_NAME names are issued */
     KZ_MISNAMED = 12,        /* a written new name that is not the issued number plus one */
-    KZ_TABLE_FULL = 10,      /* a create or borrow when no row is empty; a listing with too many rows */
+    KZ_TABLE_FULL = 10,      /* a create or borrow when no row is empty and no limits are lent; a listing
+                                with too many rows */
+    KZ_LIMIT_REACHED = 18,   /* a create or borrow of a domain that has reached its lent limit */
     KZ_BUFFER_TOO_SHORT = 11 /* a text that is longer than the output buffer */
 };
 
@@ -102,19 +109,28 @@ enum kz_refusal {
  * A capability. A table is a run of these: live capabilities stand first, in rising order of name,
  * and every later row is all zeros. A table is in order when it is so arranged, has at most
  * KZ_MAX_ROWS rows, and each row is as is said here, with no name above the issued number, nor that
- * above KZ_MAX_NAME; no span ends above 4,294,967,296, and that of a fresh one not above 65,536; and
- * what was borrowed has its parent in an earlier row, a span inside the parent's, a right not above it,
- * and the same mark.
+ * above KZ_MAX_NAME; no span ends above 4,294,967,296, and that of a fresh one not above 65,536; each
+ * is held by its maker; and what was borrowed has its parent in an earlier row, a span inside the
+ * parent's, a right not above it, and the same mark. Who made and who holds the parent is not asked.
+ *
+ * Up to KZ_DOMAINS domains act on one table: cores, processes, or whatever a tool tells apart. The
+ * domain that made a capability is its maker, and those that may use it are its holders, which the maker
+ * gives when it makes it, itself among them, and which never change. A set of holders is a number of 64
+ * bits, of which domain D has the one worth 2^D; in a row and in an event it stands in two halves, the
+ * lower and the higher 32 bits: see kz_holder. A tool that knows no domains is domain 0 throughout.
  */
 typedef struct kz_cap {
-    uint32_t name;   /* 1 to KZ_MAX_NAME, given out in order and never twice */
-    uint32_t parent; /* the name it was borrowed from, 0 for a created one */
-    uint32_t start;  /* the first address of its span */
-    uint32_t length; /* the number of addresses in its span, which may be 0 */
-    uint32_t right;  /* KZ_RO or KZ_RW */
-    uint32_t depth;  /* 1 for a created one, one more for each borrow, at most KZ_MAX_DEPTH */
-    uint32_t kind;   /* KZ_REFERENCE, KZ_RAW or KZ_CELL; a created one is a reference */
-    uint32_t fresh;  /* the mark: 1 where nothing is read through it before it is written, else 0 */
+    uint32_t name;         /* 1 to KZ_MAX_NAME, given out in order and never twice */
+    uint32_t parent;       /* the name it was borrowed from, 0 for a created one */
+    uint32_t start;        /* the first address of its span */
+    uint32_t length;       /* the number of addresses in its span, which may be 0 */
+    uint32_t right;        /* KZ_RO or KZ_RW */
+    uint32_t depth;        /* 1 for a created one, one more for each borrow, at most KZ_MAX_DEPTH */
+    uint32_t kind;         /* KZ_REFERENCE, KZ_RAW or KZ_CELL; a created one is a reference */
+    uint32_t fresh;        /* the mark: 1 where nothing is read through it before it is written, else 0 */
+    uint32_t maker;        /* the domain that made it, 0 to 63 */
+    uint32_t holders_low;  /* its holders: domain D, from 0 to 31, has the bit worth 2^D here */
+    uint32_t holders_high; /* and domain D from 32 to 63 the bit worth 2^(D - 32) here */
 } kz_cap;
 
 /*
@@ -164,8 +180,9 @@ typedef struct kz_sheet {
 
 /*
  * What a caller lends for events: a table of `rows` rows, 0 to KZ_MAX_ROWS of them, its written bits,
- * its tally, and the conflict sheet by which events are carried out, NULL for the default one. Begin
- * with all zeros here too, and set the fields by name; all but the sheet are needed.
+ * its tally, the conflict sheet by which events are carried out, NULL for the default one, and a sheet of
+ * limits, or none. Begin with all zeros here too, and set the fields by name; all but the sheet and the
+ * limits are needed.
  *
  * The written bits say which addresses were written since they were last created over: 1 for written.
  * They are KZ_WRITTEN_BYTES bytes, all zeros at first. Address A, from 0 to 65,535, has the bit worth
@@ -175,8 +192,19 @@ typedef struct kz_sheet {
  * capability reaches them.
  *
  * One table's bits belong to it throughout: lend the same ones with every event, also where nothing is
- * fresh. With any other `written_size` than KZ_WRITTEN_BYTES every event and run is KZ_DISORDERED; what
- * the bits are is taken as it stands. The calls for listings look at neither.
+ * fresh. Tables that stand for parts of one memory, each with its own allocations, share them. With any
+ * other `written_size` than KZ_WRITTEN_BYTES every event and run is KZ_DISORDERED; what the bits are is
+ * taken as it stands.
+ *
+ * A sheet of limits has a number for each domain, that of domain D at place D: how many capabilities that
+ * it made may live at once. There are KZ_DOMAINS of them, and `limit_count` is that; where it is 0 none
+ * is lent, and `limits` may be NULL. With any other count, with a sum above `rows`, or where some domain
+ * has made more live ones than its limit already, every event and run is KZ_DISORDERED. So a domain below
+ * its limit always has an empty row, whatever the others do: where limits are lent KZ_TABLE_FULL is never
+ * given, and a create or borrow of a domain at its limit is KZ_LIMIT_REACHED. What a domain makes for
+ * others to hold counts for itself alone.
+ *
+ * The calls for listings, and kz_charge, look neither at the bits nor at the limits.
  */
 typedef struct kz_lent {
     kz_cap *table;
@@ -185,9 +213,11 @@ typedef struct kz_lent {
     size_t written_size; /* KZ_WRITTEN_BYTES */
     kz_tally *tally;
     const kz_sheet *sheet;
+    const uint32_t *limits;
+    size_t limit_count; /* KZ_DOMAINS, or 0 where no limits are lent */
 } kz_lent;
 
-/* All memory for a table of KZ_MAX_ROWS rows but for a sheet, all zeros at first: see kz_lend. */
+/* All memory for a table of KZ_MAX_ROWS rows but for sheets, all zeros at first: see kz_lend. */
 typedef struct kz_part {
     kz_cap table[KZ_MAX_ROWS];
     uint8_t written[KZ_WRITTEN_BYTES];
@@ -198,10 +228,10 @@ typedef struct kz_part {
  * One event. What a kind lacks is 0 where an event is read, and not looked at where one is given:
  *
  *   KZ_CREATE    start length right fresh  a new root, newly allocated, as a write through it would
- *                                          be: ends every capability that is touched, of whatever kind,
- *                                          and its subtree
+ *                holders                   be: ends every capability that is touched, of whatever kind,
+ *                                          whoever holds it, and its subtree
  *   KZ_BORROW    name start length right   a new capability of kind `cap_kind` under a live one, with
- *                cap_kind                  its mark; takes nothing away
+ *                cap_kind holders          its mark; takes nothing away
  *   KZ_READ      name start length         lowers to read-only every capability that it strikes, and
  *                                          its subtree
  *   KZ_WRITE     name start length         ends every capability that it strikes, and its subtree
@@ -236,18 +266,28 @@ typedef struct kz_part {
  * is that name. Where it is not the issued number plus one, as 0 never is, the event is refused
  * KZ_MISNAMED. The other kinds lack both.
  *
+ * Every kind has an `actor`, the domain that acts: 0 to 63, else the event is KZ_MISSPELT. What it goes
+ * through, and each name that it drops, it must hold: KZ_NOT_HOLDER. What it makes has it as its maker,
+ * and has the holders that the event gives. These must have the actor among them, else the event is
+ * KZ_MISSPELT: so zeros are not enough for a create or borrow, and an event of domain 0 that nobody else
+ * is to use says 1 in `holders_low`. kz_by sets all three words. A borrow may give holders that its parent
+ * has not.
+ *
  * Begin with all zeros: later releases add fields, in which 0 asks for what is said here.
  */
 typedef struct kz_event {
-    uint32_t kind;     /* KZ_CREATE to KZ_DROP_ALL */
-    uint32_t name;     /* the capability that the event goes through */
-    uint32_t start;    /* the first address of its span, or the first place of its names, from 0 */
-    uint32_t length;   /* how many addresses, or how many names */
-    uint32_t right;    /* KZ_RO or KZ_RW */
-    uint32_t named;    /* not 0 where a new name is written out */
-    uint32_t written;  /* the new name that is written out */
-    uint32_t cap_kind; /* of what a borrow makes: KZ_REFERENCE, KZ_RAW or KZ_CELL */
-    uint32_t fresh;    /* of what a create makes: 1 for write before read, else 0 */
+    uint32_t kind;         /* KZ_CREATE to KZ_DROP_ALL */
+    uint32_t name;         /* the capability that the event goes through */
+    uint32_t start;        /* the first address of its span, or the first place of its names, from 0 */
+    uint32_t length;       /* how many addresses, or how many names */
+    uint32_t right;        /* KZ_RO or KZ_RW */
+    uint32_t named;        /* not 0 where a new name is written out */
+    uint32_t written;      /* the new name that is written out */
+    uint32_t cap_kind;     /* of what a borrow makes: KZ_REFERENCE, KZ_RAW or KZ_CELL */
+    uint32_t fresh;        /* of what a create makes: 1 for write before read, else 0 */
+    uint32_t actor;        /* the domain that acts, 0 to 63 */
+    uint32_t holders_low;  /* of what a create or borrow makes: the lower half of its holders */
+    uint32_t holders_high; /* and the higher half, as in a kz_cap */
 } kz_event;
 
 /* An answer. */
@@ -256,8 +296,29 @@ typedef struct kz_answer {
     uint32_t value;   /* as each call says */
 } kz_answer;
 
-/* The whole of a part, lent with the default sheet. Set `sheet` of what is returned to use another. */
+/* What a capability's holders are charged: see kz_charge. */
+typedef struct kz_shares {
+    uint32_t refusal; /* 0 for allowed, else a kz_refusal; then the others are 0 */
+    uint32_t share;   /* what each holder is charged */
+    uint32_t rest;    /* what is left over, less than there are holders */
+} kz_shares;
+
+/* The whole of a part, lent with the default sheet and without limits. Set `sheet`, or `limits` and
+   `limit_count`, of what is returned to use others. */
 static inline kz_lent kz_lend(kz_part *part);
+
+/*
+ * Sets of holders, as one number of 64 bits: that of one domain, of which several are put together by
+ * `|`; that of a list of domains; and that of a row. A number above 63 is no domain: alone it gives the
+ * empty set, 0, and so does a list with such a number, so that no create or borrow is allowed with it.
+ */
+static inline uint64_t kz_holder(uint32_t domain);
+static inline uint64_t kz_holders(const uint32_t *domains, size_t count);
+static inline uint64_t kz_holders_of(const kz_cap *row);
+
+/* The event with this actor, and with these holders of what it makes. Where it makes nothing they are not
+   looked at, and may be 0. */
+static inline kz_event kz_by(kz_event event, uint32_t actor, uint64_t holders);
 
 /*
  * The place of a combination in a sheet: a kind of capability, KZ_READ or KZ_WRITE, and KZ_FROM_CELL to
@@ -287,15 +348,16 @@ static inline kz_answer kz_apply(const kz_lent *lent, const kz_event *event);
  * the end of the list has no names: KZ_MISGROUPED.
  *
  * `answers` gets the answer to each event, at the same place. The number of events is returned. What is
- * lent is judged once, before the first: where the table is not in order, or the written bits are not
- * KZ_WRITTEN_BYTES, every answer is KZ_DISORDERED, and nothing else is changed.
+ * lent is judged once, before the first: where the table is not in order, the written bits are not
+ * KZ_WRITTEN_BYTES, or the limits are refused, every answer is KZ_DISORDERED, and nothing else is
+ * changed.
  */
 static inline size_t kz_apply_all(const kz_lent *lent, const kz_event *events, size_t count,
                                   const uint32_t *names, size_t names_len, kz_answer *answers);
 
 /* kz_apply for each kind, with the values that the kind has, and no written name. What kz_create makes
    may be read unwritten; what kz_create_fresh makes may not. What kz_borrow makes is a reference;
-   kz_borrow_as is told the kind. */
+   kz_borrow_as is told the kind. All act as domain 0, which alone holds what they make. */
 static inline kz_answer kz_create(const kz_lent *lent, uint32_t start, uint32_t length,
                                   uint32_t right);
 static inline kz_answer kz_create_fresh(const kz_lent *lent, uint32_t start, uint32_t length,
@@ -310,18 +372,48 @@ static inline kz_answer kz_write(const kz_lent *lent, uint32_t name, uint32_t st
                                  uint32_t length);
 static inline kz_answer kz_drop(const kz_lent *lent, uint32_t name);
 
+/* The same by any domain: `actor` acts, and what it makes is held by `holders`, the actor among them, as
+   kz_holder(actor) | kz_holder(other) is. */
+static inline kz_answer kz_create_by(const kz_lent *lent, uint32_t actor, uint64_t holders,
+                                     uint32_t start, uint32_t length, uint32_t right);
+static inline kz_answer kz_create_fresh_by(const kz_lent *lent, uint32_t actor, uint64_t holders,
+                                           uint32_t start, uint32_t length, uint32_t right);
+static inline kz_answer kz_borrow_by(const kz_lent *lent, uint32_t actor, uint64_t holders,
+                                     uint32_t name, uint32_t start, uint32_t length,
+                                     uint32_t right);
+static inline kz_answer kz_borrow_as_by(const kz_lent *lent, uint32_t actor, uint64_t holders,
+                                        uint32_t name, uint32_t start, uint32_t length,
+                                        uint32_t right, uint32_t kind);
+static inline kz_answer kz_read_by(const kz_lent *lent, uint32_t actor, uint32_t name,
+                                   uint32_t start, uint32_t length);
+static inline kz_answer kz_write_by(const kz_lent *lent, uint32_t actor, uint32_t name,
+                                    uint32_t start, uint32_t length);
+static inline kz_answer kz_drop_by(const kz_lent *lent, uint32_t actor, uint32_t name);
+
 /*
  * Capabilities dropped together, as when a function returns: `names` has 1 to KZ_MAX_GROUP names,
  * each above the one before it. All are judged on the table before the call, in their order, and
  * either all are dropped, with their subtrees, or none. So a name may be below another of the list.
- * The table is then as after kz_drop of each in falling order. One name is kz_drop.
+ * The table is then as after kz_drop of each in falling order. One name is kz_drop. The actor must hold
+ * each of the names, and need not hold what is below them; without one it is domain 0.
  *
  * Allowed: the value is 0. The tally counts one drop, however many names there are.
- * Refused, with value 0: KZ_DISORDERED changes nothing. KZ_MISGROUPED for any other list, else the
- * first name that is refused gives KZ_UNISSUED or KZ_ENDED; these add one to the refused count and
- * change nothing else.
+ * Refused, with value 0: KZ_DISORDERED changes nothing. KZ_MISGROUPED for any other list, else
+ * KZ_MISSPELT for an actor above 63, else the first name that is refused gives KZ_UNISSUED, KZ_ENDED or
+ * KZ_NOT_HOLDER; these add one to the refused count and change nothing else.
  */
 static inline kz_answer kz_drop_all(const kz_lent *lent, const uint32_t *names, size_t count);
+static inline kz_answer kz_drop_all_by(const kz_lent *lent, uint32_t actor, const uint32_t *names,
+                                       size_t count);
+
+/*
+ * What the holders of a live capability are charged for it: its length in equal shares, `share` for each,
+ * and `rest` addresses are left over. So the length is `share` times the number of holders, plus `rest`.
+ *
+ * Refused: KZ_DISORDERED for a table that is not in order, else KZ_UNISSUED or KZ_ENDED. Nothing is
+ * changed, and nothing counted; neither the written bits, the limits nor who asks are looked at.
+ */
+static inline kz_shares kz_charge(const kz_lent *lent, uint32_t name);
 
 /*
  * A run of event lines, until one is refused. The table and the written bits are then as after the last
@@ -344,16 +436,19 @@ static inline kz_answer kz_run(const kz_lent *lent, const uint8_t *text, size_t 
  * `(borrow NAME START LENGTH RIGHT)`, `(read NAME START LENGTH)`, `(write NAME START LENGTH)` and
  * `(drop NAME)`; with a written name `(create WRITTEN START LENGTH RIGHT)` and
  * `(borrow WRITTEN NAME START LENGTH RIGHT)`; and `(drop NAME .. NAME)` of a KZ_DROP_ALL, whose names
- * stand in `names` as for kz_apply_all. Of one name that is the line of KZ_DROP. The line of a create
- * ends in ` fresh)` where its `fresh` is 1. That of a borrow ends in ` raw)` or ` cell)` where that is
- * its `cap_kind`; that it is a reference is not written, nor which mark it has from its parent. Any
- * numbers may be written; whether they are right is judged on a table.
+ * stand in `names` as for kz_apply_all. Of one name that is the line of KZ_DROP. Behind the right a create
+ * has ` fresh` where its `fresh` is 1, and a borrow ` raw` or ` cell` where that is its `cap_kind`; that
+ * it is a reference is not written, nor which mark it has from its parent. Last come the holders, as 16
+ * digits 0 to 9 and a to f, the highest first; where the actor alone holds what is made they are not
+ * written. The line of any other actor than 0 is `(as ACTOR LINE)`, as in `(as 3 (read 2 0 8))`. Any
+ * other numbers may be written; whether they are right is judged on a table.
  *
  * Allowed: the value is the length written, at most KZ_MAX_LINE, KZ_MAX_NAMED_LINE with a written
  * name, and KZ_MAX_DROP_LINE of a KZ_DROP_ALL.
  * Refused: KZ_MISGROUPED for a KZ_DROP_ALL of no name, of more than KZ_MAX_GROUP, or of names that do
- * not rise strictly; KZ_MISSPELT for an unknown kind or right, and for a `cap_kind` or `fresh` that the
- * event has and that is none; else KZ_BUFFER_TOO_SHORT. `out` is untouched.
+ * not rise strictly; KZ_MISSPELT for an unknown kind, right or actor, for a `cap_kind` or `fresh` that
+ * the event has and that is none, and for holders without the actor; else KZ_BUFFER_TOO_SHORT. `out` is
+ * untouched.
  */
 static inline kz_answer kz_write_event(const kz_event *event, const uint32_t *names,
                                        size_t names_len, uint8_t *out, size_t out_len);
@@ -363,9 +458,10 @@ static inline kz_answer kz_write_event(const kz_event *event, const uint32_t *na
  * in which new names are written out, else one of a text in which none is. Reads, writes and drops are
  * the same in both. `names` has room for KZ_MAX_GROUP.
  *
- * Allowed: the value is 0. `event` gets the event, with 0 for what its kind lacks and 1 in `named`
- * where a new name was read. A line of two names or more is a KZ_DROP_ALL from place 0 on: `names`
- * gets its names, and those after them stay. Of any other line `names` is untouched.
+ * Allowed: the value is 0. `event` gets the event, with 0 for what its kind lacks, 1 in `named` where a
+ * new name was read, and the holders of what it makes, written or not. A line of two names or more is a
+ * KZ_DROP_ALL from place 0 on: `names` gets its names, and those after them stay. Of any other line
+ * `names` is untouched.
  * Refused: KZ_MISSPELT, as of names that do not rise strictly or are too many. `event` and `names` are
  * untouched.
  */
@@ -375,9 +471,10 @@ static inline kz_answer kz_read_event(uint32_t named, const uint8_t *line, size_
 /*
  * Writes the listing of a table and of its tally's issued number to the start of `out`; the bytes
  * after it stay. It is `(issued N)`, then a line for each created capability by rising name: its name,
- * start, length, right, `raw` or `cell` where that is its kind, `fresh` where it is marked, and those
- * borrowed from it in the same form, as in `(1 0 64 rw (2 0 8 rw raw (3 0 4 ro)) (4 8 8 ro cell))` and
- * `(1 0 8 rw fresh (2 0 4 ro cell fresh))`. The written bits are not in it.
+ * start, length, right, `raw` or `cell` where that is its kind, `fresh` where it is marked, its maker,
+ * its holders in 16 digits, and those borrowed from it in the same form, as in
+ * `(1 0 64 rw 0 0000000000000009 (2 0 8 rw raw 3 0000000000000008))`, whose 1 was made by domain 0 for
+ * itself and domain 3, and 2 by domain 3 for itself. The written bits are not in it.
  *
  * Allowed: the value is the length written.
  * Refused: KZ_DISORDERED, else KZ_BUFFER_TOO_SHORT. `out` is untouched.
@@ -425,8 +522,8 @@ static inline kz_answer kz_write_sheet(const kz_sheet *sheet, uint8_t *out, size
 /*
  * Writes what the program capcheck prints for an input to the start of `out`; the bytes after it
  * stay. That is `(allowed LINES)` or `(refused NUMBER LINE)` for a run on KZ_MAX_ROWS empty rows, with
- * no address written, by the default sheet, and the listing after it, or `(long)` alone for an input
- * above KZ_MAX_INPUT bytes.
+ * no address written, by the default sheet and without limits, and the listing after it, or `(long)`
+ * alone for an input above KZ_MAX_INPUT bytes.
  *
  * Allowed: the value is the length written, whatever the run's own verdict.
  * Refused: KZ_BUFFER_TOO_SHORT. `out` is untouched.
@@ -440,8 +537,9 @@ static inline kz_answer kz_check(const uint8_t *input, size_t input_len, uint8_t
  * structs is a run of 32-bit words without gaps, and each length is a size_t. Written bits are bytes
  * and how many they are, which must be KZ_WRITTEN_BYTES. A sheet is its bytes and how many they are:
  * none is the default one, of fewer than KZ_SHEET_PLACES the missing ones count as KZ_END, and of more
- * the first count. An answer is one number, the refusal times 2^32 plus the value; only
- * kz_abi_apply_all writes kz_answer structs.
+ * the first count. Limits are 32-bit numbers and how many they are, none or KZ_DOMAINS. An answer is one
+ * number, the refusal times 2^32 plus the value; only kz_abi_apply_all writes kz_answer structs, and
+ * kz_abi_charge a kz_shares.
  */
 
 /* Both archives. */
@@ -449,7 +547,8 @@ static inline kz_answer kz_check(const uint8_t *input, size_t input_len, uint8_t
 /* kz_apply; for a KZ_DROP_ALL `names` is the list in which its names stand. */
 uint64_t kz_abi_apply(kz_cap *table, size_t rows, uint8_t *written, size_t written_size,
                       kz_tally *tally, const uint8_t *sheet, size_t sheet_len,
-                      const kz_event *event, const uint32_t *names, size_t names_len);
+                      const uint32_t *limits, size_t limit_count, const kz_event *event,
+                      const uint32_t *names, size_t names_len);
 
 /*
  * kz_apply_all of as many events as there are answers for, or of all where there are more answers;
@@ -457,14 +556,19 @@ uint64_t kz_abi_apply(kz_cap *table, size_t rows, uint8_t *written, size_t writt
  */
 size_t kz_abi_apply_all(kz_cap *table, size_t rows, uint8_t *written, size_t written_size,
                         kz_tally *tally, const uint8_t *sheet, size_t sheet_len,
-                        const kz_event *events, size_t count, const uint32_t *names,
-                        size_t names_len, kz_answer *answers, size_t answers_len);
+                        const uint32_t *limits, size_t limit_count, const kz_event *events,
+                        size_t count, const uint32_t *names, size_t names_len, kz_answer *answers,
+                        size_t answers_len);
+
+/* kz_charge, which takes of the tally the issued number alone. */
+void kz_abi_charge(const kz_cap *table, size_t rows, uint32_t issued, uint32_t name,
+                   kz_shares *charge);
 
 /* libkelzoud.a alone. */
 
 uint64_t kz_abi_run(kz_cap *table, size_t rows, uint8_t *written, size_t written_size,
-                    kz_tally *tally, const uint8_t *sheet, size_t sheet_len, const uint8_t *text,
-                    size_t text_len);
+                    kz_tally *tally, const uint8_t *sheet, size_t sheet_len, const uint32_t *limits,
+                    size_t limit_count, const uint8_t *text, size_t text_len);
 
 uint64_t kz_abi_write_event(const kz_event *event, const uint32_t *names, size_t names_len,
                             uint8_t *out, size_t out_len);
@@ -494,8 +598,33 @@ static inline kz_answer kz_abi_answer(uint64_t answer) {
 
 static inline kz_lent kz_lend(kz_part *part) {
     const kz_lent lent = {part->table, KZ_MAX_ROWS, part->written, KZ_WRITTEN_BYTES, &part->tally,
-                          NULL};
+                          NULL,        NULL,        0};
     return lent;
+}
+
+static inline uint64_t kz_holder(uint32_t domain) {
+    return domain < KZ_DOMAINS ? (uint64_t)1 << domain : 0;
+}
+
+static inline uint64_t kz_holders(const uint32_t *domains, size_t count) {
+    uint64_t holders = 0;
+    size_t i;
+    for (i = 0; i < count; i++) {
+        if (domains[i] >= KZ_DOMAINS) return 0;
+        holders |= kz_holder(domains[i]);
+    }
+    return holders;
+}
+
+static inline uint64_t kz_holders_of(const kz_cap *row) {
+    return (uint64_t)row->holders_high << 32 | row->holders_low;
+}
+
+static inline kz_event kz_by(kz_event event, uint32_t actor, uint64_t holders) {
+    event.actor = actor;
+    event.holders_low = (uint32_t)(holders & 0xffffffffu);
+    event.holders_high = (uint32_t)(holders >> 32);
+    return event;
 }
 
 static inline size_t kz_sheet_place(uint32_t kind, uint32_t access, uint32_t from) {
@@ -511,73 +640,129 @@ static inline size_t kz_abi_places(const kz_sheet *sheet) {
     return sheet == NULL ? 0 : KZ_SHEET_PLACES;
 }
 
-static inline kz_answer kz_apply(const kz_lent *lent, const kz_event *event) {
+/* One event, and the list in which its names stand. */
+static inline kz_answer kz_abi_take(const kz_lent *lent, const kz_event *event,
+                                    const uint32_t *names, size_t names_len) {
     return kz_abi_answer(kz_abi_apply(lent->table, lent->rows, lent->written, lent->written_size,
                                       lent->tally, kz_abi_results(lent->sheet),
-                                      kz_abi_places(lent->sheet), event, NULL, 0));
+                                      kz_abi_places(lent->sheet), lent->limits, lent->limit_count,
+                                      event, names, names_len));
+}
+
+static inline kz_answer kz_apply(const kz_lent *lent, const kz_event *event) {
+    return kz_abi_take(lent, event, NULL, 0);
 }
 
 static inline size_t kz_apply_all(const kz_lent *lent, const kz_event *events, size_t count,
                                   const uint32_t *names, size_t names_len, kz_answer *answers) {
     return kz_abi_apply_all(lent->table, lent->rows, lent->written, lent->written_size, lent->tally,
-                            kz_abi_results(lent->sheet), kz_abi_places(lent->sheet), events, count,
-                            names, names_len, answers, count);
+                            kz_abi_results(lent->sheet), kz_abi_places(lent->sheet), lent->limits,
+                            lent->limit_count, events, count, names, names_len, answers, count);
 }
 
 static inline kz_answer kz_create(const kz_lent *lent, uint32_t start, uint32_t length,
                                   uint32_t right) {
-    const kz_event event = {KZ_CREATE, 0, start, length, right, 0, 0, 0, 0};
-    return kz_apply(lent, &event);
+    return kz_create_by(lent, 0, kz_holder(0), start, length, right);
 }
 
 static inline kz_answer kz_create_fresh(const kz_lent *lent, uint32_t start, uint32_t length,
                                         uint32_t right) {
-    const kz_event event = {KZ_CREATE, 0, start, length, right, 0, 0, 0, 1};
-    return kz_apply(lent, &event);
+    return kz_create_fresh_by(lent, 0, kz_holder(0), start, length, right);
 }
 
 static inline kz_answer kz_borrow(const kz_lent *lent, uint32_t name, uint32_t start,
                                   uint32_t length, uint32_t right) {
-    return kz_borrow_as(lent, name, start, length, right, KZ_REFERENCE);
+    return kz_borrow_by(lent, 0, kz_holder(0), name, start, length, right);
 }
 
 static inline kz_answer kz_borrow_as(const kz_lent *lent, uint32_t name, uint32_t start,
                                      uint32_t length, uint32_t right, uint32_t kind) {
-    const kz_event event = {KZ_BORROW, name, start, length, right, 0, 0, kind, 0};
-    return kz_apply(lent, &event);
+    return kz_borrow_as_by(lent, 0, kz_holder(0), name, start, length, right, kind);
 }
 
 static inline kz_answer kz_read(const kz_lent *lent, uint32_t name, uint32_t start,
                                 uint32_t length) {
-    const kz_event event = {KZ_READ, name, start, length, 0, 0, 0, 0, 0};
-    return kz_apply(lent, &event);
+    return kz_read_by(lent, 0, name, start, length);
 }
 
 static inline kz_answer kz_write(const kz_lent *lent, uint32_t name, uint32_t start,
                                  uint32_t length) {
-    const kz_event event = {KZ_WRITE, name, start, length, 0, 0, 0, 0, 0};
-    return kz_apply(lent, &event);
+    return kz_write_by(lent, 0, name, start, length);
 }
 
 static inline kz_answer kz_drop(const kz_lent *lent, uint32_t name) {
-    const kz_event event = {KZ_DROP, name, 0, 0, 0, 0, 0, 0, 0};
+    return kz_drop_by(lent, 0, name);
+}
+
+static inline kz_answer kz_create_by(const kz_lent *lent, uint32_t actor, uint64_t holders,
+                                     uint32_t start, uint32_t length, uint32_t right) {
+    const kz_event create = {KZ_CREATE, 0, start, length, right, 0, 0, 0, 0, 0, 0, 0};
+    const kz_event event = kz_by(create, actor, holders);
+    return kz_apply(lent, &event);
+}
+
+static inline kz_answer kz_create_fresh_by(const kz_lent *lent, uint32_t actor, uint64_t holders,
+                                           uint32_t start, uint32_t length, uint32_t right) {
+    const kz_event create = {KZ_CREATE, 0, start, length, right, 0, 0, 0, 1, 0, 0, 0};
+    const kz_event event = kz_by(create, actor, holders);
+    return kz_apply(lent, &event);
+}
+
+static inline kz_answer kz_borrow_by(const kz_lent *lent, uint32_t actor, uint64_t holders,
+                                     uint32_t name, uint32_t start, uint32_t length,
+                                     uint32_t right) {
+    return kz_borrow_as_by(lent, actor, holders, name, start, length, right, KZ_REFERENCE);
+}
+
+static inline kz_answer kz_borrow_as_by(const kz_lent *lent, uint32_t actor, uint64_t holders,
+                                        uint32_t name, uint32_t start, uint32_t length,
+                                        uint32_t right, uint32_t kind) {
+    const kz_event borrow = {KZ_BORROW, name, start, length, right, 0, 0, kind, 0, 0, 0, 0};
+    const kz_event event = kz_by(borrow, actor, holders);
+    return kz_apply(lent, &event);
+}
+
+static inline kz_answer kz_read_by(const kz_lent *lent, uint32_t actor, uint32_t name,
+                                   uint32_t start, uint32_t length) {
+    const kz_event event = {KZ_READ, name, start, length, 0, 0, 0, 0, 0, actor, 0, 0};
+    return kz_apply(lent, &event);
+}
+
+static inline kz_answer kz_write_by(const kz_lent *lent, uint32_t actor, uint32_t name,
+                                    uint32_t start, uint32_t length) {
+    const kz_event event = {KZ_WRITE, name, start, length, 0, 0, 0, 0, 0, actor, 0, 0};
+    return kz_apply(lent, &event);
+}
+
+static inline kz_answer kz_drop_by(const kz_lent *lent, uint32_t actor, uint32_t name) {
+    const kz_event event = {KZ_DROP, name, 0, 0, 0, 0, 0, 0, 0, actor, 0, 0};
     return kz_apply(lent, &event);
 }
 
 static inline kz_answer kz_drop_all(const kz_lent *lent, const uint32_t *names, size_t count) {
+    return kz_drop_all_by(lent, 0, names, count);
+}
+
+static inline kz_answer kz_drop_all_by(const kz_lent *lent, uint32_t actor, const uint32_t *names,
+                                       size_t count) {
     /* No list above KZ_MAX_GROUP is a group, so that of a longer one, which may be longer than 32 bits
        can say, one name more than that is enough to be refused. */
     const size_t length = count <= KZ_MAX_GROUP ? count : KZ_MAX_GROUP + 1;
-    const kz_event event = {KZ_DROP_ALL, 0, 0, (uint32_t)length, 0, 0, 0, 0, 0};
-    return kz_abi_answer(kz_abi_apply(lent->table, lent->rows, lent->written, lent->written_size,
-                                      lent->tally, kz_abi_results(lent->sheet),
-                                      kz_abi_places(lent->sheet), &event, names, length));
+    const kz_event event = {KZ_DROP_ALL, 0, 0, (uint32_t)length, 0, 0, 0, 0, 0, actor, 0, 0};
+    return kz_abi_take(lent, &event, names, length);
+}
+
+static inline kz_shares kz_charge(const kz_lent *lent, uint32_t name) {
+    kz_shares charge;
+    kz_abi_charge(lent->table, lent->rows, lent->tally->issued, name, &charge);
+    return charge;
 }
 
 static inline kz_answer kz_run(const kz_lent *lent, const uint8_t *text, size_t text_len) {
     return kz_abi_answer(kz_abi_run(lent->table, lent->rows, lent->written, lent->written_size,
                                     lent->tally, kz_abi_results(lent->sheet),
-                                    kz_abi_places(lent->sheet), text, text_len));
+                                    kz_abi_places(lent->sheet), lent->limits, lent->limit_count,
+                                    text, text_len));
 }
 
 static inline kz_answer kz_write_event(const kz_event *event, const uint32_t *names,

@@ -23,13 +23,13 @@ static void check_sheet(void) {
     static kz_tally tally;
     static const kz_sheet sheet = {{1, 1, 1, 0, 0, 0, 1, 1, 1, 0, 0, 0, 1, 1, 1, 0, 0, 255}};
     static const kz_event events[] = {
-        {KZ_WRITE, 1, 0, 8, 0, 0, 0, 0, 0},
-        {KZ_WRITE, 2, 0, 8, 0, 0, 0, 0, 0},
-        {KZ_READ, 3, 0, 8, 0, 0, 0, 0, 0},
-        {KZ_WRITE, 2, 0, 8, 0, 0, 0, 0, 0},
+        {KZ_WRITE, 1, 0, 8, 0, 0, 0, 0, 0, 0, 0, 0},
+        {KZ_WRITE, 2, 0, 8, 0, 0, 0, 0, 0, 0, 0, 0},
+        {KZ_READ, 3, 0, 8, 0, 0, 0, 0, 0, 0, 0, 0},
+        {KZ_WRITE, 2, 0, 8, 0, 0, 0, 0, 0, 0, 0, 0},
     };
     static const uint32_t names[] = {2, 3};
-    const kz_lent lent = {table, 4, written, sizeof written, &tally, &sheet};
+    const kz_lent lent = {table, 4, written, sizeof written, &tally, &sheet, NULL, 0};
     kz_answer answers[4];
     check("create by a sheet", kz_create(&lent, 0, 64, KZ_RW), 0, 1);
     check("borrow by a sheet", kz_borrow(&lent, 1, 0, 8, KZ_RW), 0, 2);
@@ -53,16 +53,16 @@ static void check_sheet(void) {
 static void check_fresh(void) {
     static kz_part part;
     static const kz_event events[] = {
-        {KZ_CREATE, 0, 0, 16, KZ_RW, 0, 0, 0, 1},
-        {KZ_READ, 1, 0, 8, 0, 0, 0, 0, 0},
-        {KZ_BORROW, 1, 0, 8, KZ_RW, 0, 0, KZ_RAW, 0},
-        {KZ_WRITE, 2, 0, 8, 0, 0, 0, 0, 0},
-        {KZ_READ, 1, 0, 8, 0, 0, 0, 0, 0},
-        {KZ_READ, 1, 0, 9, 0, 0, 0, 0, 0},
-        {KZ_CREATE, 0, 0, 8, KZ_RW, 1, 3, 0, 1},
-        {KZ_READ, 3, 0, 8, 0, 0, 0, 0, 0},
-        {KZ_CREATE, 0, 0, 8, KZ_RW, 0, 0, 0, 2},
-        {KZ_CREATE, 0, 65536, 8, KZ_RW, 0, 0, 0, 1},
+        {KZ_CREATE, 0, 0, 16, KZ_RW, 0, 0, 0, 1, 0, 1, 0},
+        {KZ_READ, 1, 0, 8, 0, 0, 0, 0, 0, 0, 0, 0},
+        {KZ_BORROW, 1, 0, 8, KZ_RW, 0, 0, KZ_RAW, 0, 0, 1, 0},
+        {KZ_WRITE, 2, 0, 8, 0, 0, 0, 0, 0, 0, 0, 0},
+        {KZ_READ, 1, 0, 8, 0, 0, 0, 0, 0, 0, 0, 0},
+        {KZ_READ, 1, 0, 9, 0, 0, 0, 0, 0, 0, 0, 0},
+        {KZ_CREATE, 0, 0, 8, KZ_RW, 1, 3, 0, 1, 0, 1, 0},
+        {KZ_READ, 3, 0, 8, 0, 0, 0, 0, 0, 0, 0, 0},
+        {KZ_CREATE, 0, 0, 8, KZ_RW, 0, 0, 0, 2, 0, 1, 0},
+        {KZ_CREATE, 0, 65536, 8, KZ_RW, 0, 0, 0, 1, 0, 1, 0},
     };
     static const kz_answer expected[] = {
         {0, 1}, {KZ_NOT_WRITTEN, 0}, {0, 2}, {0, 0}, {0, 0}, {KZ_NOT_WRITTEN, 0},
@@ -87,18 +87,70 @@ static void check_fresh(void) {
     check("too few written bits", kz_write(&lent, 4, 64, 1), KZ_DISORDERED, 0);
 }
 
+static void check_charge(const char *what, kz_shares charge, uint32_t refusal, uint32_t share,
+                         uint32_t rest) {
+    if (charge.refusal != refusal || charge.share != share || charge.rest != rest) {
+        printf("events.c: %s: refusal %u, share %u, rest %u\n", what, (unsigned)charge.refusal,
+               (unsigned)charge.share, (unsigned)charge.rest);
+        failures++;
+    }
+}
+
+/* Two domains with limits, of which one lets the other use what it made. */
+static void check_domains(void) {
+    static kz_part part;
+    static uint32_t limits[KZ_DOMAINS];
+    static const kz_event events[] = {
+        {KZ_CREATE, 0, 0, 65, KZ_RW, 0, 0, 0, 0, 1, 6, 0},
+        {KZ_READ, 1, 0, 8, 0, 0, 0, 0, 0, 2, 0, 0},
+        {KZ_READ, 1, 0, 8, 0, 0, 0, 0, 0, 3, 0, 0},
+        {KZ_BORROW, 1, 0, 8, KZ_RW, 0, 0, 0, 0, 2, 4, 0},
+        {KZ_BORROW, 1, 0, 8, KZ_RW, 0, 0, 0, 0, 2, 2, 0},
+        {KZ_CREATE, 0, 128, 8, KZ_RW, 0, 0, 0, 0, 2, 4, 0},
+        {KZ_DROP, 2, 0, 0, 0, 0, 0, 0, 0, 1, 0, 0},
+        {KZ_DROP, 2, 0, 0, 0, 0, 0, 0, 0, 64, 0, 0},
+    };
+    static const kz_answer expected[] = {
+        {0, 1}, {0, 0}, {KZ_NOT_HOLDER, 0}, {0, 2}, {KZ_MISSPELT, 0}, {KZ_LIMIT_REACHED, 0},
+        {KZ_NOT_HOLDER, 0}, {KZ_MISSPELT, 0},
+    };
+    enum { COUNT = sizeof events / sizeof events[0] };
+    kz_lent lent = kz_lend(&part);
+    kz_answer answers[COUNT];
+    int i;
+    limits[1] = KZ_MAX_ROWS - 1;
+    limits[2] = 1;
+    lent.limits = limits;
+    lent.limit_count = KZ_DOMAINS;
+    if (kz_apply_all(&lent, events, COUNT, NULL, 0, answers) != COUNT) {
+        puts("events.c: not all events were taken of domains");
+        failures++;
+    }
+    for (i = 0; i < COUNT; i++) {
+        check("domains in many", answers[i], expected[i].refusal, expected[i].value);
+    }
+    check_charge("charge of two", kz_charge(&lent, 1), 0, 32, 1);
+    check_charge("charge of one", kz_charge(&lent, 2), 0, 8, 0);
+    check_charge("charge of none", kz_charge(&lent, 3), KZ_UNISSUED, 0, 0);
+    check("drop by a holder", kz_drop_by(&lent, 2, 2), 0, 0);
+    check_charge("charge of what ended", kz_charge(&lent, 2), KZ_ENDED, 0, 0);
+    check("create within the limit", kz_create_by(&lent, 2, kz_holder(2), 128, 8, KZ_RW), 0, 3);
+    limits[2] = 2;
+    check("limits above the rows", kz_read_by(&lent, 2, 3, 128, 8), KZ_DISORDERED, 0);
+}
+
 int main(void) {
     static kz_part part;
     static const uint32_t names[] = {1, 3};
     static const kz_event events[] = {
-        {KZ_CREATE, 0, 64, 64, KZ_RW, 1, 3, 0, 0},
-        {KZ_READ, 3, 128, 1, 0, 0, 0, 0, 0},
-        {KZ_DROP_ALL, 0, 0, 2, 0, 0, 0, 0, 0},
-        {KZ_CREATE, 0, 0, 8, KZ_RW, 0, 0, 0, 0},
-        {KZ_BORROW, 4, 0, 8, KZ_RW, 1, 5, KZ_RAW, 0},
-        {KZ_WRITE, 4, 0, 8, 0, 0, 0, 0, 0},
-        {KZ_WRITE, 5, 0, 8, 0, 0, 0, 0, 0},
-        {KZ_BORROW, 4, 0, 8, KZ_RW, 0, 0, 3, 0},
+        {KZ_CREATE, 0, 64, 64, KZ_RW, 1, 3, 0, 0, 0, 1, 0},
+        {KZ_READ, 3, 128, 1, 0, 0, 0, 0, 0, 0, 0, 0},
+        {KZ_DROP_ALL, 0, 0, 2, 0, 0, 0, 0, 0, 0, 0, 0},
+        {KZ_CREATE, 0, 0, 8, KZ_RW, 0, 0, 0, 0, 0, 1, 0},
+        {KZ_BORROW, 4, 0, 8, KZ_RW, 1, 5, KZ_RAW, 0, 0, 1, 0},
+        {KZ_WRITE, 4, 0, 8, 0, 0, 0, 0, 0, 0, 0, 0},
+        {KZ_WRITE, 5, 0, 8, 0, 0, 0, 0, 0, 0, 0, 0},
+        {KZ_BORROW, 4, 0, 8, KZ_RW, 0, 0, 3, 0, 0, 1, 0},
     };
     enum { COUNT = sizeof events / sizeof events[0] };
     const kz_lent lent = kz_lend(&part);
@@ -128,5 +180,6 @@ int main(void) {
     check("drop all", kz_drop_all(&lent, names, 2), KZ_ENDED, 0);
     check_sheet();
     check_fresh();
+    check_domains();
     return failures != 0;
 }

@@ -31,15 +31,19 @@ static int refused(kz_answer answer, enum kz_refusal refusal) {
     return refused_at(answer, refusal, 0);
 }
 
+/* An event of domain 0, which alone holds what it makes. */
 static kz_event event_of(uint32_t kind, uint32_t name, uint32_t start, uint32_t length,
                          uint32_t right) {
-    const kz_event event = {kind, name, start, length, right, 0, 0, 0, 0};
+    const uint32_t makes = kind == KZ_CREATE || kind == KZ_BORROW;
+    const kz_event event = {kind, name, start, length, right, 0, 0, 0, 0, 0, makes, 0};
     return event;
 }
 
 static kz_event named_event(uint32_t kind, uint32_t written, uint32_t name, uint32_t start,
                             uint32_t length, uint32_t right) {
-    const kz_event event = {kind, name, start, length, right, 1, written, 0, 0};
+    kz_event event = event_of(kind, name, start, length, right);
+    event.named = 1;
+    event.written = written;
     return event;
 }
 
@@ -53,21 +57,28 @@ static kz_event with_mark(kz_event event, uint32_t fresh) {
     return event;
 }
 
+/* What a listing has of a row that domain 0 made and alone holds. */
+#define OF_0 " 0 0000000000000001"
+
 static int same_event(const kz_event *one, const kz_event *other) {
     return memcmp(one, other, sizeof *one) == 0;
 }
 
 static void check_layout(void) {
-    CHECK(sizeof(kz_cap) == 32);
+    CHECK(sizeof(kz_cap) == 44);
     CHECK(sizeof(kz_tally) == 28);
-    CHECK(sizeof(kz_event) == 36);
+    CHECK(sizeof(kz_event) == 48);
     CHECK(sizeof(kz_answer) == 8);
-    CHECK(sizeof(kz_part) == KZ_MAX_ROWS * 32 + KZ_WRITTEN_BYTES + 28);
+    CHECK(sizeof(kz_shares) == 12);
+    CHECK(sizeof(kz_part) == KZ_MAX_ROWS * 44 + KZ_WRITTEN_BYTES + 28);
     CHECK(sizeof(kz_sheet) == KZ_SHEET_PLACES);
     CHECK(KZ_WRITTEN_ADDRESSES == 8 * KZ_WRITTEN_BYTES);
     CHECK(offsetof(kz_cap, depth) == 20);
     CHECK(offsetof(kz_cap, kind) == 24);
     CHECK(offsetof(kz_cap, fresh) == 28);
+    CHECK(offsetof(kz_cap, maker) == 32);
+    CHECK(offsetof(kz_cap, holders_low) == 36);
+    CHECK(offsetof(kz_cap, holders_high) == 40);
     CHECK(offsetof(kz_tally, refused) == 24);
     CHECK(offsetof(kz_event, kind) == 0);
     CHECK(offsetof(kz_event, name) == 4);
@@ -78,7 +89,13 @@ static void check_layout(void) {
     CHECK(offsetof(kz_event, written) == 24);
     CHECK(offsetof(kz_event, cap_kind) == 28);
     CHECK(offsetof(kz_event, fresh) == 32);
+    CHECK(offsetof(kz_event, actor) == 36);
+    CHECK(offsetof(kz_event, holders_low) == 40);
+    CHECK(offsetof(kz_event, holders_high) == 44);
     CHECK(offsetof(kz_answer, value) == 4);
+    CHECK(offsetof(kz_shares, refusal) == 0);
+    CHECK(offsetof(kz_shares, share) == 4);
+    CHECK(offsetof(kz_shares, rest) == 8);
 }
 
 /* Answers come apart also where the value is as large as can be, and where it is 0. */
@@ -99,6 +116,9 @@ static void check_answers(void) {
         {0x0000000f00000000u, KZ_NOT_GIVEN, 0},
         {0x0000001000000000u, KZ_NOT_WRITTEN, 0},
         {0x00000010ffffffffu, KZ_NOT_WRITTEN, 4294967295u},
+        {0x0000001100000000u, KZ_NOT_HOLDER, 0},
+        {0x0000001200000000u, KZ_LIMIT_REACHED, 0},
+        {0x00000012ffffffffu, KZ_LIMIT_REACHED, 4294967295u},
     };
     size_t i;
     for (i = 0; i < sizeof cases / sizeof cases[0]; i++) {
@@ -113,7 +133,7 @@ static void check_lend(void) {
     const kz_lent lent = kz_lend(&part);
     CHECK(lent.table == part.table && lent.rows == KZ_MAX_ROWS && lent.tally == &part.tally);
     CHECK(lent.written == part.written && lent.written_size == KZ_WRITTEN_BYTES);
-    CHECK(lent.sheet == NULL);
+    CHECK(lent.sheet == NULL && lent.limits == NULL && lent.limit_count == 0);
     CHECK(allowed(kz_create(&lent, 0, 64, KZ_RW), 1));
     CHECK(part.table[0].name == 1 && part.tally.creates == 1);
     CHECK(allowed(kz_write(&lent, 1, 16, 8), 0));
@@ -124,7 +144,7 @@ static void check_events(void) {
     static kz_cap table[3];
     static uint8_t written[KZ_WRITTEN_BYTES];
     static kz_tally tally;
-    const kz_lent lent = {table, 3, written, sizeof written, &tally, NULL};
+    const kz_lent lent = {table, 3, written, sizeof written, &tally, NULL, NULL, 0};
     kz_event event = event_of(7, 1, 0, 1, KZ_RW);
     CHECK(allowed(kz_create(&lent, 0, 64, KZ_RW), 1));
     CHECK(allowed(kz_borrow(&lent, 1, 0, 16, KZ_RW), 2));
@@ -152,7 +172,7 @@ static void check_reused_memory(void) {
     static kz_cap table[3];
     static uint8_t written[KZ_WRITTEN_BYTES];
     static kz_tally tally;
-    const kz_lent lent = {table, 3, written, sizeof written, &tally, NULL};
+    const kz_lent lent = {table, 3, written, sizeof written, &tally, NULL, NULL, 0};
     CHECK(allowed(kz_create(&lent, 0, 64, KZ_RW), 1));
     CHECK(allowed(kz_borrow(&lent, 1, 0, 16, KZ_RW), 2));
     CHECK(allowed(kz_create(&lent, 8, 0, KZ_RW), 3));
@@ -173,7 +193,7 @@ static void check_raw(void) {
     static kz_cap table[5];
     static uint8_t written[KZ_WRITTEN_BYTES];
     static kz_tally tally;
-    const kz_lent lent = {table, 5, written, sizeof written, &tally, NULL};
+    const kz_lent lent = {table, 5, written, sizeof written, &tally, NULL, NULL, 0};
     CHECK(allowed(kz_create(&lent, 0, 64, KZ_RW), 1));
     CHECK(allowed(kz_borrow(&lent, 1, 0, 16, KZ_RW), 2));
     CHECK(allowed(kz_borrow_as(&lent, 2, 0, 8, KZ_RW, KZ_RAW), 3));
@@ -215,7 +235,7 @@ static void check_cells(void) {
     static kz_cap table[5];
     static uint8_t written[KZ_WRITTEN_BYTES];
     static kz_tally tally;
-    const kz_lent lent = {table, 5, written, sizeof written, &tally, NULL};
+    const kz_lent lent = {table, 5, written, sizeof written, &tally, NULL, NULL, 0};
     uint32_t i;
     CHECK(allowed(kz_create(&lent, 0, 16, KZ_RW), 1));
     CHECK(allowed(kz_borrow_as(&lent, 1, 0, 8, KZ_RW, KZ_CELL), 2));
@@ -252,7 +272,7 @@ static void check_wrong_kinds(void) {
     static kz_cap table[3];
     static uint8_t written[KZ_WRITTEN_BYTES];
     static kz_tally tally;
-    const kz_lent lent = {table, 3, written, sizeof written, &tally, NULL};
+    const kz_lent lent = {table, 3, written, sizeof written, &tally, NULL, NULL, 0};
     uint8_t out[64];
     kz_event event = with_kind(event_of(KZ_CREATE, 0, 0, 64, KZ_RW), KZ_CELL);
     size_t i;
@@ -289,7 +309,7 @@ static void check_fresh(void) {
     static kz_cap table[4];
     static uint8_t written[KZ_WRITTEN_BYTES];
     static kz_tally tally;
-    const kz_lent lent = {table, 4, written, sizeof written, &tally, NULL};
+    const kz_lent lent = {table, 4, written, sizeof written, &tally, NULL, NULL, 0};
     CHECK(allowed(kz_create_fresh(&lent, 64, 16, KZ_RW), 1));
     CHECK(table[0].fresh == 1 && table[0].kind == KZ_REFERENCE && table[0].right == KZ_RW);
     CHECK(refused(kz_read(&lent, 1, 64, 1), KZ_NOT_WRITTEN));
@@ -344,7 +364,7 @@ static void check_fresh_by_sheet(void) {
     static uint8_t written[KZ_WRITTEN_BYTES];
     static kz_tally tally;
     static const kz_sheet sheet = {{KZ_KEEP}};
-    const kz_lent lent = {table, 4, written, sizeof written, &tally, &sheet};
+    const kz_lent lent = {table, 4, written, sizeof written, &tally, &sheet, NULL, 0};
     CHECK(allowed(kz_create_fresh(&lent, 0, 8, KZ_RO), 1));
     CHECK(refused(kz_write(&lent, 1, 0, 8), KZ_READ_ONLY));
     CHECK(refused(kz_read(&lent, 1, 0, 8), KZ_NOT_WRITTEN));
@@ -365,7 +385,7 @@ static void check_fresh_limits(void) {
     static kz_cap table[4];
     static uint8_t written[KZ_WRITTEN_BYTES];
     static kz_tally tally;
-    const kz_lent lent = {table, 4, written, sizeof written, &tally, NULL};
+    const kz_lent lent = {table, 4, written, sizeof written, &tally, NULL, NULL, 0};
     const uint32_t most = 4294967295u, end = KZ_WRITTEN_ADDRESSES;
     size_t i;
     CHECK(refused(kz_create_fresh(&lent, end - 1, 2, KZ_RW), KZ_ILLEGAL_SPAN));
@@ -404,7 +424,7 @@ static void check_wrong_marks(void) {
     static kz_cap table[3];
     static uint8_t written[KZ_WRITTEN_BYTES];
     static kz_tally tally;
-    const kz_lent lent = {table, 3, written, sizeof written, &tally, NULL};
+    const kz_lent lent = {table, 3, written, sizeof written, &tally, NULL, NULL, 0};
     uint8_t out[64];
     kz_event event;
     size_t i;
@@ -467,12 +487,12 @@ static void check_wrong_marks(void) {
 static void check_wrong_sizes(void) {
     static const size_t wrong[] = {0, 1, KZ_WRITTEN_BYTES - 1, KZ_WRITTEN_BYTES + 1};
     static const uint8_t line[] = "(create 0 8 rw)\n";
-    static const uint8_t listing[] = "(issued 1)\n(1 0 8 rw)\n";
+    static const uint8_t listing[] = "(issued 1)\n(1 0 8 rw" OF_0 ")\n";
     static const uint32_t falling[] = {2, 1};
     static kz_cap table[2], before[2];
     static uint8_t written[KZ_WRITTEN_BYTES + 1], bits[KZ_WRITTEN_BYTES + 1];
     static kz_tally tally;
-    kz_lent lent = {table, 2, written, KZ_WRITTEN_BYTES, &tally, NULL};
+    kz_lent lent = {table, 2, written, KZ_WRITTEN_BYTES, &tally, NULL, NULL, 0};
     kz_event events[2];
     kz_answer answers[2];
     uint8_t out[64];
@@ -510,6 +530,253 @@ static void check_wrong_sizes(void) {
     CHECK(written[0] == 255 && written[1] == 0x5a);
 }
 
+/* Sets of holders, and the words that an event and a row have of them. */
+static void check_holders(void) {
+    static const uint32_t some[] = {63, 3, 0, 3}, wrong[] = {0, 64}, none[] = {4294967295u};
+    kz_event event = event_of(KZ_CREATE, 7, 8, 9, KZ_RO), same = event;
+    kz_cap row;
+    uint32_t domain;
+    for (domain = 0; domain < KZ_DOMAINS; domain++) {
+        CHECK(kz_holder(domain) == (uint64_t)1 << domain);
+        CHECK(kz_holders(&domain, 1) == kz_holder(domain));
+    }
+    CHECK(kz_holder(64) == 0 && kz_holder(256) == 0 && kz_holder(4294967295u) == 0);
+    CHECK(kz_holders(some, 4) == (kz_holder(0) | kz_holder(3) | kz_holder(63)));
+    CHECK(kz_holders(some, 2) == (kz_holder(3) | kz_holder(63)));
+    CHECK(kz_holders(wrong, 2) == 0 && kz_holders(none, 1) == 0 && kz_holders(NULL, 0) == 0);
+    event = kz_by(event, 5, kz_holder(33) | kz_holder(5));
+    CHECK(event.actor == 5 && event.holders_low == 32 && event.holders_high == 2);
+    event = kz_by(event, 0, 1);
+    CHECK(same_event(&event, &same));
+    memset(&row, 0, sizeof row);
+    row.holders_low = 0x80000001u;
+    row.holders_high = 0x80000002u;
+    CHECK(kz_holders_of(&row) == (kz_holder(0) | kz_holder(31) | kz_holder(33) | kz_holder(63)));
+}
+
+/* Only holders use what a domain made, and it says who they are. */
+static void check_domains(void) {
+    static const uint32_t names[] = {1, 2}, first[] = {1}, falling[] = {2, 1};
+    static kz_cap table[4];
+    static uint8_t written[KZ_WRITTEN_BYTES];
+    static kz_tally tally;
+    const kz_lent lent = {table, 4, written, sizeof written, &tally, NULL, NULL, 0};
+    const uint64_t both = kz_holder(3) | kz_holder(40);
+    CHECK(allowed(kz_create_by(&lent, 3, both, 0, 64, KZ_RW), 1));
+    CHECK(table[0].maker == 3 && kz_holders_of(&table[0]) == both && table[0].fresh == 0);
+    CHECK(refused(kz_read(&lent, 1, 0, 8), KZ_NOT_HOLDER));
+    CHECK(refused(kz_write_by(&lent, 8, 1, 0, 8), KZ_NOT_HOLDER));
+    CHECK(refused(kz_borrow_by(&lent, 35, kz_holder(35), 1, 0, 8, KZ_RO), KZ_NOT_HOLDER));
+    CHECK(refused(kz_drop_by(&lent, 41, 1), KZ_NOT_HOLDER));
+    CHECK(refused(kz_drop_all_by(&lent, 4, first, 1), KZ_NOT_HOLDER));
+    /* Behind 3, 4 and 5, and before 6. */
+    CHECK(refused(kz_read(&lent, 1, 4294967295u, 2), KZ_ILLEGAL_SPAN));
+    CHECK(refused(kz_read(&lent, 2, 64, 1), KZ_UNISSUED));
+    CHECK(refused(kz_read(&lent, 1, 64, 1), KZ_NOT_HOLDER));
+    CHECK(refused(kz_read_by(&lent, 40, 1, 64, 1), KZ_OUTSIDE_SPAN));
+    CHECK(allowed(kz_read_by(&lent, 40, 1, 0, 8), 0));
+    CHECK(allowed(kz_write_by(&lent, 3, 1, 0, 8), 0));
+    /* A borrow's holders need not hold its parent. */
+    CHECK(allowed(kz_borrow_as_by(&lent, 40, kz_holder(40) | 1, 1, 0, 8, KZ_RW, KZ_CELL), 2));
+    CHECK(table[1].maker == 40 && table[1].kind == KZ_CELL && table[1].holders_low == 1);
+    CHECK(table[1].holders_high == 256 && table[0].holders_low == 8);
+    CHECK(allowed(kz_write(&lent, 2, 0, 8), 0));
+    CHECK(refused(kz_write_by(&lent, 3, 2, 0, 8), KZ_NOT_HOLDER));
+    CHECK(refused(kz_drop_all_by(&lent, 3, names, 2), KZ_NOT_HOLDER));
+    CHECK(refused(kz_drop_all_by(&lent, 64, falling, 2), KZ_MISGROUPED));
+    CHECK(refused(kz_drop_all_by(&lent, 64, names, 2), KZ_MISSPELT));
+    CHECK(allowed(kz_drop_all_by(&lent, 40, names, 2), 0));
+    CHECK(refused(kz_drop_by(&lent, 3, 1), KZ_ENDED));
+    CHECK(table[0].name == 0 && table[0].maker == 0 && table[0].holders_low == 0);
+    CHECK(allowed(kz_create_fresh_by(&lent, 63, kz_holder(63), 0, 8, KZ_RW), 3));
+    CHECK(table[0].fresh == 1 && table[0].maker == 63 && table[0].holders_high == 0x80000000u);
+    /* A create ends what it touches, whoever holds it. */
+    CHECK(allowed(kz_create(&lent, 0, 1, KZ_RW), 4));
+    CHECK(table[0].name == 4 && table[0].maker == 0 && table[0].holders_low == 1);
+    CHECK(tally.refused == 14 && tally.creates == 3 && tally.drops == 1);
+}
+
+/* Domains that are none, and holders without the domain that acts; and holders where none are asked. */
+static void check_wrong_domains(void) {
+    static const uint32_t wrong[] = {64, 67, 256, 4294967295u};
+    const uint64_t all = ~(uint64_t)0;
+    static kz_cap table[3], before[3];
+    static uint8_t written[KZ_WRITTEN_BYTES];
+    static kz_tally tally;
+    const kz_lent lent = {table, 3, written, sizeof written, &tally, NULL, NULL, 0};
+    uint8_t out[128];
+    kz_event event;
+    size_t i;
+    CHECK(allowed(kz_create_by(&lent, 3, all, 0, 8, KZ_RW), 1));
+    CHECK(allowed(kz_borrow_by(&lent, 3, kz_holder(3), 1, 0, 8, KZ_RW), 2));
+    for (i = 0; i < sizeof wrong / sizeof wrong[0]; i++) {
+        CHECK(refused(kz_create_by(&lent, wrong[i], all, 8, 8, KZ_RW), KZ_MISSPELT));
+        CHECK(refused(kz_borrow_by(&lent, wrong[i], all, 9, 8, 8, KZ_RW), KZ_MISSPELT));
+        CHECK(refused(kz_read_by(&lent, wrong[i], 1, 4294967295u, 2), KZ_MISSPELT));
+        CHECK(refused(kz_write_by(&lent, wrong[i], 1, 0, 8), KZ_MISSPELT));
+        CHECK(refused(kz_drop_by(&lent, wrong[i], 9), KZ_MISSPELT));
+        event = kz_by(event_of(KZ_DROP, 1, 0, 0, 0), wrong[i], all);
+        CHECK(refused(kz_write_event(&event, NULL, 0, out, sizeof out), KZ_MISSPELT));
+    }
+    CHECK(refused(kz_create_by(&lent, 3, 0, 8, 8, KZ_RW), KZ_MISSPELT));
+    CHECK(refused(kz_create_by(&lent, 3, ~kz_holder(3), 8, 8, KZ_RW), KZ_MISSPELT));
+    CHECK(refused(kz_borrow_by(&lent, 35, kz_holder(3), 1, 0, 8, KZ_RW), KZ_MISSPELT));
+    event = event_of(KZ_CREATE, 0, 8, 8, KZ_RW);
+    event.holders_low = 0;
+    CHECK(refused(kz_apply(&lent, &event), KZ_MISSPELT));
+    CHECK(refused(kz_write_event(&event, NULL, 0, out, sizeof out), KZ_MISSPELT));
+    event = kz_by(event_of(KZ_READ, 1, 0, 8, 0), 3, kz_holder(9));
+    CHECK(allowed(kz_apply(&lent, &event), 0));
+    CHECK(tally.refused == 24);
+    memcpy(before, table, sizeof table);
+    for (i = 0; i < sizeof wrong / sizeof wrong[0]; i++) {
+        table[0].maker = wrong[i];
+        CHECK(refused(kz_read_by(&lent, 3, 1, 0, 8), KZ_DISORDERED));
+        CHECK(refused(kz_write_listing(&lent, out, sizeof out), KZ_DISORDERED));
+        memcpy(table, before, sizeof table);
+    }
+    table[1].maker = 4;
+    CHECK(refused(kz_read_by(&lent, 3, 1, 0, 8), KZ_DISORDERED));
+    table[1].maker = 35;
+    CHECK(refused(kz_read_by(&lent, 3, 1, 0, 8), KZ_DISORDERED));
+    table[1].holders_high = 8;
+    CHECK(allowed(kz_read_by(&lent, 3, 1, 0, 8), 0));
+    table[2].maker = 1;
+    CHECK(refused(kz_read_by(&lent, 3, 1, 0, 8), KZ_DISORDERED));
+    table[2].maker = 0;
+    table[2].holders_high = 1;
+    CHECK(refused(kz_read_by(&lent, 3, 1, 0, 8), KZ_DISORDERED));
+    table[2].holders_high = 0;
+    table[2].holders_low = 1;
+    CHECK(refused(kz_read_by(&lent, 3, 1, 0, 8), KZ_DISORDERED));
+}
+
+/* Each domain has as many rows as its limit says, whatever the others do. */
+static void check_limits(void) {
+    static const uint8_t text[] = "(as 3 (create 16 8 rw))\n(create 24 8 rw)\n(create 32 8 rw)\n";
+    static uint32_t limits[KZ_DOMAINS];
+    static kz_cap table[3];
+    static uint8_t written[KZ_WRITTEN_BYTES];
+    static kz_tally tally;
+    const kz_lent lent = {table, 3, written, sizeof written, &tally, NULL, limits, KZ_DOMAINS};
+    const uint64_t all = ~(uint64_t)0;
+    kz_event events[3];
+    kz_answer answers[3];
+    limits[0] = 2;
+    limits[3] = 1;
+    CHECK(allowed(kz_create_by(&lent, 3, all, 0, 8, KZ_RW), 1));
+    CHECK(refused(kz_create_by(&lent, 3, all, 8, 8, KZ_RW), KZ_LIMIT_REACHED));
+    CHECK(refused(kz_borrow_by(&lent, 3, all, 1, 0, 8, KZ_RW), KZ_LIMIT_REACHED));
+    CHECK(refused(kz_borrow_by(&lent, 63, all, 1, 0, 8, KZ_RW), KZ_LIMIT_REACHED));
+    CHECK(allowed(kz_borrow(&lent, 1, 0, 8, KZ_RW), 2));
+    CHECK(allowed(kz_borrow(&lent, 1, 0, 8, KZ_RW), 3));
+    /* All rows are taken, and no table is full. */
+    CHECK(refused(kz_create(&lent, 8, 8, KZ_RW), KZ_LIMIT_REACHED));
+    CHECK(refused(kz_create_by(&lent, 5, kz_holder(5), 8, 8, KZ_RW), KZ_LIMIT_REACHED));
+    /* What ends makes room for who made it. */
+    CHECK(allowed(kz_write_by(&lent, 3, 1, 0, 1), 0));
+    CHECK(refused(kz_create_by(&lent, 3, all, 8, 8, KZ_RW), KZ_LIMIT_REACHED));
+    events[0] = event_of(KZ_BORROW, 1, 0, 8, KZ_RW);
+    events[1] = kz_by(event_of(KZ_DROP, 1, 0, 0, 0), 3, 0);
+    events[2] = kz_by(event_of(KZ_CREATE, 0, 0, 8, KZ_RW), 3, kz_holder(3));
+    CHECK(kz_apply_all(&lent, events, 3, NULL, 0, answers) == 3);
+    CHECK(allowed(answers[0], 4) && allowed(answers[1], 0) && allowed(answers[2], 5));
+    CHECK(table[0].name == 5 && table[1].name == 0 && tally.refused == 6);
+    CHECK(refused_at(kz_run(&lent, text, sizeof text - 1), KZ_LIMIT_REACHED, 1));
+    CHECK(allowed(kz_drop_by(&lent, 3, 5), 0));
+    CHECK(allowed(kz_run(&lent, text, sizeof text - 1), 3));
+    CHECK(tally.refused == 7 && table[2].name == 8);
+}
+
+/* Any other number of limits, a sum above the rows, and a table above its limits refuse every event and
+   run, before all else, and change nothing. What is not lent them does not ask for them. */
+static void check_wrong_limits(void) {
+    static const size_t counts[] = {1, 63, 65};
+    static const uint32_t falling[] = {2, 1};
+    static uint32_t limits[KZ_DOMAINS + 1];
+    static kz_cap table[4], before[4];
+    static uint8_t written[KZ_WRITTEN_BYTES];
+    static kz_tally tally, counted;
+    kz_lent lent = {table, 4, written, sizeof written, &tally, NULL, limits, KZ_DOMAINS};
+    kz_event events[2];
+    kz_answer answers[2];
+    uint8_t out[128];
+    uint32_t turn;
+    lent.limit_count = 0;
+    CHECK(allowed(kz_create(&lent, 0, 8, KZ_RW), 1));
+    CHECK(allowed(kz_create_by(&lent, 63, kz_holder(63), 8, 8, KZ_RW), 2));
+    memcpy(before, table, sizeof table);
+    counted = tally;
+    events[0] = event_of(KZ_CREATE, 0, 16, 8, KZ_RW);
+    events[1] = event_of(9, 0, 0, 8, KZ_RW);
+    for (turn = 0; turn < 7; turn++) {
+        memset(limits, 0, sizeof limits);
+        limits[0] = turn == 3 ? 0 : 1;
+        limits[63] = turn == 4 ? 0 : 1;
+        limits[5] = turn == 5 ? 3 : 0;
+        limits[7] = turn == 6 ? 4294967295u : 0;
+        lent.limit_count = turn < 3 ? counts[turn] : (size_t)KZ_DOMAINS;
+        CHECK(refused(kz_read(&lent, 1, 0, 8), KZ_DISORDERED));
+        CHECK(refused(kz_create(&lent, 16, 8, KZ_RW), KZ_DISORDERED));
+        CHECK(refused(kz_drop_all(&lent, falling, 2), KZ_DISORDERED));
+        CHECK(kz_apply_all(&lent, events, 2, NULL, 0, answers) == 2);
+        CHECK(refused(answers[0], KZ_DISORDERED) && refused(answers[1], KZ_DISORDERED));
+        CHECK(refused(kz_run(&lent, NULL, 0), KZ_DISORDERED));
+        CHECK(refused(kz_run(&lent, (const uint8_t *)"?", 1), KZ_DISORDERED));
+        CHECK(kz_charge(&lent, 1).refusal == 0);
+        CHECK(kz_write_listing(&lent, out, sizeof out).refusal == 0);
+        CHECK(memcmp(table, before, sizeof table) == 0);
+        CHECK(memcmp(&tally, &counted, sizeof tally) == 0);
+    }
+    limits[7] = 0;
+    limits[5] = 2;
+    CHECK(allowed(kz_read(&lent, 1, 0, 8), 0));
+    lent.limits = NULL;
+    lent.limit_count = 0;
+    CHECK(allowed(kz_create(&lent, 16, 8, KZ_RW), 3));
+}
+
+static int charged(kz_shares shares, uint32_t share, uint32_t rest) {
+    return shares.refusal == 0 && shares.share == share && shares.rest == rest;
+}
+
+static int not_charged(kz_shares shares, enum kz_refusal refusal) {
+    return shares.refusal == (uint32_t)refusal && shares.share == 0 && shares.rest == 0;
+}
+
+/* A length in equal shares for the holders. Whatever is asked, nothing is changed. */
+static void check_charge(void) {
+    static kz_cap table[5], before[5];
+    static uint8_t written[KZ_WRITTEN_BYTES];
+    static kz_tally tally, counted;
+    kz_lent lent = {table, 5, written, sizeof written, &tally, NULL, NULL, 0};
+    CHECK(allowed(kz_create(&lent, 0, 1000, KZ_RW), 1));
+    CHECK(allowed(kz_create_by(&lent, 1, kz_holder(1) | kz_holder(63), 1000, 1001, KZ_RO), 2));
+    CHECK(allowed(kz_create_by(&lent, 9, ~(uint64_t)0, 3000, 4294960000u, KZ_RW), 3));
+    CHECK(allowed(kz_create_by(&lent, 2, kz_holder(2) | 1 | 2, 0, 0, KZ_RW), 4));
+    CHECK(allowed(kz_borrow_by(&lent, 1, kz_holder(1) | 1 | 4, 2, 1000, 1000, KZ_RO), 5));
+    CHECK(allowed(kz_drop_by(&lent, 2, 4), 0));
+    memcpy(before, table, sizeof table);
+    counted = tally;
+    CHECK(charged(kz_charge(&lent, 1), 1000, 0));
+    CHECK(charged(kz_charge(&lent, 2), 500, 1));
+    CHECK(charged(kz_charge(&lent, 3), 67108750, 0));
+    CHECK(charged(kz_charge(&lent, 5), 333, 1));
+    CHECK(not_charged(kz_charge(&lent, 4), KZ_ENDED));
+    CHECK(not_charged(kz_charge(&lent, 0), KZ_UNISSUED));
+    CHECK(not_charged(kz_charge(&lent, 6), KZ_UNISSUED));
+    CHECK(not_charged(kz_charge(&lent, 4294967295u), KZ_UNISSUED));
+    lent.written_size = 0;
+    CHECK(charged(kz_charge(&lent, 2), 500, 1));
+    CHECK(memcmp(table, before, sizeof table) == 0);
+    CHECK(memcmp(&tally, &counted, sizeof tally) == 0);
+    tally.issued = 4;
+    CHECK(not_charged(kz_charge(&lent, 1), KZ_DISORDERED));
+    lent.rows = 0;
+    lent.table = NULL;
+    CHECK(not_charged(kz_charge(&lent, 1), KZ_ENDED));
+}
+
 /* An event with a new name written out, by itself. */
 static kz_answer apply_named(const kz_lent *lent, uint32_t kind, uint32_t written, uint32_t name,
                              uint32_t start, uint32_t length, uint32_t right) {
@@ -521,7 +788,7 @@ static void check_named_events(void) {
     static kz_cap table[2];
     static uint8_t written[KZ_WRITTEN_BYTES];
     static kz_tally tally;
-    const kz_lent lent = {table, 2, written, sizeof written, &tally, NULL};
+    const kz_lent lent = {table, 2, written, sizeof written, &tally, NULL, NULL, 0};
     kz_event event;
     CHECK(refused(apply_named(&lent, KZ_CREATE, 0, 0, 0, 64, KZ_RW), KZ_MISNAMED));
     CHECK(refused(apply_named(&lent, KZ_CREATE, 2, 0, 0, 64, KZ_RW), KZ_MISNAMED));
@@ -553,7 +820,7 @@ static void check_grouped_events(void) {
     static kz_cap table[5];
     static uint8_t written[KZ_WRITTEN_BYTES];
     static kz_tally tally;
-    const kz_lent lent = {table, 5, written, sizeof written, &tally, NULL};
+    const kz_lent lent = {table, 5, written, sizeof written, &tally, NULL, NULL, 0};
     uint32_t i;
     for (i = 0; i <= KZ_MAX_GROUP; i++) many[i] = i + 1;
     for (i = 1; i <= 3; i++) CHECK(allowed(kz_create(&lent, 8 * i, 8, KZ_RW), i));
@@ -586,7 +853,7 @@ static void check_many_events(void) {
     static kz_cap table[4];
     static uint8_t written[KZ_WRITTEN_BYTES];
     static kz_tally tally;
-    const kz_lent lent = {table, 4, written, sizeof written, &tally, NULL};
+    const kz_lent lent = {table, 4, written, sizeof written, &tally, NULL, NULL, 0};
     size_t i;
     memset(answers, 255, sizeof answers);
     events[0] = event_of(KZ_CREATE, 0, 0, 8, KZ_RW);
@@ -626,34 +893,36 @@ static void check_exported(void) {
     memset(answers, 255, sizeof answers);
     events[0] = event_of(KZ_CREATE, 0, 0, 8, KZ_RW);
     events[1] = event_of(KZ_CREATE, 0, 8, 8, KZ_RW);
-    CHECK(kz_abi_apply_all(table, 2, written, bytes, &tally, NULL, 0, events, 2, NULL, 0, answers,
-                           1) == 1);
+    CHECK(kz_abi_apply_all(table, 2, written, bytes, &tally, NULL, 0, NULL, 0, events, 2, NULL, 0,
+                           answers, 1) == 1);
     CHECK(allowed(answers[0], 1) && answers[1].value == 4294967295u && tally.creates == 1);
-    CHECK(kz_abi_apply_all(table, 2, written, bytes, &tally, NULL, 0, events + 1, 1, NULL, 0,
-                           answers, 3) == 1);
+    CHECK(kz_abi_apply_all(table, 2, written, bytes, &tally, NULL, 0, NULL, 0, events + 1, 1, NULL,
+                           0, answers, 3) == 1);
     CHECK(allowed(answers[0], 2) && answers[1].value == 4294967295u);
-    CHECK(kz_abi_apply_all(table, 2, written, bytes, &tally, NULL, 0, events, 2, NULL, 0, NULL,
-                           0) == 0);
+    CHECK(kz_abi_apply_all(table, 2, written, bytes, &tally, NULL, 0, NULL, 0, events, 2, NULL, 0,
+                           NULL, 0) == 0);
     events[0] = event_of(KZ_DROP_ALL, 0, 1, 2, 0);
-    CHECK(kz_abi_apply(table, 2, written, bytes, &tally, NULL, 0, events, names, 2) == misgrouped);
-    CHECK(kz_abi_apply(table, 2, written, bytes, &tally, NULL, 0, events, names, 3) == 0);
+    CHECK(kz_abi_apply(table, 2, written, bytes, &tally, NULL, 0, NULL, 0, events, names, 2) ==
+          misgrouped);
+    CHECK(kz_abi_apply(table, 2, written, bytes, &tally, NULL, 0, NULL, 0, events, names, 3) == 0);
     events[0].start = 4294967295u;
-    CHECK(kz_abi_apply(table, 2, written, bytes, &tally, NULL, 0, events, names, 3) == misgrouped);
+    CHECK(kz_abi_apply(table, 2, written, bytes, &tally, NULL, 0, NULL, 0, events, names, 3) ==
+          misgrouped);
     CHECK(table[0].name == 0 && tally.drops == 1 && tally.refused == 2);
     /* Of the bits only the number is judged. */
     events[0] = event_of(KZ_WRITE, 1, 0, 8, 0);
-    CHECK(kz_abi_apply(table, 2, NULL, 0, &tally, NULL, 0, events, NULL, 0) == disordered);
-    CHECK(kz_abi_run(table, 2, NULL, 0, &tally, NULL, 0, NULL, 0) == disordered);
+    CHECK(kz_abi_apply(table, 2, NULL, 0, &tally, NULL, 0, NULL, 0, events, NULL, 0) == disordered);
+    CHECK(kz_abi_run(table, 2, NULL, 0, &tally, NULL, 0, NULL, 0, NULL, 0) == disordered);
     memset(answers, 255, sizeof answers);
-    CHECK(kz_abi_apply_all(table, 2, written, bytes - 1, &tally, NULL, 0, events, 1, NULL, 0,
-                           answers, 3) == 1);
+    CHECK(kz_abi_apply_all(table, 2, written, bytes - 1, &tally, NULL, 0, NULL, 0, events, 1, NULL,
+                           0, answers, 3) == 1);
     CHECK(refused(answers[0], KZ_DISORDERED) && answers[1].value == 4294967295u);
     CHECK(tally.refused == 2);
 }
 
 static void check_text(void) {
     static const uint8_t trace[] = "(create 0 8 rw)\n(read 1 0 9)\n";
-    static const char listing[] = "(issued 1)\n(1 0 8 rw)\n";
+    static const char listing[] = "(issued 1)\n(1 0 8 rw" OF_0 ")\n";
     const size_t length = sizeof trace - 1;
     const kz_event create = event_of(KZ_CREATE, 0, 0, 8, KZ_RW);
     uint32_t names[KZ_MAX_GROUP];
@@ -662,7 +931,7 @@ static void check_text(void) {
     static kz_cap table[2];
     static uint8_t written[KZ_WRITTEN_BYTES];
     static kz_tally tally;
-    const kz_lent lent = {table, 2, written, sizeof written, &tally, NULL};
+    const kz_lent lent = {table, 2, written, sizeof written, &tally, NULL, NULL, 0};
     memset(&event, 255, sizeof event);
     names[0] = 9;
     CHECK(refused(kz_read_event(0, trace, 15, &event, names), KZ_MISSPELT));
@@ -684,6 +953,7 @@ static void check_text(void) {
 static void check_named_text(void) {
     static const uint8_t trace[] = KZ_NAMED_HEADER "(create 1 0 8 rw)\n(borrow 3 1 0 4 ro)\n";
     static const uint8_t line[] = "(borrow 3 1 0 4 ro)\n";
+    static const char printed[] = "(refused 12 3)\n(issued 1)\n(1 0 8 rw" OF_0 ")\n";
     const size_t length = sizeof trace - 1;
     const size_t line_length = sizeof line - 1;
     const kz_event borrow = named_event(KZ_BORROW, 3, 1, 0, 4, KZ_RO);
@@ -694,7 +964,7 @@ static void check_named_text(void) {
     static kz_cap table[2];
     static uint8_t written[KZ_WRITTEN_BYTES];
     static kz_tally tally;
-    const kz_lent lent = {table, 2, written, sizeof written, &tally, NULL};
+    const kz_lent lent = {table, 2, written, sizeof written, &tally, NULL, NULL, 0};
     CHECK(allowed(kz_write_event(&event, NULL, 0, out, sizeof out), 9));
     CHECK(allowed(kz_read_event(1, out, 9, &event, names), 0));
     CHECK(same_event(&event, &dropped));
@@ -707,8 +977,8 @@ static void check_named_text(void) {
     CHECK(refused_at(kz_run(&lent, trace, length), KZ_MISNAMED, 3));
     CHECK(tally.issued == 1 && tally.creates == 1 && tally.refused == 1);
     CHECK(allowed(kz_run(&lent, trace, sizeof KZ_NAMED_HEADER - 1), 1));
-    CHECK(allowed(kz_check(trace, length, out, sizeof out), 15 + 22));
-    CHECK(memcmp(out, "(refused 12 3)\n(issued 1)\n(1 0 8 rw)\n", 15 + 22) == 0);
+    CHECK(allowed(kz_check(trace, length, out, sizeof out), sizeof printed - 1));
+    CHECK(memcmp(out, printed, sizeof printed - 1) == 0);
 }
 
 static void check_grouped_text(void) {
@@ -725,7 +995,7 @@ static void check_grouped_text(void) {
     static kz_cap table[2];
     static uint8_t written[KZ_WRITTEN_BYTES];
     static kz_tally tally;
-    const kz_lent lent = {table, 2, written, sizeof written, &tally, NULL};
+    const kz_lent lent = {table, 2, written, sizeof written, &tally, NULL, NULL, 0};
     uint32_t form;
     for (form = 0; form < 2; form++) {
         memset(names, 255, sizeof names);
@@ -791,8 +1061,11 @@ static void check_kinds_text(void) {
     static const char named_trace[] =
         KZ_NAMED_HEADER "(create 1 0 64 rw)\n(borrow 2 1 0 8 rw raw)\n(write 1 0 8)\n(read 2 0 8)\n";
     static const char listing[] =
-        "(issued 4)\n(1 0 64 rw (2 0 8 rw raw (3 0 4 ro)) (4 8 8 ro cell))\n";
-    static const char root[] = "(issued 1)\n(1 0 64 rw raw)\n";
+        "(issued 4)\n(1 0 64 rw" OF_0 " (2 0 8 rw raw" OF_0 " (3 0 4 ro" OF_0 ")) (4 8 8 ro cell" OF_0
+        "))\n";
+    static const char named_output[] =
+        "(allowed 5)\n(issued 2)\n(1 0 64 rw" OF_0 " (2 0 8 rw raw" OF_0 "))\n";
+    static const char root[] = "(issued 1)\n(1 0 64 rw raw" OF_0 ")\n";
     const size_t length = sizeof listing - 1;
     const kz_event raw = with_kind(event_of(KZ_BORROW, 1, 0, 8, KZ_RW), KZ_RAW);
     const kz_event cell = with_kind(named_event(KZ_BORROW, 2, 1, 0, 8, KZ_RO), KZ_CELL);
@@ -800,12 +1073,12 @@ static void check_kinds_text(void) {
     const kz_event unknown = with_kind(event_of(KZ_BORROW, 1, 0, 8, KZ_RW), 3);
     uint32_t names[KZ_MAX_GROUP];
     kz_event event;
-    uint8_t out[96];
+    uint8_t out[192];
     static kz_cap table[5], other[5];
     static uint8_t written[KZ_WRITTEN_BYTES];
     static kz_tally tally, copied;
-    const kz_lent lent = {table, 5, written, sizeof written, &tally, NULL};
-    const kz_lent copy = {other, 5, written, sizeof written, &copied, NULL};
+    const kz_lent lent = {table, 5, written, sizeof written, &tally, NULL, NULL, 0};
+    const kz_lent copy = {other, 5, written, sizeof written, &copied, NULL, NULL, 0};
     size_t i;
     CHECK(writes_as(&raw, "(borrow 1 0 8 rw raw)\n"));
     CHECK(reads_as(0, "(borrow 1 0 8 rw raw)\n", &raw));
@@ -831,8 +1104,8 @@ static void check_kinds_text(void) {
                   (uint32_t)(12 + length)));
     CHECK(memcmp(out, "(allowed 4)\n", 12) == 0 && memcmp(out + 12, listing, length) == 0);
     CHECK(allowed(kz_check((const uint8_t *)named_trace, sizeof named_trace - 1, out, sizeof out),
-                  12 + 11 + 27));
-    CHECK(memcmp(out, "(allowed 5)\n(issued 2)\n(1 0 64 rw (2 0 8 rw raw))\n", 12 + 11 + 27) == 0);
+                  sizeof named_output - 1));
+    CHECK(memcmp(out, named_output, sizeof named_output - 1) == 0);
 }
 
 static void check_fresh_text(void) {
@@ -858,21 +1131,25 @@ static void check_fresh_text(void) {
         "(drop 1 fresh)\n",
     };
     static const char *const wrong_listings[] = {
-        "(issued 1)\n(1 0 8 fresh)\n",
-        "(issued 1)\n(1 0 8 fresh rw)\n",
-        "(issued 1)\n(1 0 8 rw fresh fresh)\n",
-        "(issued 1)\n(1 65528 9 rw fresh)\n",
-        "(issued 2)\n(1 0 8 rw fresh (2 0 4 ro cell))\n",
-        "(issued 2)\n(1 0 8 rw (2 0 4 ro cell fresh))\n",
-        "(issued 2)\n(1 0 8 rw fresh (2 0 4 ro fresh cell))\n",
-        "(issued 2)\n(1 0 8 rw (2 0 4 ro) fresh)\n",
+        "(issued 1)\n(1 0 8 fresh" OF_0 ")\n",
+        "(issued 1)\n(1 0 8 fresh rw" OF_0 ")\n",
+        "(issued 1)\n(1 0 8 rw fresh fresh" OF_0 ")\n",
+        "(issued 1)\n(1 0 8 rw" OF_0 " fresh)\n",
+        "(issued 1)\n(1 65528 9 rw fresh" OF_0 ")\n",
+        "(issued 2)\n(1 0 8 rw fresh" OF_0 " (2 0 4 ro cell" OF_0 "))\n",
+        "(issued 2)\n(1 0 8 rw" OF_0 " (2 0 4 ro cell fresh" OF_0 "))\n",
+        "(issued 2)\n(1 0 8 rw fresh" OF_0 " (2 0 4 ro fresh cell" OF_0 "))\n",
+        "(issued 2)\n(1 0 8 rw" OF_0 " (2 0 4 ro" OF_0 ") fresh)\n",
     };
     static const char trace[] = "(create 0 8 rw fresh)\n(borrow 1 0 4 rw cell)\n(write 2 0 4)\n"
                                 "(read 2 0 4)\n(read 1 0 5)\n";
     static const char named_trace[] =
         KZ_NAMED_HEADER "(create 1 0 8 ro fresh)\n(read 1 0 0)\n(read 1 7 1)\n";
-    static const char listing[] = "(issued 2)\n(1 0 8 rw fresh (2 0 4 ro cell fresh))\n";
-    static const char named_output[] = "(refused 16 4)\n(issued 1)\n(1 0 8 ro fresh)\n";
+    static const char listing[] =
+        "(issued 2)\n(1 0 8 rw fresh" OF_0 " (2 0 4 ro cell fresh" OF_0 "))\n";
+    static const char output[] =
+        "(refused 16 5)\n(issued 2)\n(1 0 8 rw fresh" OF_0 " (2 0 4 rw cell fresh" OF_0 "))\n";
+    static const char named_output[] = "(refused 16 4)\n(issued 1)\n(1 0 8 ro fresh" OF_0 ")\n";
     const size_t length = sizeof listing - 1;
     const kz_event fresh = with_mark(event_of(KZ_CREATE, 0, 0, 8, KZ_RW), 1);
     const kz_event named = with_mark(named_event(KZ_CREATE, 1, 0, 0, 8, KZ_RO), 1);
@@ -882,12 +1159,12 @@ static void check_fresh_text(void) {
     const kz_event unknown = with_mark(fresh, 2);
     uint32_t names[KZ_MAX_GROUP];
     kz_event event;
-    uint8_t out[96];
+    uint8_t out[192];
     static kz_cap table[3], other[3];
     static uint8_t written[KZ_WRITTEN_BYTES], bits[KZ_WRITTEN_BYTES];
     static kz_tally tally, copied;
-    const kz_lent lent = {table, 3, written, sizeof written, &tally, NULL};
-    const kz_lent copy = {other, 3, bits, sizeof bits, &copied, NULL};
+    const kz_lent lent = {table, 3, written, sizeof written, &tally, NULL, NULL, 0};
+    const kz_lent copy = {other, 3, bits, sizeof bits, &copied, NULL, NULL, 0};
     size_t i;
     CHECK(writes_as(&fresh, "(create 0 8 rw fresh)\n"));
     CHECK(reads_as(0, "(create 0 8 rw fresh)\n", &fresh));
@@ -926,12 +1203,125 @@ static void check_fresh_text(void) {
     }
     /* capcheck begins with nothing written. */
     CHECK(allowed(kz_check((const uint8_t *)trace, sizeof trace - 1, out, sizeof out),
-                  (uint32_t)(15 + length)));
-    CHECK(memcmp(out, "(refused 16 5)\n", 15) == 0);
-    CHECK(memcmp(out + 15, "(issued 2)\n(1 0 8 rw fresh (2 0 4 rw cell fresh))\n", length) == 0);
+                  sizeof output - 1));
+    CHECK(memcmp(out, output, sizeof output - 1) == 0);
     CHECK(allowed(kz_check((const uint8_t *)named_trace, sizeof named_trace - 1, out, sizeof out),
                   sizeof named_output - 1));
     CHECK(memcmp(out, named_output, sizeof named_output - 1) == 0);
+}
+
+/* Who acts and who holds what is made, in lines. */
+static void check_domains_lines(void) {
+    static const char *const wrong[] = {
+        "(as 0 (read 2 0 8))\n",
+        "(as 64 (read 2 0 8))\n",
+        "(as 03 (read 2 0 8))\n",
+        "(as 3 (as 4 (read 2 0 8)))\n",
+        "(as 3 (read 2 0 8)\n",
+        "(as 3 (read 2 0 8)))\n",
+        "(as 3(read 2 0 8))\n",
+        "(as 3 read 2 0 8)\n",
+        "(as 3 (read 2 0 8) )\n",
+        "(as (read 2 0 8))\n",
+        "(as 3)\n",
+        "(as 3 )\n",
+        "(As 3 (read 2 0 8))\n",
+        "(read 2 0 8 0000000000000001)\n",
+        "(drop 2 0000000000000009)\n",
+        "(create 0 8 rw 0000000000000001)\n",
+        "(create 0 8 rw 0000000000000008)\n",
+        "(create 0 8 rw 0000000000000000)\n",
+        "(create 0 8 rw 9)\n",
+        "(create 0 8 rw 00000000000000009)\n",
+        "(create 0 8 rw 000000000000000F)\n",
+        "(create 0 8 rw 00000000000000 9)\n",
+        "(create 0 8 rw 0000000000000009 fresh)\n",
+        "(create 0 8 0000000000000009 rw)\n",
+        "(borrow 1 0 8 rw 0000000000000009 raw)\n",
+        "(as 3 (create 0 8 rw 0000000000000008))\n",
+        "(as 3 (create 0 8 rw 0000000000000001))\n",
+    };
+    const kz_event create = kz_by(with_mark(event_of(KZ_CREATE, 0, 0, 8, KZ_RW), 1), 3, 9);
+    const kz_event alone = kz_by(event_of(KZ_BORROW, 1, 0, 8, KZ_RO), 63, kz_holder(63));
+    const kz_event shared = kz_by(with_kind(named_event(KZ_BORROW, 2, 1, 0, 8, KZ_RO), KZ_RAW), 0,
+                                  0xfedcba9876543211u);
+    const kz_event freshest = kz_by(event_of(KZ_CREATE, 0, 0, 8, KZ_RW), 0, 0xfffffffffffffff1u);
+    const kz_event celled = kz_by(event_of(KZ_BORROW, 1, 0, 8, KZ_RO), 0, 0xce00000000000001u);
+    const kz_event read = kz_by(event_of(KZ_READ, 2, 0, 8, 0), 3, 0);
+    const kz_event held = kz_by(event_of(KZ_WRITE, 2, 0, 8, 0), 10, ~(uint64_t)0);
+    const kz_event dropped = kz_by(event_of(KZ_DROP_ALL, 0, 0, 2, 0), 3, 0);
+    uint32_t names[KZ_MAX_GROUP];
+    kz_event event;
+    uint8_t out[KZ_MAX_LINE];
+    size_t i;
+    CHECK(writes_as(&create, "(as 3 (create 0 8 rw fresh 0000000000000009))\n"));
+    CHECK(reads_as(0, "(as 3 (create 0 8 rw fresh 0000000000000009))\n", &create));
+    CHECK(writes_as(&alone, "(as 63 (borrow 1 0 8 ro))\n"));
+    CHECK(reads_as(0, "(as 63 (borrow 1 0 8 ro))\n", &alone));
+    CHECK(writes_as(&shared, "(borrow 2 1 0 8 ro raw fedcba9876543211)\n"));
+    CHECK(reads_as(1, "(borrow 2 1 0 8 ro raw fedcba9876543211)\n", &shared));
+    /* Holders that begin as another word does. */
+    CHECK(writes_as(&freshest, "(create 0 8 rw fffffffffffffff1)\n"));
+    CHECK(reads_as(0, "(create 0 8 rw fffffffffffffff1)\n", &freshest));
+    CHECK(writes_as(&celled, "(borrow 1 0 8 ro ce00000000000001)\n"));
+    CHECK(reads_as(0, "(borrow 1 0 8 ro ce00000000000001)\n", &celled));
+    CHECK(writes_as(&read, "(as 3 (read 2 0 8))\n"));
+    CHECK(reads_as(1, "(as 3 (read 2 0 8))\n", &read));
+    CHECK(writes_as(&held, "(as 10 (write 2 0 8))\n"));
+    memset(names, 255, sizeof names);
+    CHECK(allowed(kz_read_event(0, (const uint8_t *)"(as 3 (drop 2 5))\n", 18, &event, names), 0));
+    CHECK(same_event(&event, &dropped) && names[0] == 2 && names[1] == 5);
+    CHECK(allowed(kz_write_event(&dropped, names, 2, out, sizeof out), 18));
+    CHECK(memcmp(out, "(as 3 (drop 2 5))\n", 18) == 0);
+    memset(&event, 255, sizeof event);
+    for (i = 0; i < sizeof wrong / sizeof wrong[0]; i++) {
+        const uint8_t *line = (const uint8_t *)wrong[i];
+        CHECK(refused(kz_read_event(0, line, strlen(wrong[i]), &event, names), KZ_MISSPELT));
+        CHECK(event.actor == 4294967295u);
+    }
+}
+
+/* Makers and holders, in a run and in listings. */
+static void check_domains_text(void) {
+    static const char *const wrong_listings[] = {
+        "(issued 1)\n(1 0 8 rw)\n",
+        "(issued 1)\n(1 0 8 rw 0)\n",
+        "(issued 1)\n(1 0 8 rw 0000000000000001)\n",
+        "(issued 1)\n(1 0 8 rw 0000000000000001 0)\n",
+        "(issued 1)\n(1 0 8 rw 00 0000000000000001)\n",
+        "(issued 1)\n(1 0 8 rw 1 0000000000000001)\n",
+        "(issued 1)\n(1 0 8 rw 64 0000000000000001)\n",
+        "(issued 1)\n(1 0 8 rw 0 000000000000001)\n",
+        "(issued 1)\n(1 0 8 rw 0 000000000000000B)\n",
+        "(issued 2)\n(1 0 8 rw 0 0000000000000001 (2 0 4 ro))\n",
+        "(issued 2)\n(1 0 8 rw (2 0 4 ro 0 0000000000000001) 0 0000000000000001)\n",
+    };
+    static const char trace[] = "(as 3 (create 0 64 rw 0000000000000009))\n"
+                                "(borrow 1 0 8 ro cell 8000000000000001)\n"
+                                "(as 63 (read 2 0 8))\n(as 3 (drop 1 2))\n";
+    static const char listing[] =
+        "(issued 2)\n(1 0 64 rw 3 0000000000000009 (2 0 8 ro cell 0 8000000000000001))\n";
+    uint8_t out[192];
+    static kz_cap table[3], other[3];
+    static uint8_t written[KZ_WRITTEN_BYTES];
+    static kz_tally tally, copied;
+    const kz_lent lent = {table, 3, written, sizeof written, &tally, NULL, NULL, 0};
+    const kz_lent copy = {other, 3, written, sizeof written, &copied, NULL, NULL, 0};
+    const size_t length = sizeof listing - 1;
+    size_t i;
+    CHECK(refused_at(kz_run(&lent, (const uint8_t *)trace, sizeof trace - 1), KZ_NOT_HOLDER, 4));
+    CHECK(allowed(kz_write_listing(&lent, out, sizeof out), (uint32_t)length));
+    CHECK(memcmp(out, listing, length) == 0);
+    CHECK(allowed(kz_read_listing(&copy, out, length), 0));
+    CHECK(memcmp(table, other, sizeof table) == 0 && copied.issued == 2);
+    for (i = 0; i < sizeof wrong_listings / sizeof wrong_listings[0]; i++) {
+        const uint8_t *text = (const uint8_t *)wrong_listings[i];
+        CHECK(refused(kz_read_listing(&copy, text, strlen(wrong_listings[i])), KZ_MISSPELT));
+    }
+    CHECK(memcmp(table, other, sizeof table) == 0 && copied.issued == 2);
+    CHECK(allowed(kz_check((const uint8_t *)trace, sizeof trace - 1, out, sizeof out),
+                  (uint32_t)(15 + length)));
+    CHECK(memcmp(out, "(refused 17 4)\n", 15) == 0 && memcmp(out + 15, listing, length) == 0);
 }
 
 /* The default sheet, by rising place. */
@@ -955,7 +1345,7 @@ static uint32_t result_on(kz_cap table[3], const kz_sheet *sheet, uint32_t kind,
                           uint32_t from) {
     static uint8_t written[KZ_WRITTEN_BYTES];
     kz_tally tally;
-    const kz_lent lent = {table, 3, written, sizeof written, &tally, sheet};
+    const kz_lent lent = {table, 3, written, sizeof written, &tally, sheet, NULL, 0};
     const uint32_t user = from == KZ_FROM_CELL ? 2 : 1;
     const uint32_t parent = from == KZ_FROM_STRANGER ? 2 : 1;
     const kz_event event = event_of(access, user, 0, 8, 0);
@@ -1038,7 +1428,7 @@ static void check_sheets_of_one_result(void) {
     static uint8_t written[KZ_WRITTEN_BYTES];
     static kz_tally tally;
     kz_sheet sheet = all_of(KZ_KEEP);
-    const kz_lent lent = {table, 6, written, sizeof written, &tally, &sheet};
+    const kz_lent lent = {table, 6, written, sizeof written, &tally, &sheet, NULL, 0};
     uint32_t i;
     CHECK(allowed(kz_create(&lent, 0, 16, KZ_RW), 1));
     CHECK(allowed(kz_borrow(&lent, 1, 0, 8, KZ_RW), 2));
@@ -1079,7 +1469,7 @@ static void check_sheet_of_create(void) {
     static uint8_t written[KZ_WRITTEN_BYTES];
     static kz_tally tally;
     kz_sheet sheet = all_of(KZ_END);
-    const kz_lent lent = {table, 4, written, sizeof written, &tally, &sheet};
+    const kz_lent lent = {table, 4, written, sizeof written, &tally, &sheet, NULL, 0};
     CHECK(allowed(kz_create(&lent, 0, 16, KZ_RW), 1));
     CHECK(allowed(kz_borrow_as(&lent, 1, 0, 8, KZ_RW, KZ_RAW), 2));
     CHECK(allowed(kz_borrow_as(&lent, 1, 0, 8, KZ_RW, KZ_CELL), 3));
@@ -1156,19 +1546,19 @@ static void check_sheet_bytes(void) {
         memset(written, 0, sizeof written);
         memset(tallies, 0, sizeof tallies);
         for (j = 0; j < 3; j++) {
-            CHECK(kz_abi_run(tables[j], 3, written[j], size, &tallies[j], bytes, length, made,
-                             sizeof made - 1) == 3);
+            CHECK(kz_abi_run(tables[j], 3, written[j], size, &tallies[j], bytes, length, NULL, 0,
+                             made, sizeof made - 1) == 3);
         }
-        CHECK(kz_abi_apply(tables[0], 3, written[0], size, tallies, bytes, length, &events[0], NULL,
-                           0) == 0);
+        CHECK(kz_abi_apply(tables[0], 3, written[0], size, tallies, bytes, length, NULL, 0,
+                           &events[0], NULL, 0) == 0);
         CHECK(tables[0][1].right == cases[i].between);
-        CHECK(kz_abi_apply(tables[0], 3, written[0], size, tallies, bytes, length, &events[1], NULL,
-                           0) == 0);
+        CHECK(kz_abi_apply(tables[0], 3, written[0], size, tallies, bytes, length, NULL, 0,
+                           &events[1], NULL, 0) == 0);
         for (j = 0; j < 3; j++) CHECK(tables[0][j].name == cases[i].after[j]);
-        CHECK(kz_abi_apply_all(tables[1], 3, written[1], size, &tallies[1], bytes, length, events,
-                               2, NULL, 0, answers, 2) == 2);
-        CHECK(kz_abi_run(tables[2], 3, written[2], size, &tallies[2], bytes, length, uses,
-                         sizeof uses - 1) == 2);
+        CHECK(kz_abi_apply_all(tables[1], 3, written[1], size, &tallies[1], bytes, length, NULL, 0,
+                               events, 2, NULL, 0, answers, 2) == 2);
+        CHECK(kz_abi_run(tables[2], 3, written[2], size, &tallies[2], bytes, length, NULL, 0,
+                         uses, sizeof uses - 1) == 2);
         for (j = 1; j < 3; j++) {
             CHECK(memcmp(tables[0], tables[j], sizeof tables[0]) == 0);
             CHECK(memcmp(&tallies[0], &tallies[j], sizeof tallies[0]) == 0);
@@ -1301,7 +1691,7 @@ static void check_null(void) {
     uint8_t out[64];
     static uint8_t written[KZ_WRITTEN_BYTES];
     static kz_tally tally;
-    const kz_lent lent = {NULL, 0, written, sizeof written, &tally, NULL};
+    const kz_lent lent = {NULL, 0, written, sizeof written, &tally, NULL, NULL, 0};
     CHECK(refused(kz_create(&lent, 0, 64, KZ_RW), KZ_TABLE_FULL));
     CHECK(refused(kz_create_fresh(&lent, 0, 64, KZ_RW), KZ_TABLE_FULL));
     CHECK(refused(apply_named(&lent, KZ_CREATE, 1, 0, 0, 64, KZ_RW), KZ_TABLE_FULL));
@@ -1333,10 +1723,11 @@ static void check_longest(void) {
     static uint8_t out[KZ_MAX_LISTING];
     const uint32_t most = 4294967295u;
     const kz_lent lent = kz_lend(&part);
-    const kz_event borrow = with_kind(event_of(KZ_BORROW, most, most, most, KZ_RW), KZ_CELL);
-    const kz_event named = with_kind(named_event(KZ_BORROW, most, most, most, most, KZ_RW), KZ_CELL);
-    const kz_event created = with_mark(named_event(KZ_CREATE, most, 0, most, most, KZ_RW), 1);
-    const kz_event group = event_of(KZ_DROP_ALL, 0, 0, KZ_MAX_GROUP, 0);
+    kz_event borrow = with_kind(event_of(KZ_BORROW, most, most, most, KZ_RW), KZ_CELL);
+    kz_event named = with_kind(named_event(KZ_BORROW, most, most, most, most, KZ_RW), KZ_CELL);
+    kz_event created = with_mark(named_event(KZ_CREATE, most, 0, most, most, KZ_RW), 1);
+    const kz_event group = kz_by(event_of(KZ_DROP_ALL, 0, 0, KZ_MAX_GROUP, 0), 63, 0);
+    const uint64_t all = ~(uint64_t)0;
     uint32_t names[KZ_MAX_GROUP];
     kz_event event;
     uint32_t i;
@@ -1348,6 +1739,8 @@ static void check_longest(void) {
         part.table[i].depth = i == 0 ? 1 : 2;
         part.table[i].parent = i == 0 ? 0 : part.table[0].name;
         part.table[i].kind = i == 0 ? KZ_REFERENCE : KZ_CELL;
+        part.table[i].maker = 63;
+        part.table[i].holders_high = 0x80000000u;
     }
     part.tally.issued = KZ_MAX_NAME;
     for (i = 0; i < KZ_MAX_ROWS; i++) {
@@ -1362,6 +1755,9 @@ static void check_longest(void) {
     CHECK(allowed(kz_write_listing(&lent, out, sizeof out), sizeof out));
     CHECK(allowed(kz_read_listing(&lent, out, sizeof out), 0));
     CHECK(refused(kz_write_listing(&lent, out, sizeof out - 1), KZ_BUFFER_TOO_SHORT));
+    borrow = kz_by(borrow, 63, all);
+    named = kz_by(named, 63, all);
+    created = kz_by(created, 63, all);
     CHECK(allowed(kz_write_event(&borrow, NULL, 0, out, KZ_MAX_LINE), KZ_MAX_LINE));
     CHECK(refused(kz_write_event(&borrow, NULL, 0, out, KZ_MAX_LINE - 1), KZ_BUFFER_TOO_SHORT));
     CHECK(allowed(kz_read_event(0, out, KZ_MAX_LINE, &event, names), 0));
@@ -1389,6 +1785,12 @@ int main(void) {
     check_fresh_limits();
     check_wrong_marks();
     check_wrong_sizes();
+    check_holders();
+    check_domains();
+    check_wrong_domains();
+    check_limits();
+    check_wrong_limits();
+    check_charge();
     check_named_events();
     check_grouped_events();
     check_many_events();
@@ -1398,6 +1800,8 @@ int main(void) {
     check_grouped_text();
     check_kinds_text();
     check_fresh_text();
+    check_domains_lines();
+    check_domains_text();
     check_sheet_of_default();
     check_sheet_places();
     check_sheets_of_one_result();

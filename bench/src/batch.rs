@@ -149,30 +149,62 @@ pub fn run(lent: Lent, text: Vec<u8>) -> Box<dyn Batch> {
 
 /// One event of each kind, their numbers from one digit to ten.
 fn events() -> [Words; 5] {
-    [CREATE, BORROW, READ, WRITE, DROP].map(|kind| Words {
-        kind,
-        name: 40,
-        start: 4_294_901_760,
-        length: 8,
-        right: READ_WRITE,
-        ..Words::default()
+    [CREATE, BORROW, READ, WRITE, DROP].map(|kind| {
+        Words {
+            kind,
+            name: 40,
+            start: 4_294_901_760,
+            length: 8,
+            right: READ_WRITE,
+            ..Words::default()
+        }
+        .by(0, 1)
     })
 }
 
+/// The same by another domain, for others too.
+fn shared_events() -> [Words; 5] {
+    events().map(|event| event.by(63, 1 << 63 | 0xabc))
+}
+
 pub fn write_event() -> Box<dyn Batch> {
-    let events = events();
-    let mut out = [0; 64];
+    write_events(events())
+}
+
+pub fn write_shared_event() -> Box<dyn Batch> {
+    write_events(shared_events())
+}
+
+fn write_events(events: [Words; 5]) -> Box<dyn Batch> {
+    let mut out = [0; 96];
     repeated(BATCH_LINES, move |implementation, at| {
         implementation.write_words(&events[at % events.len()], &[], &mut out)
     })
 }
 
 pub fn read_event() -> Box<dyn Batch> {
-    let lines = events().map(workload::line);
+    read_events(events())
+}
+
+pub fn read_shared_event() -> Box<dyn Batch> {
+    read_events(shared_events())
+}
+
+fn read_events(events: [Words; 5]) -> Box<dyn Batch> {
+    let lines = events.map(workload::line);
     let mut event = Words::default();
     let mut names = [0; MAX_GROUP];
     repeated(BATCH_LINES, move |implementation, at| {
         implementation.read_line(0, &lines[at % lines.len()], &mut event, &mut names)
+    })
+}
+
+/// What the holders of a row in the middle are charged.
+pub fn charge(lent: Lent) -> Box<dyn Batch> {
+    let name = lent.table[lent.table.len() / 2].name;
+    repeated(BATCH_LINES / lent.table.len(), move |implementation, _| {
+        let [refusal, share, _] = implementation.charge(&lent.table, lent.tally.issued, name);
+        u64::from(refusal) << 32 | u64::from(share)
     })
 }
 

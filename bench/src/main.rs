@@ -1,8 +1,9 @@
 //! Times each call of the C interface, the library beside the baseline where this was built with
 //! `KELZOUD_LIB` set: how the times grow with the rows, how they depend on the table's shape, what is
-//! gained by many events in one call, and how the times grow with the written bits.
+//! gained by many events in one call, how the times grow with the written bits, and what domains and limits
+//! cost.
 //!
-//! `bench [rows] [shapes] [many] [bits]`: with words only those tables are made.
+//! `bench [rows] [shapes] [many] [bits] [domains]`: with words only those tables are made.
 
 mod batch;
 mod clock;
@@ -16,8 +17,8 @@ use std::env;
 
 use interface::{CELL, REFERENCE, Words};
 use shape::{
-    Case, Shape, cells, chains, marked, random_trees, roots, shared_slots, spread_star, star,
-    two_trees,
+    Case, Shape, cells, chains, domains, marked, random_trees, roots, shared_slots, spread_star,
+    star, two_trees,
 };
 use timing::{Batch, Contenders, median_times};
 use workload::{
@@ -117,8 +118,8 @@ const MOST_ROWS: usize = 1_024;
 const MANY_EVENTS: usize = 1_000;
 const MANY_SIZES: [usize; 4] = [16, 64, 256, 1_000];
 
-/// On how many rows the events are given again with cells.
-const MANY_WITH_CELLS: usize = 1_000;
+/// On how many rows the events are given again with cells, and by a domain with limits.
+const MANY_AGAIN: usize = 1_000;
 
 /// On how many rows written bits are timed, and of how many addresses.
 const BITS_ROWS: usize = 16;
@@ -137,6 +138,42 @@ const ON_BITS: [BitsMeasurement; 4] = [
     ("marked read", READ, 0, BITS_LENGTHS),
     ("read within", READ, FROM_WITHIN, LENGTHS_WITHIN),
 ];
+
+/// The domain that acts where limits are lent. It is given the empty rows.
+const ACTOR: u32 = 3;
+
+/// Calls on rows of all domains, each made for all, with limits and without: pairs of the same event.
+const ON_DOMAINS: [(&str, Timed); 7] = [
+    ("charge", |case| batch::charge(case.with_room(0))),
+    ("create", |case| by_actor(CREATE, case.with_room(1))),
+    ("limited create", |case| {
+        by_actor(CREATE, case.with_room(1).limited_for(ACTOR))
+    }),
+    ("write", |case| by_actor(WRITE, case.with_room(0))),
+    ("limited write", |case| {
+        by_actor(WRITE, case.with_room(0).limited_for(ACTOR))
+    }),
+    ("no holder", |case| {
+        let shape = two_trees;
+        let lent = Case { shape, ..case }.with_room(0);
+        let read = event_on_user(&lent, READ);
+        batch::apply_refused(NO_HOLDER, read.by(ACTOR, 0), lent)
+    }),
+    ("limit reached", |case| {
+        let lent = case.with_room(1).limited_for(ACTOR);
+        let create = beside(event_on_user(&lent, CREATE));
+        batch::apply_refused(LIMIT_REACHED, create.by(ACTOR + 1, u64::MAX), lent)
+    }),
+];
+
+/// Lines by another domain than 0, for others too.
+const ON_SHARED_LINES: [LineMeasurement; 2] = [
+    ("write_event", batch::write_shared_event),
+    ("read_event", batch::read_shared_event),
+];
+
+const NO_HOLDER: u64 = 17;
+const LIMIT_REACHED: u64 = 18;
 
 const NOTES: &str = "\
 Times are medians of the processor time of one call, both implementations taking turns; 'growth' is
@@ -162,7 +199,8 @@ of one span; '16 of 1,024' has 16 live rows of the two trees of 1,024 lent.";
 const MANY_NOTES: &str = "\
 Time for one event of 1,000, by a call for each and by one call for all, on the two trees nearly
 full; 'gain' is the one over the other. The events are a run's; with cells the rows are those of the
-shape, and each object is written through a borrow of a cell of it.";
+shape, and each object is written through a borrow of a cell of it; with limits the rows are made by all
+domains in turn, and one domain, which has the empty rows, acts for itself.";
 
 const BITS_NOTES: &str = "\
 Writes and reads through a marked root of all 65,536 addresses that have a written bit, alone in 16
@@ -170,17 +208,26 @@ rows: 'length' is how many addresses are written or read, and 'growth' the time 
 above. All are written already, so that a read looks at every bit and a write sets each again. Those
 'within' start in the middle of a byte, the others at its edge.";
 
+const DOMAINS_NOTES: &str = "\
+Calls on the two trees, of which each of the 64 domains in turn made a row, and all are held by all. The
+create is beside the trees and the write through one tree's root, as above; the 'limited' ones are the
+same with limits lent, of which the domain that acts has the empty rows and each other domain what it
+made. 'no holder' is a read through a row of domain 0 alone by another, 'limit reached' a create of a
+domain that has no row left; 'charge' is of a row in the middle. The lines are as above, but by domain
+63, and what they make is for others too.";
+
 fn main() {
     let contenders: Vec<_> = interface::library()
         .into_iter()
         .chain([interface::baseline()])
         .collect();
     let wanted: Vec<String> = env::args().skip(1).collect();
-    let tables: [Table; 4] = [
+    let tables: [Table; 5] = [
         ("rows", NOTES, growth_by_rows),
         ("shapes", SHAPE_NOTES, ratios_by_shape),
         ("many", MANY_NOTES, many_events),
         ("bits", BITS_NOTES, growth_by_bits),
+        ("domains", DOMAINS_NOTES, growth_by_domains),
     ];
     for (name, notes, table) in tables {
         if wanted.is_empty() || wanted.iter().any(|word| word == name) {
@@ -239,6 +286,24 @@ fn bits_rows(contenders: &Contenders, (name, kind, start, lengths): BitsMeasurem
     }
 }
 
+fn growth_by_domains(contenders: &Contenders) {
+    print::growth_heading(contenders, "rows");
+    for (name, batch) in ON_SHARED_LINES {
+        let times = median_times(contenders, &mut *batch());
+        print::growth_row(name, None, &times, None);
+    }
+    for (name, batch) in ON_DOMAINS {
+        growth_rows(contenders, name, domains, batch);
+    }
+}
+
+/// An event by the domain that acts, for all: a create beside the rows, else through the user.
+fn by_actor(kind: u32, lent: shape::Lent) -> Box<dyn Batch> {
+    let event = event_on_user(&lent, kind).by(ACTOR, u64::MAX);
+    let event = if kind == CREATE { beside(event) } else { event };
+    batch::apply(event, lent)
+}
+
 fn ratios_by_shape(contenders: &Contenders) {
     print::shape_heading(&ON_TABLES.map(|(_, name, _)| name));
     for (name, shape) in SHAPES {
@@ -264,30 +329,32 @@ fn shape_row(contenders: &Contenders, name: &str, rows: &str, case: Case) {
 fn many_events(contenders: &Contenders) {
     print::many_heading(contenders);
     for rows in MANY_SIZES {
+        let lent = Case::full(two_trees, rows).with_room(ROUND_ROWS);
         many_row(
             contenders,
             "references",
-            Case::full(two_trees, rows),
-            REFERENCE,
+            &lent,
+            some_rounds(&lent, REFERENCE),
         );
     }
-    many_row(
-        contenders,
-        "cells",
-        Case::full(cells, MANY_WITH_CELLS),
-        CELL,
-    );
+    let lent = Case::full(cells, MANY_AGAIN).with_room(ROUND_ROWS);
+    many_row(contenders, "cells", &lent, some_rounds(&lent, CELL));
+    let lent = Case::full(domains, MANY_AGAIN).with_room(ROUND_ROWS);
+    let lent = lent.limited_for(ACTOR);
+    let events = some_rounds(&lent, REFERENCE);
+    let events = events.into_iter().map(|event| event.by(ACTOR, 1 << ACTOR));
+    many_row(contenders, "limits", &lent, events.collect());
 }
 
-fn many_row(contenders: &Contenders, name: &str, case: Case, cap_kind: u32) {
-    let lent = case.with_room(ROUND_ROWS);
-    let events: Vec<_> = rounds(&lent, cap_kind)
-        .take(MANY_EVENTS / ROUND_EVENTS)
-        .flatten()
-        .collect();
+fn some_rounds(lent: &shape::Lent, cap_kind: u32) -> Vec<Words> {
+    let rounds = rounds(lent, cap_kind).take(MANY_EVENTS / ROUND_EVENTS);
+    rounds.flatten().collect()
+}
+
+fn many_row(contenders: &Contenders, name: &str, lent: &shape::Lent, events: Vec<Words>) {
     let mut each = batch::apply_each(events.clone(), lent.clone());
-    let mut all = batch::apply_all(events, lent);
+    let mut all = batch::apply_all(events, lent.clone());
     let each = median_times(contenders, &mut *each);
     let all = median_times(contenders, &mut *all);
-    print::many_row(name, case.lent, &each, &all);
+    print::many_row(name, lent.table.len(), &each, &all);
 }

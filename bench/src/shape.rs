@@ -1,6 +1,6 @@
 //! Tables to time the calls on: who is borrowed from whom, and which names they have.
 
-use interface::{CELL, Cap, FRESH, Memory, REFERENCE, Tally};
+use interface::{CELL, Cap, DOMAINS, FRESH, Memory, REFERENCE, Tally};
 
 use crate::random::Random;
 
@@ -18,11 +18,12 @@ pub const WRITABLE: u32 = 1 << 16;
 /// The first address behind every shape.
 pub const BESIDE: u32 = WRITABLE + 2 * TREE_LENGTH;
 
-/// A lent table and tally.
+/// A lent table and tally, and limits where they are lent.
 #[derive(Clone)]
 pub struct Lent {
     pub table: Vec<Cap>,
     pub tally: Tally,
+    pub limits: Vec<u32>,
 }
 
 impl Lent {
@@ -32,7 +33,19 @@ impl Lent {
             table: &mut self.table,
             written,
             tally: &mut self.tally,
+            limits: &self.limits,
         }
+    }
+
+    /// The same with limits: each domain has made as much as it may, but for one, which has the empty rows.
+    pub fn limited_for(mut self, domain: u32) -> Lent {
+        let mut limits = vec![0; DOMAINS];
+        for row in &self.table {
+            let maker = if row.name == 0 { domain } else { row.maker };
+            limits[maker as usize] += 1;
+        }
+        self.limits = limits;
+        self
     }
 }
 
@@ -64,7 +77,12 @@ impl Case {
             ..Tally::default()
         };
         table.resize(self.lent, Cap::default());
-        Lent { table, tally }
+        let limits = Vec::new();
+        Lent {
+            table,
+            tally,
+            limits,
+        }
     }
 }
 
@@ -186,6 +204,16 @@ pub fn cells(live: usize) -> Vec<Cap> {
     table
 }
 
+/// The two trees, of which each domain in turn made a row; all are held by all.
+pub fn domains(live: usize) -> Vec<Cap> {
+    let mut table = two_trees(live);
+    for (row, maker) in table.iter_mut().zip((0..DOMAINS as u32).cycle()) {
+        row.maker = maker;
+        *row = row.held_by(u64::MAX);
+    }
+    table
+}
+
 /// Marked roots over all addresses that have a written bit.
 pub fn marked(live: usize) -> Vec<Cap> {
     let marked = |at: u32| Cap {
@@ -201,17 +229,15 @@ fn every_second(at: u32) -> u32 {
     2 * at + 1
 }
 
-/// A root so far behind the addresses that have a written bit.
+/// A root so far behind the addresses that have a written bit, domain 0's alone.
 fn root(name: u32, offset: u32, length: u32) -> Cap {
     Cap {
         name,
-        parent: 0,
         start: WRITABLE + offset,
         length,
         right: READ_WRITE,
         depth: 1,
-        kind: REFERENCE,
-        fresh: 0,
+        ..Cap::default().held_by(1)
     }
 }
 

@@ -24,7 +24,8 @@ fn user(lent: &Lent) -> Cap {
 }
 
 /// An event over the whole span of the user, through it where the kind has a name: a read lowers what was
-/// borrowed from it, a write, drop or create ends it, a borrow takes nothing.
+/// borrowed from it, a write, drop or create ends it, a borrow takes nothing. It is domain 0's, which alone
+/// holds what it makes.
 pub fn event_on_user(lent: &Lent, kind: u32) -> Words {
     let user = user(lent);
     Words {
@@ -35,6 +36,7 @@ pub fn event_on_user(lent: &Lent, kind: u32) -> Words {
         right: READ_WRITE,
         ..Words::default()
     }
+    .by(0, 1)
 }
 
 /// The event moved behind the shape: a create there touches nothing and so ends nothing, a read there
@@ -56,13 +58,16 @@ pub const ROUND_EVENTS: usize = 8;
 /// dropped, and some live row is read through. A round's create has the memory of the last round's
 /// object, which has been dropped, and so ends nothing.
 fn round(object: u32, reader: &Cap, cap_kind: u32) -> [Words; ROUND_EVENTS] {
-    let event = |kind, name, length| Words {
-        kind,
-        name,
-        start: BESIDE,
-        length,
-        right: READ_WRITE,
-        ..Words::default()
+    let event = |kind, name, length| {
+        Words {
+            kind,
+            name,
+            start: BESIDE,
+            length,
+            right: READ_WRITE,
+            ..Words::default()
+        }
+        .by(0, 1)
     };
     let (first, second) = (object + 1, object + 2);
     [
@@ -111,7 +116,7 @@ pub fn steady_text(lent: &Lent, size: usize) -> Vec<u8> {
 
 /// The line of an event.
 pub fn line(event: Words) -> Vec<u8> {
-    let mut line = vec![0; 64];
+    let mut line = vec![0; 96];
     let length = interface::baseline().write_words(&event, &[], &mut line) as usize;
     line.truncate(length);
     line

@@ -4,6 +4,8 @@
 //! a table and finds every parent's row, one more pass carries an event out on the lent rows, and a
 //! run or a call for many events checks the order once.
 
+mod charge;
+mod domain;
 mod event;
 mod group;
 mod lines;
@@ -16,6 +18,8 @@ mod step;
 mod text;
 mod written;
 
+pub use charge::charge;
+pub use domain::DOMAINS;
 pub use event::{DROP_ALL, Event, Kind, Refusal};
 pub use group::{MAX_GROUP, drop_all, read_drop, write_drop};
 pub use lines::{Spelling, read_event, write_event};
@@ -24,5 +28,5 @@ pub use many::apply_all;
 pub use order::{CELL, Cap, MAX_DEPTH, MAX_NAME, MAX_ROWS, RAW, REFERENCE};
 pub use run::{check, run};
 pub use sheet::{SHEET_PLACES, read_sheet, write_sheet};
-pub use step::{Tally, apply};
+pub use step::{Lent, Tally, apply};
 pub use written::{FRESH, WRITTEN_BYTES};

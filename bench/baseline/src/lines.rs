@@ -1,5 +1,6 @@
 //! Event lines, in the two spellings.
 
+use crate::domain::{alone, holds, is_domain};
 use crate::event::{Event, Kind, Refusal};
 use crate::text::{Reader, Writer};
 
@@ -10,8 +11,9 @@ pub enum Spelling {
     Named,
 }
 
-/// Above the longest line, a borrow of four numbers of ten digits that makes a cell.
-const LINE_CAPACITY: usize = 64;
+/// Above the longest line, by a domain of two digits: a borrow of four numbers of ten digits that makes a cell
+/// for others too.
+const LINE_CAPACITY: usize = 96;
 
 /// Writes the event's line: its length, or the refusal.
 pub fn write_event(event: Event, spelling: Spelling, out: &mut [u8]) -> Result<u32, Refusal> {
@@ -21,6 +23,7 @@ pub fn write_event(event: Event, spelling: Spelling, out: &mut [u8]) -> Result<u
     }
     let mut line = [0; LINE_CAPACITY];
     let mut writer = Writer::new(&mut line);
+    put_actor(&mut writer, event.actor);
     writer.put(opening(kind));
     if let (true, Some(written)) = (kind.makes(), event.written) {
         writer.next_number(written);
@@ -40,11 +43,37 @@ pub fn write_event(event: Event, spelling: Spelling, out: &mut [u8]) -> Result<u
         Kind::Borrow => writer.next_kind(u32::from(event.cap_kind)),
         _ => {}
     }
-    writer.put(b")\n");
+    if kind.makes() && event.holders != alone(event.actor) {
+        writer.next_holders(event.holders);
+    }
+    put_end(&mut writer, event.actor);
     let length = writer.length();
     let target = out.get_mut(..length).ok_or(Refusal::BufferTooShort)?;
     target.copy_from_slice(&line[..length]);
     Ok(length as u32)
+}
+
+/// What stands before and behind the line of any domain but 0.
+#[inline]
+pub(crate) fn put_actor(writer: &mut Writer, actor: u32) {
+    if actor != 0 {
+        writer.put(b"(as");
+        writer.next_number(actor);
+        writer.put(b" ");
+    }
+}
+
+#[inline]
+pub(crate) fn put_end(writer: &mut Writer, actor: u32) {
+    writer.put(ending(actor));
+}
+
+#[inline]
+fn ending(actor: u32) -> &'static [u8] {
+    match actor {
+        0 => b")\n",
+        _ => b"))\n",
+    }
 }
 
 #[inline]
@@ -72,8 +101,9 @@ pub fn read_event(line: &[u8], spelling: Spelling) -> Result<Event, Refusal> {
 /// the other without asking which of them it has.
 #[inline]
 pub(crate) fn next_event(reader: &mut Reader, spelling: Spelling) -> Option<Event> {
+    let actor = next_actor(reader)?;
     // The letter after the bracket tells the kinds apart.
-    let event = match reader.peek(1)? {
+    let mut event = match reader.peek(1)? {
         b'c' => Event {
             kind: next_kind(reader, Kind::Create)?,
             written: next_written(reader, spelling)?,
@@ -81,6 +111,7 @@ pub(crate) fn next_event(reader: &mut Reader, spelling: Spelling) -> Option<Even
             length: reader.next_number()?,
             right: reader.next_right()?,
             fresh: reader.next_mark()? as u8,
+            holders: next_holders(reader, actor)?,
             ..Event::default()
         },
         b'b' => Event {
@@ -91,6 +122,7 @@ pub(crate) fn next_event(reader: &mut Reader, spelling: Spelling) -> Option<Even
             length: reader.next_number()?,
             right: reader.next_right()?,
             cap_kind: reader.next_kind()? as u8,
+            holders: next_holders(reader, actor)?,
             ..Event::default()
         },
         b'r' => next_access(reader, Kind::Read)?,
@@ -102,8 +134,37 @@ pub(crate) fn next_event(reader: &mut Reader, spelling: Spelling) -> Option<Even
         },
         _ => return None,
     };
-    reader.skip(b")\n")?;
+    next_end(reader, actor)?;
+    event.actor = actor;
     Some(event)
+}
+
+/// The domain that acts, which is 0 where a line does not say so, and is not 0 where it does.
+#[inline]
+pub(crate) fn next_actor(reader: &mut Reader) -> Option<u32> {
+    if reader.peek(1) != Some(b'a') {
+        return Some(0);
+    }
+    reader.skip(b"(as")?;
+    let actor = reader.next_number()?;
+    reader.skip_byte(b' ')?;
+    (actor != 0 && is_domain(actor)).then_some(actor)
+}
+
+/// The end of a line of a domain.
+#[inline]
+pub(crate) fn next_end(reader: &mut Reader, actor: u32) -> Option<()> {
+    reader.skip(ending(actor))
+}
+
+/// The holders of what a domain makes, which are written where it is not alone.
+#[inline]
+fn next_holders(reader: &mut Reader, actor: u32) -> Option<u64> {
+    if reader.peek(0) != Some(b' ') {
+        return Some(alone(actor));
+    }
+    let holders = reader.next_holders()?;
+    (holders != alone(actor) && holds(holders, actor)).then_some(holders)
 }
 
 #[inline]

@@ -2,17 +2,13 @@
 
 use crate::event::{DROP_ALL, Event, Refusal};
 use crate::group::drop_names;
-use crate::order::Cap;
-use crate::step::{Ordered, Tally, Work, in_order};
+use crate::step::{Lent, Ordered, Work, in_order};
 
-/// Takes as many events as there are answers for, in turn and by one sheet, and goes on after refusals:
-/// how many it took. An answer is the refusal's number, 0 where there is none, and the new name, 0 where none is
-/// made. An event of the kind `DROP_ALL` drops the names `names[start..start + length]` together.
+/// Takes as many events as there are answers for, in turn, by one sheet and within the same limits, and goes on
+/// after refusals: how many it took. An answer is the refusal's number, 0 where there is none, and the new name, 0
+/// where none is made. An event of the kind `DROP_ALL` drops the names `names[start..start + length]` together.
 pub fn apply_all(
-    table: &mut [Cap],
-    written: &mut [u8],
-    tally: &mut Tally,
-    sheet: &[u8],
+    lent: Lent,
     events: &[impl Into<Event> + Copy],
     names: &[u32],
     answers: &mut [[u32; 2]],
@@ -25,7 +21,7 @@ pub fn apply_all(
         names,
         answers,
     };
-    if in_order(table, written, tally, sheet, many).is_none() {
+    if in_order(lent, many).is_none() {
         answers.fill([Refusal::Disordered as u32, 0]);
     }
     taken
@@ -44,7 +40,10 @@ impl<E: Into<Event> + Copy> Work for Many<'_, E> {
         for (event, answer) in self.events.iter().zip(self.answers) {
             let event: Event = (*event).into();
             let outcome = match event.kind {
-                DROP_ALL => drop_names(&mut ordered, names_of(&event, self.names)).map(|()| 0),
+                DROP_ALL => {
+                    let names = names_of(&event, self.names);
+                    drop_names(&mut ordered, event.actor, names).map(|()| 0)
+                }
                 _ => ordered.step(event),
             };
             *answer = match outcome {
@@ -67,7 +66,7 @@ fn names_of<'a>(event: &Event, names: &'a [u32]) -> &'a [u32] {
 #[cfg(test)]
 mod tests {
     use super::*;
-    use crate::{MAX_ROWS, SHEET_PLACES, WRITTEN_BYTES, apply, drop_all};
+    use crate::{Cap, DOMAINS, MAX_ROWS, SHEET_PLACES, Tally, WRITTEN_BYTES, apply, drop_all};
 
     /// Numbers that look random and are the same each time (xorshift).
     struct Random(u64);
@@ -90,6 +89,35 @@ mod tests {
             (0..places).map(|_| self.pick(&[0, 0, 0, 1, 2])).collect()
         }
 
+        /// No limits, or some on so many rows, mostly for the domains that act here.
+        fn limits(&mut self, rows: usize) -> Vec<u32> {
+            let mut limits = vec![0; DOMAINS];
+            for domain in DOMAINS_HERE {
+                limits[domain as usize] = self.below(1 + rows as u32 / 4);
+            }
+            match self.below(12) {
+                0..8 => Vec::new(),
+                8 => vec![0; self.pick(&[1, 63, 65])],
+                9 => vec![u32::MAX; DOMAINS],
+                _ => limits,
+            }
+        }
+
+        /// Who acts, and the holders of what is made.
+        fn actor(&mut self) -> (u32, u64) {
+            let actor = match self.below(40) {
+                0 => self.pick(&[64, 256, u32::MAX]),
+                _ => self.pick(&DOMAINS_HERE),
+            };
+            let others = self.pick(&[0, 0, 1 << 3 | 1 << 63, u64::MAX]);
+            let itself = if self.below(20) == 0 {
+                0
+            } else {
+                1 << (actor % 64)
+            };
+            (actor, itself | others)
+        }
+
         /// An event through one of the last names, mostly within the row of that name.
         fn event(&mut self, table: &[Cap], issued: u32) -> Event {
             let kind = self.pick(&[0, 1, 1, 2, 2, 2, 2, 2, 3, 4, 5, DROP_ALL]);
@@ -106,6 +134,7 @@ mod tests {
                     (start, self.pick(&[0, 1, row.length, u32::MAX]))
                 }
             };
+            let (actor, holders) = self.actor();
             Event {
                 kind,
                 written: self.pick(&[None, None, None, Some(issued + 1), Some(issued + 2)]),
@@ -115,56 +144,54 @@ mod tests {
                 right: self.pick(&[2, 2, 2, 1, 0]),
                 cap_kind: self.pick(&[0, 0, 0, 0, 0, 0, 1, 1, 2, 2, 3, 255]),
                 fresh,
+                actor,
+                holders,
             }
         }
     }
 
+    /// The domains that act, where they are domains.
+    const DOMAINS_HERE: [u32; 3] = [0, 3, 63];
+
     /// What is lent for events.
     #[derive(Clone, Debug, PartialEq)]
-    struct Lent {
+    struct Part {
         table: Vec<Cap>,
         written: Vec<u8>,
         tally: Tally,
+        sheet: Vec<u8>,
+        limits: Vec<u32>,
     }
 
-    impl Lent {
-        fn empty(rows: usize) -> Lent {
-            Lent {
+    impl Part {
+        fn empty(rows: usize) -> Part {
+            Part {
                 table: vec![Cap::default(); rows],
                 written: vec![0; WRITTEN_BYTES],
                 tally: Tally::default(),
+                sheet: Vec::new(),
+                limits: Vec::new(),
+            }
+        }
+
+        fn lend(&mut self) -> Lent<'_> {
+            Lent {
+                table: &mut self.table,
+                written: &mut self.written,
+                tally: &mut self.tally,
+                sheet: &self.sheet,
+                limits: &self.limits,
             }
         }
 
         fn all(&mut self, events: &[Event], names: &[u32], answers: &mut [[u32; 2]]) -> usize {
-            self.all_by(&[], events, names, answers)
+            apply_all(self.lend(), events, names, answers)
         }
 
-        fn all_by(
-            &mut self,
-            sheet: &[u8],
-            events: &[Event],
-            names: &[u32],
-            answers: &mut [[u32; 2]],
-        ) -> usize {
-            let (table, tally) = (&mut self.table, &mut self.tally);
-            apply_all(
-                table,
-                &mut self.written,
-                tally,
-                sheet,
-                events,
-                names,
-                answers,
-            )
-        }
-
-        fn one_by(&mut self, sheet: &[u8], event: &Event, names: &[u32]) -> [u32; 2] {
-            let (table, tally) = (&mut self.table, &mut self.tally);
-            let written = &mut self.written;
+        fn one(&mut self, event: &Event, names: &[u32]) -> [u32; 2] {
             let answer = match event.kind {
-                DROP_ALL => drop_all(table, written, tally, names_of(event, names)).map(|()| 0),
-                _ => apply(table, written, tally, sheet, *event),
+                DROP_ALL => drop_all(self.lend(), event.actor, names_of(event, names)).map(|()| 0),
+                _ => apply(self.lend(), *event),
             };
             match answer {
                 Ok(value) => [0, value],
@@ -179,57 +206,64 @@ mod tests {
     #[test]
     fn many_events_are_as_one_after_the_other() {
         let mut random = Random(1);
-        let mut met = [0; 17];
+        let mut met = [0; 19];
         for rows in [0, 1, 5, 16, 17, 64, 65, 256, 257, MAX_ROWS, MAX_ROWS + 1] {
             for _ in 0..40 {
-                let mut lent = Lent::empty(rows);
-                let sheet = random.sheet();
+                let mut part = Part::empty(rows);
+                part.sheet = random.sheet();
+                part.limits = random.limits(rows);
                 for _ in 0..8 {
-                    for answer in some_events(&mut random, &mut lent, &sheet) {
+                    for answer in some_events(&mut random, &mut part) {
                         met[answer[0] as usize] += 1;
                     }
                 }
             }
         }
         // A depth of 64 and a million names are not reached here, and no buffer is written.
-        for refusal in [0, 1, 2, 3, 4, 5, 6, 7, 10, 12, 13, 16] {
+        for refusal in [0, 1, 2, 3, 4, 5, 6, 7, 10, 12, 13, 16, 17, 18] {
             assert!(met[refusal] > 0, "refusal {refusal} was not met: {met:?}");
         }
     }
 
     /// Some events one by one, and then in one call on what is lent: their answers.
-    fn some_events(random: &mut Random, lent: &mut Lent, sheet: &[u8]) -> Vec<[u32; 2]> {
-        let mut one_by_one = lent.clone();
+    fn some_events(random: &mut Random, part: &mut Part) -> Vec<[u32; 2]> {
+        let mut one_by_one = part.clone();
         // Near the names that are made, so that groups of live names are met.
-        let names = [(); NAMES].map(|()| lent.tally.issued + random.below(6));
+        let names = [(); NAMES].map(|()| part.tally.issued + random.below(6));
         let mut events = Vec::new();
         let mut expected = Vec::new();
         for _ in 0..random.below(60) {
             let event = random.event(&one_by_one.table, one_by_one.tally.issued);
-            expected.push(one_by_one.one_by(sheet, &event, &names));
+            expected.push(one_by_one.one(&event, &names));
             events.push(event);
         }
         let mut answers = vec![[7, 7]; events.len()];
-        let taken = lent.all_by(sheet, &events, &names, &mut answers);
+        let taken = part.all(&events, &names, &mut answers);
         assert_eq!(taken, events.len());
         assert_eq!(answers, expected);
-        assert_eq!(*lent, one_by_one);
+        assert_eq!(*part, one_by_one);
         answers
+    }
+
+    /// A create of so many addresses by a domain, for itself alone.
+    fn create(actor: u32, length: u32) -> Event {
+        Event {
+            kind: 1,
+            length,
+            right: 2,
+            actor,
+            holders: 1 << actor,
+            ..Event::default()
+        }
     }
 
     #[test]
     fn no_more_is_taken_than_there_are_answers_for() {
-        let create = Event {
-            kind: 1,
-            length: 1,
-            right: 2,
-            ..Event::default()
-        };
-        let mut lent = Lent::empty(4);
+        let mut part = Part::empty(4);
         let mut answers = [[7, 7]; 2];
-        let taken = lent.all(&[create; 3], &[], &mut answers);
+        let taken = part.all(&[create(0, 1); 3], &[], &mut answers);
         assert_eq!((taken, answers), (2, [[0, 1], [0, 2]]));
-        let taken = lent.all(&[create; 1], &[], &mut answers);
+        let taken = part.all(&[create(0, 1); 1], &[], &mut answers);
         assert_eq!((taken, answers), (1, [[0, 3], [0, 2]]));
     }
 
@@ -243,36 +277,84 @@ mod tests {
         };
         let most = u32::MAX;
         let places = [(1, 2), (2, 1), (3, 0), (most, most), (most, 2), (0, 2)];
-        let mut lent = Lent::empty(2);
+        let mut part = Part::empty(2);
         for length in 1..=2 {
-            let create = Event {
-                kind: 1,
-                length: length - 1,
-                right: 2,
-                ..Event::default()
-            };
-            assert_eq!(lent.one_by(&[], &create, &[]), [0, length]);
+            assert_eq!(part.one(&create(0, length - 1), &[]), [0, length]);
         }
         let mut answers = [[7, 7]; 6];
-        lent.all(&places.map(drop_all), &[1, 2], &mut answers);
+        part.all(&places.map(drop_all), &[1, 2], &mut answers);
         assert_eq!(answers[..5], [[13, 0]; 5]);
-        assert_eq!((answers[5], lent.table), ([0, 0], vec![Cap::default(); 2]));
-        assert_eq!((lent.tally.refused, lent.tally.drops), (5, 1));
+        assert_eq!((answers[5], part.table), ([0, 0], vec![Cap::default(); 2]));
+        assert_eq!((part.tally.refused, part.tally.drops), (5, 1));
     }
 
-    /// A table that is not in order, and bits of another length.
+    /// Who drops names is judged behind what they are, and each name for it behind its life.
+    #[test]
+    fn names_are_dropped_by_a_holder() {
+        let drop_by = |actor, start, length| Event {
+            kind: DROP_ALL,
+            start,
+            length,
+            actor,
+            ..Event::default()
+        };
+        let mut part = Part::empty(2);
+        assert_eq!(part.one(&create(3, 0), &[]), [0, 1]);
+        assert_eq!(part.one(&create(0, 0), &[]), [0, 2]);
+        let names = [1, 2, 3];
+        for (event, refusal) in [
+            (drop_by(64, 0, 0), 13),
+            (drop_by(64, 0, 3), 2),
+            (drop_by(3, 0, 3), 17),
+            (drop_by(3, 1, 2), 17),
+            (drop_by(3, 2, 1), 4),
+            (drop_by(0, 0, 1), 17),
+        ] {
+            assert_eq!(part.one(&event, &names), [refusal, 0]);
+        }
+        assert_eq!(part.one(&drop_by(3, 0, 1), &names), [0, 0]);
+        assert_eq!(part.one(&drop_by(0, 0, 2), &names), [5, 0]);
+        assert_eq!((part.table[0].name, part.tally.refused), (2, 7));
+    }
+
+    /// What ends makes room for its maker again, and the rows are no limit.
+    #[test]
+    fn limits_are_reached() {
+        let mut part = Part::empty(3);
+        part.limits = vec![0; DOMAINS];
+        part.limits[0] = 1;
+        part.limits[3] = 2;
+        for (actor, length, answer) in [
+            (3, 0, [0, 1]),
+            (3, 8, [0, 2]),
+            (3, 8, [18, 0]),
+            (5, 0, [18, 0]),
+            (0, 8, [0, 3]),
+            (3, 0, [0, 4]),
+            (3, 0, [18, 0]),
+            (0, 0, [18, 0]),
+        ] {
+            assert_eq!(part.one(&create(actor, length), &[]), answer);
+        }
+        let names: Vec<u32> = part.table.iter().map(|row| row.name).collect();
+        assert_eq!(names, [1, 3, 4]);
+    }
+
+    /// A table that is not in order, bits of another length, and limits that need more rows.
     #[test]
     fn disordered_memory_refuses_all() {
-        let mut disordered = Lent::empty(4);
+        let mut disordered = Part::empty(4);
         disordered.table[1].name = 1;
-        let mut short = Lent::empty(4);
+        let mut short = Part::empty(4);
         short.written.pop();
-        for mut lent in [disordered, short] {
-            let before = lent.clone();
+        let mut limited = Part::empty(63);
+        limited.limits = vec![1; DOMAINS];
+        for mut part in [disordered, short, limited] {
+            let before = part.clone();
             let mut answers = [[7, 7]; 3];
-            let taken = lent.all(&[Event::default(); 2], &[], &mut answers);
+            let taken = part.all(&[Event::default(); 2], &[], &mut answers);
             assert_eq!((taken, answers), (2, [[1, 0], [1, 0], [7, 7]]));
-            assert_eq!(lent, before);
+            assert_eq!(part, before);
         }
     }
 }

@@ -1,5 +1,6 @@
 //! Records, the order of a table, and an index of parents over the live rows.
 
+use crate::domain::{holds, is_domain};
 use crate::written::{FRESH, WRITABLE};
 
 pub const MAX_ROWS: usize = 1_024;
@@ -26,6 +27,11 @@ pub struct Cap {
     pub kind: u32,
     /// 0 or `FRESH`.
     pub fresh: u32,
+    /// The domain that made it.
+    pub maker: u32,
+    /// The mask of those that hold it, in two halves.
+    pub holders_low: u32,
+    pub holders_high: u32,
 }
 
 /// The kinds of capabilities.
@@ -42,6 +48,9 @@ pub(crate) const EMPTY: Cap = Cap {
     depth: 0,
     kind: 0,
     fresh: 0,
+    maker: 0,
+    holders_low: 0,
+    holders_high: 0,
 };
 
 #[derive(Clone, Copy)]
@@ -88,6 +97,28 @@ impl Cap {
     pub(crate) fn span(&self) -> Span {
         Span::new(self.start, self.length)
     }
+
+    /// The mask of those that hold it.
+    #[inline]
+    pub fn holders(&self) -> u64 {
+        u64::from(self.holders_high) << 32 | u64::from(self.holders_low)
+    }
+
+    /// The same row with these holders.
+    #[inline]
+    pub fn held_by(self, holders: u64) -> Cap {
+        Cap {
+            holders_low: holders as u32,
+            holders_high: (holders >> 32) as u32,
+            ..self
+        }
+    }
+
+    /// Whether its maker is a domain, and holds it.
+    #[inline]
+    pub(crate) fn is_held(&self) -> bool {
+        is_domain(self.maker) & holds(self.holders(), self.maker)
+    }
 }
 
 /// What a row has to fit into: its parent, or for a root the whole memory.
@@ -133,6 +164,7 @@ impl Outer {
             & (self.marks.0 <= row.fresh)
             & (row.fresh <= self.marks.1)
             & ((row.fresh == 0) | (row.span().end <= WRITABLE))
+            & row.is_held()
     }
 }
 
@@ -227,7 +259,8 @@ impl<const SLOTS: usize> Places<SLOTS> {
 /// Without an early end, which would keep the compiler from taking several rows at once.
 fn are_empty(rows: &[Cap]) -> bool {
     let place = |row: &Cap| row.name | row.parent | row.start | row.length;
-    let bits = |row: &Cap| place(row) | row.right | row.depth | row.kind | row.fresh;
+    let held = |row: &Cap| row.maker | row.holders_low | row.holders_high;
+    let bits = |row: &Cap| place(row) | row.right | row.depth | row.kind | row.fresh | held(row);
     rows.iter().fold(0, |any, row| any | bits(row)) == 0
 }
 

@@ -4,8 +4,8 @@ use crate::event::Refusal;
 use crate::group::{MAX_GROUP, next_group};
 use crate::lines::{Spelling, next_event};
 use crate::listing::write_after;
-use crate::order::{Cap, EMPTY, Index, MAX_ROWS};
-use crate::step::{Ordered, Tally, Work, in_order};
+use crate::order::{EMPTY, Index, MAX_ROWS};
+use crate::step::{Lent, Ordered, Tally, Work, in_order};
 use crate::text::{Reader, Writer};
 use crate::written::{WRITTEN_BYTES, Written};
 
@@ -18,16 +18,9 @@ const HEADER: &[u8] = b"(trace 2)\n";
 /// How many lines were allowed, or the refusal and its line.
 type Answer = Result<u32, (Refusal, u32)>;
 
-/// Takes lines by a sheet until one is refused.
-pub fn run(
-    table: &mut [Cap],
-    written: &mut [u8],
-    tally: &mut Tally,
-    sheet: &[u8],
-    text: &[u8],
-) -> Answer {
-    let lines = Lines(text);
-    in_order(table, written, tally, sheet, lines).unwrap_or(Err((Refusal::Disordered, 0)))
+/// Takes lines until one is refused.
+pub fn run(lent: Lent, text: &[u8]) -> Answer {
+    in_order(lent, Lines(text)).unwrap_or(Err((Refusal::Disordered, 0)))
 }
 
 struct Lines<'a>(&'a [u8]);
@@ -68,7 +61,7 @@ fn drop_next<const ROWS: usize>(
 ) -> Result<(), Refusal> {
     let mut names = [0; MAX_GROUP];
     match next_group(reader, &mut names) {
-        Some(count) => ordered.drop_group(&names[..count]),
+        Some((actor, count)) => ordered.drop_group(actor, &names[..count]),
         None => Err(ordered.refuse(Refusal::Misspelt)),
     }
 }
@@ -91,6 +84,7 @@ pub fn check(input: &[u8], out: &mut [u8]) -> Result<u32, Refusal> {
         written: Written::of(&mut written),
         tally: &mut tally,
         sheet: None,
+        room: None,
     };
     let answer = run_lines(ordered, input);
     let mut line = [0; 32];

@@ -1,5 +1,6 @@
 //! Events on a lent table, written bits and tally, one or many.
 
+use crate::domain::{Room, holds};
 use crate::event::{Event, Kind, Refusal};
 use crate::order::{
     CELL, Cap, EMPTY, Index, MAX_DEPTH, MAX_NAME, MAX_ROWS, RAW, REFERENCE, SLOTS, Span, find,
@@ -32,6 +33,17 @@ impl Tally {
     }
 }
 
+/// What a caller lends for events.
+pub struct Lent<'a> {
+    pub table: &'a mut [Cap],
+    pub written: &'a mut [u8],
+    pub tally: &'a mut Tally,
+    /// The conflict sheet, none of it for the default one.
+    pub sheet: &'a [u8],
+    /// The limits of the domains, none of them where only the rows are a limit.
+    pub limits: &'a [u32],
+}
+
 /// Work on a lent table that is in order.
 pub(crate) trait Work {
     type Answer;
@@ -39,58 +51,49 @@ pub(crate) trait Work {
     fn on<const ROWS: usize>(self, ordered: Ordered<ROWS>) -> Self::Answer;
 }
 
-/// Checks the order of a lent table once and works on it by the sheet; nothing where the table is
-/// disordered or the written bits are not as many as there have to be.
+/// Checks the order of a lent table once and works on it by the sheet and within the limits; nothing where
+/// the table is disordered, the written bits are not as many as there have to be, or the limits are refused.
 /// What is kept beside the table is as large as the table needs: clearing it is a good part of the
 /// time for few rows.
-pub(crate) fn in_order<W: Work>(
-    table: &mut [Cap],
-    written: &mut [u8],
-    tally: &mut Tally,
-    sheet: &[u8],
-    work: W,
-) -> Option<W::Answer> {
-    let written = Written::lent(written)?;
-    let sheet = Sheet::lent(sheet);
-    let sheet = sheet.as_ref();
-    match table.len() {
-        0..=16 => in_rows::<16, 32, W>(table, written, tally, sheet, work),
-        17..=64 => in_rows::<64, 128, W>(table, written, tally, sheet, work),
-        65..=256 => in_rows::<256, 512, W>(table, written, tally, sheet, work),
-        257..=MAX_ROWS => in_rows::<MAX_ROWS, SLOTS, W>(table, written, tally, sheet, work),
+pub(crate) fn in_order<W: Work>(lent: Lent, work: W) -> Option<W::Answer> {
+    match lent.table.len() {
+        0..=16 => in_rows::<16, 32, W>(lent, work),
+        17..=64 => in_rows::<64, 128, W>(lent, work),
+        65..=256 => in_rows::<256, 512, W>(lent, work),
+        257..=MAX_ROWS => in_rows::<MAX_ROWS, SLOTS, W>(lent, work),
         _ => None,
     }
 }
 
 fn in_rows<const ROWS: usize, const SLOTS: usize, W: Work>(
-    table: &mut [Cap],
-    written: Written,
-    tally: &mut Tally,
-    sheet: Option<&Sheet>,
+    lent: Lent,
     work: W,
 ) -> Option<W::Answer> {
-    let mut index = Index::<ROWS>::of::<SLOTS>(table, tally.issued)?;
-    let index = &mut index;
+    let written = Written::lent(lent.written)?;
+    let sheet = Sheet::lent(lent.sheet);
+    let mut index = Index::<ROWS>::of::<SLOTS>(lent.table, lent.tally.issued)?;
+    let mut room = match lent.limits {
+        [] => None,
+        limits => {
+            let live = &lent.table[..index.live];
+            Some(Room::of(limits, live, lent.table.len())?)
+        }
+    };
     Some(work.on(Ordered {
-        table,
-        index,
+        table: lent.table,
+        index: &mut index,
         written,
-        tally,
-        sheet,
+        tally: lent.tally,
+        sheet: sheet.as_ref(),
+        room: room.as_mut(),
     }))
 }
 
-/// One event by a sheet: the new name (0 where none is made), or the refusal. Whoever has its values in
-/// another layout need not copy them first.
-pub fn apply(
-    table: &mut [Cap],
-    written: &mut [u8],
-    tally: &mut Tally,
-    sheet: &[u8],
-    event: impl Into<Event>,
-) -> Result<u32, Refusal> {
+/// One event: the new name (0 where none is made), or the refusal. Whoever has its values in another layout
+/// need not copy them first.
+pub fn apply(lent: Lent, event: impl Into<Event>) -> Result<u32, Refusal> {
     let one = One(event.into());
-    in_order(table, written, tally, sheet, one).unwrap_or(Err(Refusal::Disordered))
+    in_order(lent, one).unwrap_or(Err(Refusal::Disordered))
 }
 
 struct One(Event);
@@ -111,6 +114,8 @@ pub(crate) struct Ordered<'a, const ROWS: usize> {
     pub(crate) tally: &'a mut Tally,
     /// The sheet by which events are carried out, where it is not the default one.
     pub(crate) sheet: Option<&'a Sheet>,
+    /// What the limits leave to each domain, where limits are lent. It follows the table.
+    pub(crate) room: Option<&'a mut Room>,
 }
 
 /// A mark for each live row, of the bits below.
@@ -203,11 +208,11 @@ impl<const ROWS: usize> Ordered<'_, ROWS> {
     }
 
     /// Drops the names of a group, with their subtrees, or none.
-    pub(crate) fn drop_group(&mut self, names: &[u32]) -> Result<(), Refusal> {
+    pub(crate) fn drop_group(&mut self, actor: u32, names: &[u32]) -> Result<(), Refusal> {
         let mut marks = [0; ROWS];
         let mut first = self.index.live;
         for name in names {
-            match self.row_of(*name) {
+            match self.row_of(*name, actor) {
                 Ok(at) => {
                     marks[at] = STRUCK;
                     first = first.min(at);
@@ -237,21 +242,25 @@ impl<const ROWS: usize> Ordered<'_, ROWS> {
             false => None,
         };
         if kind.makes() {
-            self.judge_room(event.written)?;
+            self.judge_room(event)?;
         }
         Ok((kind, user))
     }
 
-    /// The row of a name.
-    fn row_of(&self, name: u32) -> Result<usize, Refusal> {
+    /// The row of a name, which the domain that acts must hold.
+    fn row_of(&self, name: u32, actor: u32) -> Result<usize, Refusal> {
         if name == 0 || name > self.tally.issued {
             return Err(Refusal::Unissued);
         }
-        find(&self.table[..self.index.live], name).ok_or(Refusal::Ended)
+        let at = find(&self.table[..self.index.live], name).ok_or(Refusal::Ended)?;
+        match holds(self.table[at].holders(), actor) {
+            true => Ok(at),
+            false => Err(Refusal::NotHolder),
+        }
     }
 
     fn judge_user(&self, event: Event, kind: Kind) -> Result<usize, Refusal> {
-        let at = self.row_of(event.name)?;
+        let at = self.row_of(event.name, event.actor)?;
         let user = &self.table[at];
         if kind.has_span() && !event.span().is_inside(user.span()) {
             return Err(Refusal::OutsideSpan);
@@ -274,18 +283,20 @@ impl<const ROWS: usize> Ordered<'_, ROWS> {
         Ok(at)
     }
 
-    fn judge_room(&self, written: Option<u32>) -> Result<(), Refusal> {
+    /// Where limits are lent their sum is within the rows, so that a row is empty wherever room is left.
+    fn judge_room(&self, event: Event) -> Result<(), Refusal> {
         if self.tally.issued == MAX_NAME {
             return Err(Refusal::NamesSpent);
         }
         let next = self.tally.issued + 1;
-        if written.is_some_and(|name| name != next) {
+        if event.written.is_some_and(|name| name != next) {
             return Err(Refusal::Misnamed);
         }
-        if self.index.live == self.table.len() {
-            return Err(Refusal::TableFull);
+        match &self.room {
+            None if self.index.live == self.table.len() => Err(Refusal::TableFull),
+            Some(room) if !room.is_left(event.actor) => Err(Refusal::LimitReached),
+            _ => Ok(()),
         }
-        Ok(())
     }
 
     fn carry_out(&mut self, event: Event, kind: Kind, user: Option<usize>) -> u32 {
@@ -405,7 +416,11 @@ impl<const ROWS: usize> Ordered<'_, ROWS> {
             None => (0, 0, REFERENCE, event.fresh.into()),
         };
         self.tally.issued += 1;
+        if let Some(room) = &mut self.room {
+            room.take(event.actor);
+        }
         let row = self.index.live;
+        let held = EMPTY.held_by(event.holders);
         self.table[row] = Cap {
             name: self.tally.issued,
             parent: parent_name,
@@ -415,6 +430,8 @@ impl<const ROWS: usize> Ordered<'_, ROWS> {
             depth: parent_depth + 1,
             kind,
             fresh,
+            maker: event.actor,
+            ..held
         };
         self.index.parents[row] = parent.unwrap_or(row) as u16;
         self.index.live = row + 1;
@@ -489,6 +506,9 @@ impl<const ROWS: usize> Ordered<'_, ROWS> {
         let mut kept = first;
         for at in first..live {
             let mark = self.mark(marks, at, &takes);
+            if let Some(room) = &mut self.room {
+                room.give_back(self.table[at].maker, mark & STRUCK != 0);
+            }
             moved[at] = kept as u16;
             // A row that ends is written too, and the next one is written over it.
             let right = self.table[at].right;

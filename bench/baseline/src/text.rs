@@ -92,9 +92,10 @@ impl<'a> Reader<'a> {
     /// and from the bracket of a form.
     #[inline]
     pub(crate) fn next_kind(&mut self) -> Option<u32> {
-        let kind = match (self.peek(0), self.peek(1)) {
-            (Some(b' '), Some(b'r')) => RAW,
-            (Some(b' '), Some(b'c')) => CELL,
+        // A mask of holders may begin with the first letters of a cell's word.
+        let kind = match (self.peek(0), self.peek(1), self.peek(3)) {
+            (Some(b' '), Some(b'r'), _) => RAW,
+            (Some(b' '), Some(b'c'), Some(b'l')) => CELL,
             _ => return Some(REFERENCE),
         };
         self.skip(kind_word(kind))?;
@@ -104,12 +105,67 @@ impl<'a> Reader<'a> {
     /// A space and the word of the mark, or nothing where there is none.
     #[inline]
     pub(crate) fn next_mark(&mut self) -> Option<u32> {
-        if (self.peek(0), self.peek(1)) != (Some(b' '), Some(b'f')) {
+        // A mask of holders may begin with the first letter of the word.
+        if (self.peek(0), self.peek(1), self.peek(2)) != (Some(b' '), Some(b'f'), Some(b'r')) {
             return Some(0);
         }
         self.skip(mark_word(FRESH))?;
         Some(FRESH)
     }
+
+    /// A space and a mask of holders.
+    #[inline]
+    pub(crate) fn next_holders(&mut self) -> Option<u64> {
+        self.skip_byte(b' ')?;
+        let digits = self.text.get(self.at..)?.first_chunk()?;
+        self.at += MASK_DIGITS;
+        let holders = mask_of(digits);
+        (mask_digits(holders) == *digits).then_some(holders)
+    }
+}
+
+/// The digits of a mask of holders.
+const MASK_DIGITS: usize = 16;
+
+/// A 1 in each byte.
+const ONES: u64 = u64::from_ne_bytes([1; 8]);
+
+/// The digits of a mask, the highest first.
+#[inline]
+fn mask_digits(holders: u64) -> [u8; MASK_DIGITS] {
+    let mut digits = [0; MASK_DIGITS];
+    digits[..8].copy_from_slice(&half_digits((holders >> 32) as u32));
+    digits[8..].copy_from_slice(&half_digits(holders as u32));
+    digits
+}
+
+/// Eight digits at once: each gets a byte of its own, and from 10 on it is a letter.
+#[inline]
+fn half_digits(half: u32) -> [u8; 8] {
+    let spread = u64::from(half);
+    let spread = (spread | spread << 16) & 0x0000_ffff_0000_ffff;
+    let spread = (spread | spread << 8) & 0x00ff_00ff_00ff_00ff;
+    let spread = (spread | spread << 4) & 0x0f0f_0f0f_0f0f_0f0f;
+    let letters = (spread + 6 * ONES) >> 4 & ONES;
+    (spread + 0x30 * ONES + u64::from(b'a' - b'9' - 1) * letters).to_be_bytes()
+}
+
+/// The mask of these digits. Of other bytes it is any: whoever asks writes it back.
+#[inline]
+fn mask_of(digits: &[u8; MASK_DIGITS]) -> u64 {
+    let half = |from: usize| digits[from..].first_chunk().map_or(0, half_of);
+    u64::from(half(0)) << 32 | u64::from(half(8))
+}
+
+#[inline]
+fn half_of(digits: &[u8; 8]) -> u32 {
+    let bytes = u64::from_be_bytes(*digits);
+    // The bit worth 64 tells letters from digits.
+    let values = (bytes & (0x0f * ONES)) + 9 * (bytes >> 6 & ONES);
+    let packed = values & (0x0f * ONES);
+    let packed = (packed | packed >> 4) & 0x00ff_00ff_00ff_00ff;
+    let packed = (packed | packed >> 8) & 0x0000_ffff_0000_ffff;
+    (packed | packed >> 16) as u32
 }
 
 /// The word of a kind, with the space before it. A reference has none.
@@ -208,6 +264,14 @@ impl<'a> Writer<'a> {
     pub(crate) fn next_mark(&mut self, fresh: u32) {
         self.put(mark_word(fresh));
     }
+
+    /// A space and a mask of holders.
+    #[inline]
+    pub(crate) fn next_holders(&mut self, holders: u64) {
+        let mut word = [b' '; 1 + MASK_DIGITS];
+        word[1..].copy_from_slice(&mask_digits(holders));
+        self.put(&word);
+    }
 }
 
 /// The least number of each count of digits, from one on.
@@ -231,4 +295,35 @@ pub(crate) fn digits(number: u32) -> usize {
     let bits = u32::BITS - number.leading_zeros();
     let guess = ((bits * 1_233) >> 12) as usize;
     guess + usize::from(number >= LEAST[guess])
+}
+
+#[cfg(test)]
+mod tests {
+    use super::*;
+
+    #[test]
+    fn masks_are_written_and_read() {
+        let masks = (0..64).flat_map(|bit| [1 << bit, (1 << bit) - 1, !(1 << bit)]);
+        for mask in masks.chain([0x0123_4567_89ab_cdef, 0xfedc_ba98_7654_3210]) {
+            let text = format!(" {mask:016x}");
+            let mut out = [0; 1 + MASK_DIGITS];
+            Writer::new(&mut out).next_holders(mask);
+            assert_eq!(out, text.as_bytes());
+            assert_eq!(Reader::new(text.as_bytes()).next_holders(), Some(mask));
+        }
+    }
+
+    #[test]
+    fn no_other_byte_is_a_digit_of_a_mask() {
+        for at in 0..MASK_DIGITS {
+            for byte in 0..=u8::MAX {
+                let mut text = *b" 0123456789abcdef";
+                text[1 + at] = byte;
+                let is_digit = byte.is_ascii_digit() || (b'a'..=b'f').contains(&byte);
+                assert_eq!(Reader::new(&text).next_holders().is_some(), is_digit);
+            }
+        }
+        assert_eq!(Reader::new(b" 0123456789abcde").next_holders(), None);
+        assert_eq!(Reader::new(b"0123456789abcdef").next_holders(), None);
+    }
 }

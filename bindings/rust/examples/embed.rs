@@ -107,6 +107,7 @@ impl Simulator {
                 span,
                 right: ReadWrite,
                 fresh: false,
+                holders: None,
             },
             Borrow { from, right, .. } => Event::Borrow {
                 written: None,
@@ -114,6 +115,7 @@ impl Simulator {
                 span,
                 right,
                 kind: Kind::Reference,
+                holders: None,
             },
             Load { from } => Event::Read {
                 name: name(from),

@@ -11,12 +11,14 @@ use crate::Name;
 #[repr(u8)]
 #[non_exhaustive]
 pub enum Refusal {
-    /// The table is not in order, or has more than [`MAX_ROWS`](crate::MAX_ROWS) rows.
+    /// The table is not in order, or has more than [`MAX_ROWS`](crate::MAX_ROWS) rows; or the limits that
+    /// are lent with it need more rows, or some domain has made more live rows than its limit.
     Disordered = 1,
     /// A list of names to drop together is empty, longer than [`MAX_GROUP`](crate::MAX_GROUP) or not
     /// strictly rising.
     Misgrouped = 13,
-    /// A line or listing is not in the one spelling, or a line of a sheet's text not of its form.
+    /// A line or listing is not in the one spelling, or a line of a sheet's text not of its form; or the
+    /// holders that an event gives lack the domain that acts.
     Misspelt = 2,
     /// A sheet's text gives a combination twice.
     GivenTwice = 14,
@@ -31,6 +33,8 @@ pub enum Refusal {
     /// its memory was handed out again, itself or an ancestor. By other sheets than the default one
     /// reads end too.
     Ended = 5,
+    /// The domain that acts does not hold the capability.
+    NotHolder = 17,
     /// A span is not inside the capability's.
     OutsideSpan = 6,
     /// A write through a read-only capability, or a read-write borrow from it.
@@ -44,14 +48,16 @@ pub enum Refusal {
     /// A written name is not the issued number plus one.
     Misnamed = 12,
     /// A create or borrow when no row is empty, also where the create would end some; or a listing with
-    /// more capabilities than rows.
+    /// more capabilities than rows. Where limits are lent no event gets it.
     TableFull = 10,
+    /// A create or borrow of a domain that has made as many live capabilities as its limit says.
+    LimitReached = 18,
     /// A text is longer than the output buffer.
     BufferTooShort = 11,
 }
 
 impl Refusal {
-    /// The refusal's number, 1 to 16.
+    /// The refusal's number, 1 to 18.
     pub const fn number(self) -> u8 {
         self as u8
     }
@@ -75,13 +81,15 @@ impl Refusal {
             14 => Refusal::GivenTwice,
             15 => Refusal::NotGiven,
             16 => Refusal::NotWritten,
+            17 => Refusal::NotHolder,
+            18 => Refusal::LimitReached,
             _ => return None,
         })
     }
 
     const fn reason(self) -> &'static str {
         match self {
-            Refusal::Disordered => "the table is not in order",
+            Refusal::Disordered => "the table is not in order, or not within its limits",
             Refusal::Misgrouped => "the names are not 1 to 64, strictly rising",
             Refusal::Misspelt => "not in the one spelling",
             Refusal::GivenTwice => "the sheet's text gives a combination twice",
@@ -89,6 +97,7 @@ impl Refusal {
             Refusal::IllegalSpan => "the span is not legal",
             Refusal::Unissued => "the name was never issued",
             Refusal::Ended => "the capability has ended",
+            Refusal::NotHolder => "the domain is no holder",
             Refusal::OutsideSpan => "outside the capability's span",
             Refusal::ReadOnly => "the capability is read-only",
             Refusal::NotWritten => "read before it was written",
@@ -96,6 +105,7 @@ impl Refusal {
             Refusal::NamesSpent => "all names are issued",
             Refusal::Misnamed => "the written name is not the next",
             Refusal::TableFull => "no row is empty",
+            Refusal::LimitReached => "the domain has reached its limit",
             Refusal::BufferTooShort => "the output buffer is too short",
         }
     }
@@ -180,8 +190,8 @@ impl From<Answer> for Result<Option<Name>, Refusal> {
 }
 
 /// The refusal of a number that the library gave.
-fn numbered(number: u32) -> Refusal {
-    Refusal::from_number(number).expect("refusals are numbered 1 to 16")
+pub(crate) fn numbered(number: u32) -> Refusal {
+    Refusal::from_number(number).expect("refusals are numbered 1 to 18")
 }
 
 /// An answer of the C interface taken apart: its value, or its refusal with its value.

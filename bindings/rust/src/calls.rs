@@ -3,15 +3,16 @@
 //!
 //! Safety, of each call below: a slice is a pointer to as many elements as its length says, an
 //! exclusive one overlaps nothing else, `Cap`, `Tally`, `Request` and `Outcome` are laid out as the C
-//! structs are, a `Name` as its number is and `Written` as its bytes are, and the library follows no pointer whose length is 0.
+//! structs are, a `Name` as its number is and `Written` as its bytes are, and the library follows no
+//! pointer whose length is 0.
 
 use core::mem::size_of;
 use core::ptr;
 
-use crate::answers::value;
+use crate::answers::{numbered, value};
 use crate::{
-    ffi, Answer, Cap, Event, Lent, Line, Name, Outcome, Refusal, Request, RunAnswer, Sheet,
-    Spelling, Tally, Written, MAX_GROUP,
+    ffi, Answer, Cap, Charge, Domain, Lent, Line, Name, Outcome, Refusal, Request, RunAnswer,
+    Sheet, Spelling, Tally, Written, MAX_GROUP,
 };
 
 /// Each is cast to the other, where it is passed.
@@ -25,17 +26,24 @@ fn length(answer: u64) -> Result<usize, Refusal> {
     value(answer).map(|length| length as usize)
 }
 
-/// One event on a lent table, written bits and tally, which follow it, by the default sheet.
-/// [`Lent::apply`] is the same by any sheet.
+/// One event on a lent table, written bits and tally, which follow it, by the default sheet and without
+/// limits: an [`Event`](crate::Event), which is domain 0's, or one [by](crate::Event::by) any domain.
+/// [`Lent::apply`] is the same by any sheet and within limits.
 ///
 /// [`Refusal::Disordered`] changes nothing; any other refusal adds one to the refused count and
 /// changes nothing else.
-pub fn apply(table: &mut [Cap], written: &mut Written, tally: &mut Tally, event: Event) -> Answer {
+pub fn apply(
+    table: &mut [Cap],
+    written: &mut Written,
+    tally: &mut Tally,
+    event: impl Into<Request>,
+) -> Answer {
     Lent::new(table, written, tally).apply(event)
 }
 
 /// Many requests on a lent table, written bits and tally, each in its turn on what those before it left,
-/// by the default sheet; a refused one stops nothing. [`Lent::apply_all`] is the same by any sheet.
+/// by the default sheet and without limits; a refused one stops nothing. [`Lent::apply_all`] is the same
+/// by any sheet and within limits.
 ///
 /// In `names` stand the names of every [`Request::drop_all`], which is taken as [`drop_all`] takes it;
 /// several may share names.
@@ -57,6 +65,7 @@ pub fn apply(table: &mut [Cap], written: &mut Written, tally: &mut Tally, event:
 ///     span: Span { start: Addr(start), length: 8 },
 ///     right: Right::ReadWrite,
 ///     fresh: false,
+///     holders: None,
 /// };
 /// let names = [Name(1), Name(2)];
 /// let mut requests = [Request::drop_all(0..2); 4];
@@ -81,7 +90,7 @@ pub fn apply_all<'a>(
 }
 
 /// Capabilities dropped together, as when a function returns: 1 to [`MAX_GROUP`] names, each above the
-/// one before it.
+/// one before it. It is domain 0's; [`Lent::drop_all_by`] is the same by any domain.
 ///
 /// All are judged on the table before the call, in their order, and either all are dropped, with their
 /// subtrees, or none; the first name that is refused gives the refusal. The table is then as after
@@ -99,7 +108,7 @@ pub fn drop_all(
 }
 
 /// A run of event lines on a lent table, written bits and tally, until one is refused, by the default
-/// sheet. [`Lent::run`] is the same by any sheet.
+/// sheet and without limits. [`Lent::run`] is the same by any sheet and within limits.
 ///
 /// In a text whose first line is [`NAMED_HEADER`](crate::NAMED_HEADER) every create and borrow has its
 /// new name written out, else none has: the lines are those of [`write_event`]. That first line is
@@ -112,30 +121,57 @@ pub fn run(table: &mut [Cap], written: &mut Written, tally: &mut Tally, text: &[
     Lent::new(table, written, tally).run(text)
 }
 
+/// What the holders of a live capability of a table, with so many names issued, are charged for it: its
+/// length in equal shares, and what is left over. Who asks is not asked.
+///
+/// # Errors
+///
+/// [`Refusal::Disordered`] for a table that is not in order, else [`Refusal::Unissued`] or
+/// [`Refusal::Ended`].
+pub fn charge(table: &[Cap], issued: u32, name: Name) -> Result<Charge, Refusal> {
+    let mut words = [0; 3];
+    unsafe { ffi::kz_abi_charge(table.as_ptr(), table.len(), issued, name.0, &mut words) };
+    match words {
+        [0, share, rest] => Ok(Charge { share, rest }),
+        [number, ..] => Err(numbered(number)),
+    }
+}
+
 /// Writes the line of an event, its newline included, to the start of the buffer, and answers its
-/// length. The bytes after it stay. Where the event has a written name so has the line, which is then
-/// one of the [named spelling](Spelling::Named), and at most
+/// length. The bytes after it stay. An [`Event`](crate::Event) by itself is domain 0's, which is not
+/// written; that it is [by](crate::Event::by) another domain is. Where the event has a written name so
+/// has the line, which is then one of the [named spelling](Spelling::Named), and at most
 /// [`MAX_NAMED_LINE`](crate::MAX_NAMED_LINE) bytes long; else it is at most
 /// [`MAX_LINE`](crate::MAX_LINE) bytes long.
 ///
 /// # Errors
 ///
+/// [`Refusal::Misspelt`] where the event gives holders without the domain that acts, else
 /// [`Refusal::BufferTooShort`], with the buffer untouched.
-pub fn write_event(event: Event, out: &mut [u8]) -> Result<usize, Refusal> {
+pub fn write_event(event: impl Into<Request>, out: &mut [u8]) -> Result<usize, Refusal> {
     write_request(event.into(), &[], out)
 }
 
-/// Writes the line of names that are dropped together, its newline included, to the start of the
+/// Writes the line of names that domain 0 drops together, its newline included, to the start of the
 /// buffer, and answers its length. The bytes after it stay. It is the same in both spellings, and at
 /// most [`MAX_DROP_LINE`](crate::MAX_DROP_LINE) bytes long. Of one name it is the line of
-/// [`Event::Drop`].
+/// [`Event::Drop`](crate::Event::Drop).
 ///
 /// # Errors
 ///
 /// [`Refusal::Misgrouped`] for a list of no name, of more than [`MAX_GROUP`], or that does not rise
 /// strictly, else [`Refusal::BufferTooShort`], with the buffer untouched.
 pub fn write_drop(names: &[Name], out: &mut [u8]) -> Result<usize, Refusal> {
-    write_request(Request::drop_all(0..names.len()), names, out)
+    write_drop_by(Domain::ZERO, names, out)
+}
+
+/// The same of any domain.
+///
+/// # Errors
+///
+/// As of [`write_drop`].
+pub fn write_drop_by(actor: Domain, names: &[Name], out: &mut [u8]) -> Result<usize, Refusal> {
+    write_request(Request::drop_all_by(actor, 0..names.len()), names, out)
 }
 
 fn write_request(request: Request, names: &[Name], out: &mut [u8]) -> Result<usize, Refusal> {
@@ -150,12 +186,16 @@ fn write_request(request: Request, names: &[Name], out: &mut [u8]) -> Result<usi
 /// dropped together. Reads, writes and drops are the same in both spellings.
 ///
 /// ```
-/// use kelzoud::{read_event, Event, Line, Name, Refusal, Spelling};
+/// use kelzoud::{read_event, Domain, Event, Line, Name, Refusal, Spelling};
 ///
+/// let event = Event::Drop { name: Name(2) };
+/// let (zero, three) = (Domain::ZERO, Domain::new(3).unwrap());
 /// let line = read_event(Spelling::Plain, b"(drop 2)\n");
-/// assert_eq!(line, Ok(Line::Event(Event::Drop { name: Name(2) })));
+/// assert_eq!(line, Ok(Line::Event { actor: zero, event }));
+/// let line = read_event(Spelling::Plain, b"(as 3 (drop 2))\n");
+/// assert_eq!(line, Ok(Line::Event { actor: three, event }));
 /// match read_event(Spelling::Plain, b"(drop 2 5)\n") {
-///     Ok(Line::DropAll(names)) => assert_eq!(*names, [Name(2), Name(5)]),
+///     Ok(Line::DropAll { names, .. }) => assert_eq!(*names, [Name(2), Name(5)]),
 ///     other => panic!("{other:?}"),
 /// }
 /// assert_eq!(read_event(Spelling::Named, b"(create 0 64 rw)\n"), Err(Refusal::Misspelt));
@@ -256,7 +296,8 @@ impl Sheet {
 }
 
 /// Writes what the program `capcheck` prints for an input to the start of the buffer, and answers
-/// its length. The bytes after it stay. It begins with [no address written](Written::NONE).
+/// its length. The bytes after it stay. It begins with [no address written](Written::NONE), and has no
+/// limits.
 ///
 /// # Errors
 ///

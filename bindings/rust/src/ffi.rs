@@ -3,10 +3,13 @@
 use crate::{Cap, Tally};
 
 /// `kz_event`, word for word.
-pub type EventWords = [u32; 9];
+pub type EventWords = [u32; 12];
 
 /// `kz_answer`, word for word.
 pub type AnswerWords = [u32; 2];
+
+/// `kz_shares`, word for word.
+pub type ShareWords = [u32; 3];
 
 unsafe extern "C" {
     pub fn kz_abi_apply(
@@ -17,6 +20,8 @@ unsafe extern "C" {
         tally: *mut Tally,
         sheet: *const u8,
         sheet_len: usize,
+        limits: *const u32,
+        limit_count: usize,
         event: *const EventWords,
         names: *const u32,
         names_len: usize,
@@ -30,6 +35,8 @@ unsafe extern "C" {
         tally: *mut Tally,
         sheet: *const u8,
         sheet_len: usize,
+        limits: *const u32,
+        limit_count: usize,
         events: *const EventWords,
         count: usize,
         names: *const u32,
@@ -37,6 +44,14 @@ unsafe extern "C" {
         answers: *mut AnswerWords,
         answers_len: usize,
     ) -> usize;
+
+    pub fn kz_abi_charge(
+        table: *const Cap,
+        rows: usize,
+        issued: u32,
+        name: u32,
+        charge: *mut ShareWords,
+    );
 
     pub fn kz_abi_run(
         table: *mut Cap,
@@ -46,6 +61,8 @@ unsafe extern "C" {
         tally: *mut Tally,
         sheet: *const u8,
         sheet_len: usize,
+        limits: *const u32,
+        limit_count: usize,
         text: *const u8,
         text_len: usize,
     ) -> u64;

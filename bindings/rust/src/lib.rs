@@ -15,11 +15,12 @@
 //! let mut tally = Tally::default();
 //! let span = Span { start: Addr(0), length: 64 };
 //!
-//! let create = Event::Create { written: None, span, right: Right::ReadWrite, fresh: false };
+//! let (right, holders) = (Right::ReadWrite, None);
+//! let create = Event::Create { written: None, span, right, fresh: false, holders };
 //! assert_eq!(apply(&mut table, &mut written, &mut tally, create), Answer::Allowed(Some(Name(1))));
 //!
-//! let (right, kind) = (Right::ReadWrite, Kind::Reference);
-//! let borrow = Event::Borrow { written: None, parent: Name(1), span, right, kind };
+//! let (parent, kind) = (Name(1), Kind::Reference);
+//! let borrow = Event::Borrow { written: None, parent, span, right, kind, holders };
 //! assert_eq!(apply(&mut table, &mut written, &mut tally, borrow), Answer::Allowed(Some(Name(2))));
 //!
 //! // A write through the parent ends the borrow.
@@ -119,6 +120,24 @@
 //! assert_eq!(answer, RunAnswer::Refused { refusal: Refusal::Ended, line: 4 });
 //! ```
 //!
+//! Up to 64 [domains](Domain) act on one table, such as the cores of a board. What a domain makes it
+//! makes for the [holders](Holders) that it says, and no other domain may use it; an event is
+//! [by](Event::by) a domain, and by domain 0 where nothing is said. A sheet of [`Limits`] gives each
+//! domain its part of the rows ([`Lent`] has an example), and [`charge`] tells what the holders of a
+//! capability pay for it. Here domain 1 lets domain 2 read, and nobody else:
+//!
+//! ```
+//! use kelzoud::{run, Cap, Refusal, RunAnswer, Tally, Written};
+//!
+//! let mut table = [Cap::EMPTY; 16];
+//! let mut written = Written::NONE;
+//! let mut tally = Tally::default();
+//! let text = b"(as 1 (create 0 64 rw))\n(as 1 (borrow 1 0 8 ro 0000000000000006))\n\
+//!     (as 2 (read 2 0 8))\n(read 2 0 8)\n";
+//! let answer = run(&mut table, &mut written, &mut tally, text);
+//! assert_eq!(answer, RunAnswer::Refused { refusal: Refusal::NotHolder, line: 4 });
+//! ```
+//!
 //! Many events are handed over in one call by [`apply_all`], and a log is read line by line by
 //! [`read_event`].
 //!
@@ -130,6 +149,7 @@
 
 mod answers;
 mod calls;
+mod domains;
 mod ffi;
 mod lent;
 mod requests;
@@ -138,9 +158,10 @@ mod values;
 
 pub use answers::{Answer, Outcome, Refusal, RunAnswer};
 pub use calls::{
-    apply, apply_all, check, drop_all, read_event, read_listing, run, write_drop, write_event,
-    write_listing,
+    apply, apply_all, charge, check, drop_all, read_event, read_listing, run, write_drop,
+    write_drop_by, write_event, write_listing,
 };
+pub use domains::{Charge, Domain, Holders, HoldersIter, Limits};
 pub use lent::Lent;
 pub use requests::{Group, Line, Request, Spelling};
 pub use sheets::{Access, Effect, Origin, Sheet};
@@ -158,6 +179,9 @@ pub const MAX_DEPTH: u32 = 64;
 /// The most names that are dropped together.
 pub const MAX_GROUP: usize = 64;
 
+/// How many domains there are, from 0 on.
+pub const DOMAINS: usize = 64;
+
 /// How many bytes of written bits a table has.
 pub const WRITTEN_BYTES: usize = 8_192;
 
@@ -168,13 +192,13 @@ pub const WRITTEN_ADDRESSES: u32 = 65_536;
 pub const MAX_INPUT: usize = 65_536;
 
 /// The most bytes of a line of [`write_event`] without a written name, its newline included.
-pub const MAX_LINE: usize = 50;
+pub const MAX_LINE: usize = 75;
 
 /// The most bytes of a line of [`write_event`] with a written name, its newline included.
-pub const MAX_NAMED_LINE: usize = 61;
+pub const MAX_NAMED_LINE: usize = 86;
 
 /// The most bytes of a line of [`write_drop`], its newline included.
-pub const MAX_DROP_LINE: usize = 711;
+pub const MAX_DROP_LINE: usize = 719;
 
 /// The most bytes of the text of [`Sheet::write`].
 pub const MAX_SHEET: usize = 1_005;
@@ -183,7 +207,7 @@ pub const MAX_SHEET: usize = 1_005;
 pub const NAMED_HEADER: &[u8] = b"(trace 2)\n";
 
 /// The most bytes of a listing.
-pub const MAX_LISTING: usize = 39_949;
+pub const MAX_LISTING: usize = 60_429;
 
 /// The most bytes that [`check`] writes.
-pub const MAX_CHECK: usize = 39_968;
+pub const MAX_CHECK: usize = 60_448;

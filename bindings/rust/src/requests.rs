@@ -1,9 +1,10 @@
-//! Events and names dropped together, as the C interface passes them and as lines hold them.
+//! Events and names dropped together, each with who acts, as the C interface passes them and as lines
+//! hold them.
 
 use core::fmt;
 use core::ops::{Deref, Range};
 
-use crate::{Addr, Event, Kind, Name, Right, Span, MAX_GROUP};
+use crate::{Addr, Domain, Event, Holders, Kind, Name, Right, Span, MAX_GROUP};
 
 const CREATE: u32 = 1;
 const BORROW: u32 = 2;
@@ -12,14 +13,17 @@ const WRITE: u32 = 4;
 const DROP: u32 = 5;
 const DROP_ALL: u32 = 6;
 
-/// One request of many: an [`Event`], or names that are dropped together, which stand in a list beside
+/// What a domain asks for: an [`Event`], or names that are dropped together, which stand in a list beside
 /// the requests. It is made of one or the other, and laid out as `kz_event` is.
 ///
 /// ```
-/// use kelzoud::{Event, Name, Request};
+/// use kelzoud::{Domain, Event, Name, Request};
 ///
 /// let names = [Name(2), Name(5), Name(9)];
-/// let requests = [Request::from(Event::Drop { name: Name(1) }), Request::drop_all(0..names.len())];
+/// let (three, drop) = (Domain::new(3).unwrap(), Event::Drop { name: Name(1) });
+/// // By domain 0, and by domain 3.
+/// let requests = [Request::from(drop), Request::drop_all(0..names.len())];
+/// let requests = [drop.by(three), Request::drop_all_by(three, 0..names.len())];
 /// ```
 #[repr(C)]
 #[derive(Clone, Copy, Debug, PartialEq, Eq, Hash)]
@@ -33,6 +37,9 @@ pub struct Request {
     written: u32,
     cap_kind: u32,
     fresh: u32,
+    actor: u32,
+    holders_low: u32,
+    holders_high: u32,
 }
 
 impl Request {
@@ -47,11 +54,19 @@ impl Request {
         written: 0,
         cap_kind: 0,
         fresh: 0,
+        actor: 0,
+        holders_low: 0,
+        holders_high: 0,
     };
 
-    /// Drops the names together that stand at these places of the list. Places past its end, and places
-    /// that 32 bits cannot hold, are no names, and refused so.
+    /// Drops the names together that stand at these places of the list, as domain 0. Places past its end,
+    /// and places that 32 bits cannot hold, are no names, and refused so.
     pub fn drop_all(places: Range<usize>) -> Request {
+        Request::drop_all_by(Domain::ZERO, places)
+    }
+
+    /// The same by any domain, which has to hold each of them.
+    pub fn drop_all_by(actor: Domain, places: Range<usize>) -> Request {
         let start = u32::try_from(places.start);
         let length = u32::try_from(places.len());
         let (start, length) = start.and_then(|at| Ok((at, length?))).unwrap_or((0, 0));
@@ -59,20 +74,35 @@ impl Request {
             kind: DROP_ALL,
             start,
             length,
+            actor: actor.number(),
             ..Request::NONE
         }
     }
 
     /// What a line asks for that was read into this request and these names; nothing for a kind, right,
-    /// kind of capability or mark that no line has.
+    /// kind of capability, mark or domain that no line has.
     pub(crate) fn line(self, names: [Name; MAX_GROUP]) -> Option<Line> {
+        let actor = Domain::new(self.actor)?;
+        if self.kind == DROP_ALL {
+            let count = self.length as usize;
+            let names = Group { names, count };
+            return Some(Line::DropAll { actor, names });
+        }
+        let event = self.event(actor)?;
+        Some(Line::Event { actor, event })
+    }
+
+    /// The event, if it is one. Holders that an event need not give it does not give.
+    fn event(self, actor: Domain) -> Option<Event> {
         let name = Name(self.name);
+        let holders = Holders::from_halves(self.holders_low, self.holders_high);
+        let holders = (holders != Holders::of(actor)).then_some(holders);
         let written = (self.named != 0).then_some(Name(self.written));
         let span = Span {
             start: Addr(self.start),
             length: self.length,
         };
-        Some(Line::Event(match self.kind {
+        Some(match self.kind {
             CREATE => Event::Create {
                 written,
                 span,
@@ -82,6 +112,7 @@ impl Request {
                     1 => true,
                     _ => return None,
                 },
+                holders,
             },
             BORROW => Event::Borrow {
                 written,
@@ -89,26 +120,42 @@ impl Request {
                 span,
                 right: Right::from_number(self.right)?,
                 kind: Kind::from_number(self.cap_kind)?,
+                holders,
             },
             READ => Event::Read { name, span },
             WRITE => Event::Write { name, span },
             DROP => Event::Drop { name },
-            DROP_ALL => {
-                let count = self.length as usize;
-                return Some(Line::DropAll(Group { names, count }));
-            }
             _ => return None,
-        }))
+        })
     }
 }
 
+/// By domain 0.
 impl From<Event> for Request {
     fn from(event: Event) -> Request {
+        event.by(Domain::ZERO)
+    }
+}
+
+impl Event {
+    /// The event as a domain asks for it.
+    ///
+    /// ```
+    /// use kelzoud::{write_event, Addr, Domain, Event, Name, Span};
+    ///
+    /// let three = Domain::new(3).unwrap();
+    /// let span = Span { start: Addr(0), length: 8 };
+    /// let mut out = [0; 32];
+    /// let length = write_event(Event::Read { name: Name(2), span }.by(three), &mut out)?;
+    /// assert_eq!(&out[..length], b"(as 3 (read 2 0 8))\n");
+    /// # Ok::<(), kelzoud::Refusal>(())
+    /// ```
+    pub fn by(self, actor: Domain) -> Request {
         let none = Span {
             start: Addr(0),
             length: 0,
         };
-        let (kind, name, span, right) = match event {
+        let (kind, name, span, right) = match self {
             Event::Create { span, right, .. } => (CREATE, Name(0), span, right as u32),
             Event::Borrow {
                 parent,
@@ -120,16 +167,24 @@ impl From<Event> for Request {
             Event::Write { name, span } => (WRITE, name, span, 0),
             Event::Drop { name } => (DROP, name, none, 0),
         };
+        let holders = match self.makes() {
+            true => self.holders().unwrap_or(Holders::of(actor)),
+            false => Holders::NONE,
+        };
+        let (holders_low, holders_high) = holders.halves();
         Request {
             kind,
             name: name.0,
             start: span.start.0,
             length: span.length,
             right,
-            named: event.written().is_some().into(),
-            written: event.written().map_or(0, |written| written.0),
-            cap_kind: event.kind().unwrap_or_default() as u32,
-            fresh: event.is_fresh().into(),
+            named: self.written().is_some().into(),
+            written: self.written().map_or(0, |written| written.0),
+            cap_kind: self.kind().unwrap_or_default() as u32,
+            fresh: self.is_fresh().into(),
+            actor: actor.number(),
+            holders_low,
+            holders_high,
         }
     }
 }
@@ -148,10 +203,21 @@ pub enum Spelling {
 #[derive(Clone, Copy, Debug, PartialEq, Eq)]
 #[allow(clippy::large_enum_variant)] // Nothing can be allocated for the names.
 pub enum Line {
-    /// An event, of which a line of one name is [`Event::Drop`].
-    Event(Event),
+    /// An event, of which a line of one name is [`Event::Drop`]. Where the domain that acts alone holds
+    /// what is made the event has no holders, as the line has none.
+    Event {
+        /// The domain that acts.
+        actor: Domain,
+        /// What it asks for.
+        event: Event,
+    },
     /// Two names or more that are dropped together.
-    DropAll(Group),
+    DropAll {
+        /// The domain that acts.
+        actor: Domain,
+        /// The names.
+        names: Group,
+    },
 }
 
 /// The names of a line that drops them together: a slice of them, strictly rising.

@@ -1,6 +1,6 @@
 //! What is lent and what is asked.
 
-use crate::{WRITTEN_ADDRESSES, WRITTEN_BYTES};
+use crate::{Holders, WRITTEN_ADDRESSES, WRITTEN_BYTES};
 
 /// The name of a capability: 1 to [`MAX_NAME`](crate::MAX_NAME), given out in order, never twice.
 #[derive(Clone, Copy, Debug, PartialEq, Eq, PartialOrd, Ord, Hash)]
@@ -73,7 +73,13 @@ impl Kind {
     }
 }
 
-/// An event. Names and spans may be any; those that are wrong are refused.
+/// An event. Names, spans and holders may be any; those that are wrong are refused.
+///
+/// Who acts is said beside it: an event by itself is [domain 0](crate::Domain::ZERO)'s, and
+/// [`by`](Event::by) makes a request of any domain of it. What an event goes through, and what it drops,
+/// the domain that acts must hold, else it is refused [`NotHolder`](crate::Refusal::NotHolder). What it
+/// makes is that domain's, for the [holders](Holders) that it gives; these must have the domain itself
+/// among them, else it is refused [`Misspelt`](crate::Refusal::Misspelt).
 ///
 /// A log may write out the name of what a create or borrow makes. A written name that is not the one
 /// that is given out next, the issued number plus one, is refused
@@ -85,7 +91,7 @@ impl Kind {
 #[derive(Clone, Copy, Debug, PartialEq, Eq, Hash)]
 pub enum Event {
     /// Makes a new root, a reference, as a new allocation: ends every capability that its span
-    /// touches, of whatever kind, with their subtrees. One of length 0 ends nothing.
+    /// touches, of whatever kind and whoever holds it, with their subtrees. One of length 0 ends nothing.
     Create {
         /// The root's name, where it is written out.
         written: Option<Name>,
@@ -98,6 +104,8 @@ pub enum Event {
         /// [written](Written), through the root or through anything that is borrowed from it, is
         /// refused [`NotWritten`](crate::Refusal::NotWritten).
         fresh: bool,
+        /// Who may use the root; without it, the domain that acts alone.
+        holders: Option<Holders>,
     },
     /// Makes a new capability under a live one, fresh where that one is. Nothing is taken away.
     Borrow {
@@ -111,6 +119,9 @@ pub enum Event {
         right: Right,
         /// The new capability's kind.
         kind: Kind,
+        /// Who may use the new capability, whoever holds its parent; without it, the domain that acts
+        /// alone.
+        holders: Option<Holders>,
     },
     /// Lowers to read-only every capability that it strikes, with its subtree: each that is touched and
     /// is neither the reader nor an ancestor of it, but for [raw](Kind::Raw) ones, which no read
@@ -159,6 +170,14 @@ impl Event {
         matches!(self, Event::Create { fresh: true, .. })
     }
 
+    /// Who may use what the event makes, where that is not left to the domain that acts alone.
+    pub const fn holders(self) -> Option<Holders> {
+        match self {
+            Event::Create { holders, .. } | Event::Borrow { holders, .. } => holders,
+            _ => None,
+        }
+    }
+
     /// The name of what the event makes, where it is written out.
     pub const fn written(self) -> Option<Name> {
         match self {
@@ -191,6 +210,12 @@ pub struct Cap {
     pub kind: u32,
     /// 1 where what it reads must be written, else 0: as that which it was borrowed from.
     pub fresh: u32,
+    /// The number of the [`Domain`](crate::Domain) that made it.
+    pub maker: u32,
+    /// The lower half of its [holders](Cap::holders), the domains 0 to 31.
+    pub holders_low: u32,
+    /// The higher half, the domains 32 to 63.
+    pub holders_high: u32,
 }
 
 impl Cap {
@@ -204,7 +229,15 @@ impl Cap {
         depth: 0,
         kind: 0,
         fresh: 0,
+        maker: 0,
+        holders_low: 0,
+        holders_high: 0,
     };
+
+    /// The domains that may use it, its maker among them.
+    pub const fn holders(&self) -> Holders {
+        Holders::from_halves(self.holders_low, self.holders_high)
+    }
 }
 
 /// The written bits of a table: which addresses below [`WRITTEN_ADDRESSES`] were written since they
@@ -215,8 +248,9 @@ impl Cap {
 /// look at them. Addresses from [`WRITTEN_ADDRESSES`] on have no bit, and no fresh capability reaches
 /// them.
 ///
-/// A table has the same bits throughout, and begins with [none](Written::NONE). They are not in a
-/// listing, so a tool that keeps listings to come back to keeps them too.
+/// A table has the same bits throughout, and begins with [none](Written::NONE). Tables that stand for
+/// parts of one memory, each with its own allocations, share them. They are not in a listing, so a tool
+/// that keeps listings to come back to keeps them too.
 ///
 /// ```
 /// use kelzoud::{run, Addr, Cap, Refusal, RunAnswer, Tally, Written};

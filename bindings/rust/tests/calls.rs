@@ -1,10 +1,11 @@
 //! Each call of the safe interface, with its answers turned into enums.
 
 use kelzoud::{
-    apply, apply_all, check, drop_all, read_event, read_listing, run, write_drop, write_event,
-    write_listing, Addr, Answer, Cap, Event, Kind, Line, Name, Outcome, Refusal, Request, Right,
-    RunAnswer, Span, Spelling, Tally, Written, MAX_CHECK, MAX_DROP_LINE, MAX_GROUP, MAX_LINE,
-    MAX_LISTING, MAX_NAMED_LINE, MAX_ROWS, NAMED_HEADER, WRITTEN_ADDRESSES, WRITTEN_BYTES,
+    apply, apply_all, check, drop_all, read_event, read_listing, run, write_drop, write_drop_by,
+    write_event, write_listing, Addr, Answer, Cap, Domain, Event, Holders, Kind, Line, Name,
+    Outcome, Refusal, Request, Right, RunAnswer, Span, Spelling, Tally, Written, MAX_CHECK,
+    MAX_DROP_LINE, MAX_GROUP, MAX_LINE, MAX_LISTING, MAX_NAMED_LINE, MAX_ROWS, NAMED_HEADER,
+    WRITTEN_ADDRESSES, WRITTEN_BYTES,
 };
 
 fn span(start: u32, length: u32) -> Span {
@@ -23,6 +24,7 @@ fn spellings() -> [(Event, &'static str, &'static str); 8] {
         span: wide,
         right,
         fresh,
+        holders: None,
     };
     let create = created(Right::ReadWrite, false);
     let fresh = created(Right::ReadOnly, true);
@@ -32,6 +34,7 @@ fn spellings() -> [(Event, &'static str, &'static str); 8] {
         span: span(8, 4),
         right,
         kind,
+        holders: None,
     };
     let shared = borrow(Right::ReadOnly, Kind::Reference);
     let raw = borrow(Right::ReadWrite, Kind::Raw);
@@ -64,18 +67,24 @@ fn with_name(event: Event, name: u32) -> Event {
     let written = Some(Name(name));
     match event {
         Event::Create {
-            span, right, fresh, ..
+            span,
+            right,
+            fresh,
+            holders,
+            ..
         } => Event::Create {
             written,
             span,
             right,
             fresh,
+            holders,
         },
         Event::Borrow {
             parent,
             span,
             right,
             kind,
+            holders,
             ..
         } => Event::Borrow {
             written,
@@ -83,9 +92,16 @@ fn with_name(event: Event, name: u32) -> Event {
             span,
             right,
             kind,
+            holders,
         },
         other => other,
     }
+}
+
+/// What the line of an event of domain 0 asks for.
+fn by_zero(event: Event) -> Line {
+    let actor = Domain::ZERO;
+    Line::Event { actor, event }
 }
 
 fn check_line(event: Event, line: &str, spelling: Spelling) {
@@ -94,7 +110,7 @@ fn check_line(event: Event, line: &str, spelling: Spelling) {
     assert_eq!(&out[..line.len()], line.as_bytes());
     assert_eq!(out[line.len()], b'?');
     let read = read_event(spelling, line.as_bytes());
-    assert_eq!(read, Ok(Line::Event(event)));
+    assert_eq!(read, Ok(by_zero(event)));
     let short = &mut out[..line.len() - 1];
     assert_eq!(write_event(event, short), Err(Refusal::BufferTooShort));
 }
@@ -136,7 +152,7 @@ fn names_are_written_and_read() {
         // A create or borrow of one spelling is no line of the other; the rest is in both.
         let expected = match event.makes() {
             true => Err(Refusal::Misspelt),
-            false => Ok(Line::Event(event)),
+            false => Ok(by_zero(event)),
         };
         assert_eq!((as_plain, as_named), (expected, expected));
     }
@@ -150,10 +166,12 @@ fn lines_have_their_longest_lengths() {
         span: span(u32::MAX, u32::MAX),
         right: Right::ReadWrite,
         kind: Kind::Cell,
+        holders: Some(Holders::ALL),
     };
-    let mut out = [0; 64];
-    assert_eq!(write_event(borrow, &mut out), Ok(MAX_LINE));
-    let named = with_name(borrow, u32::MAX);
+    let last = Domain::new(63).unwrap();
+    let mut out = [0; 128];
+    assert_eq!(write_event(borrow.by(last), &mut out), Ok(MAX_LINE));
+    let named = with_name(borrow, u32::MAX).by(last);
     assert_eq!(write_event(named, &mut out), Ok(MAX_NAMED_LINE));
 }
 
@@ -170,6 +188,7 @@ fn events_change_the_table() {
         span: whole,
         right,
         fresh: false,
+        holders: None,
     };
     let borrow = Event::Borrow {
         written: None,
@@ -177,6 +196,7 @@ fn events_change_the_table() {
         span: whole,
         right,
         kind: Kind::Reference,
+        holders: None,
     };
     let drop = Event::Drop { name: Name(1) };
     assert_eq!(take(root), Answer::Allowed(Some(Name(1))));
@@ -199,6 +219,7 @@ fn written_names_are_judged() {
         span: span(0, 8),
         right: Right::ReadWrite,
         fresh: false,
+        holders: None,
     };
     let misnamed = Answer::Refused(Refusal::Misnamed);
     assert_eq!(take(with_name(root, 0)), misnamed);
@@ -209,6 +230,7 @@ fn written_names_are_judged() {
         span: span(8, 8),
         right: Right::ReadWrite,
         fresh: false,
+        holders: None,
     };
     assert_eq!(take(beside), Answer::Allowed(Some(Name(2))));
     assert_eq!(take(with_name(root, 2)), misnamed);
@@ -228,6 +250,7 @@ fn a_create_ends_what_it_touches() {
         span: span(start, length),
         right: Right::ReadWrite,
         fresh: false,
+        holders: None,
     };
     let borrow = Event::Borrow {
         written: None,
@@ -235,6 +258,7 @@ fn a_create_ends_what_it_touches() {
         span: span(0, 8),
         right: Right::ReadWrite,
         kind: Kind::Reference,
+        holders: None,
     };
     let read = Event::Read {
         name: Name(2),
@@ -285,6 +309,7 @@ impl Part {
             span: span(start, length),
             right: Right::ReadWrite,
             fresh,
+            holders: None,
         })
     }
 
@@ -296,6 +321,7 @@ impl Part {
             span: span(0, 8),
             right: Right::ReadWrite,
             kind,
+            holders: None,
         })
     }
 
@@ -514,16 +540,18 @@ fn names_dropped_together_are_written_and_read() {
     assert_eq!(write_drop(&[], &mut []), Err(Refusal::Misgrouped));
     for spelling in BOTH {
         let read = read_event(spelling, line);
-        assert!(matches!(read, Ok(Line::DropAll(names)) if *names == group));
+        assert!(matches!(read, Ok(Line::DropAll { names, .. }) if *names == group));
         let one = Event::Drop { name: Name(8) };
-        assert_eq!(read_event(spelling, b"(drop 8)\n"), Ok(Line::Event(one)));
+        assert_eq!(read_event(spelling, b"(drop 8)\n"), Ok(by_zero(one)));
         let falling = read_event(spelling, b"(drop 5 2)\n");
         assert_eq!(falling, Err(Refusal::Misspelt));
     }
     let longest: Vec<Name> = (u32::MAX - 63..=u32::MAX).map(Name).collect();
-    assert_eq!(write_drop(&longest, &mut out), Ok(MAX_DROP_LINE));
+    assert_eq!(write_drop(&longest, &mut out), Ok(MAX_DROP_LINE - 8));
+    let last = Domain::new(63).unwrap();
+    assert_eq!(write_drop_by(last, &longest, &mut out), Ok(MAX_DROP_LINE));
     let read = read_event(Spelling::Plain, &out);
-    assert!(matches!(read, Ok(Line::DropAll(names)) if *names == *longest));
+    assert!(matches!(read, Ok(Line::DropAll { names, .. }) if *names == *longest));
     assert_eq!(longest.len(), MAX_GROUP);
 }
 
@@ -537,6 +565,7 @@ fn many_requests_are_taken_in_turn() {
         span: span(start, 8),
         right: Right::ReadWrite,
         fresh: false,
+        holders: None,
     };
     let names = [Name(1), Name(3), Name(2)];
     let requests = [
@@ -639,7 +668,8 @@ fn runs_stop_at_a_refusal() {
 
 #[test]
 fn listings_are_written_and_read() {
-    let listing = b"(issued 3)\n(1 0 64 rw (2 0 16 ro) (3 16 16 rw))\n";
+    let listing = b"(issued 3)\n(1 0 64 rw 0 0000000000000001 (2 0 16 ro 0 0000000000000001) \
+        (3 16 16 rw 0 0000000000000001))\n";
     let mut table = [Cap::EMPTY; 4];
     let mut tally = Tally::default();
     assert_eq!(read_listing(listing, &mut table, &mut tally), Ok(()));
@@ -648,7 +678,7 @@ fn listings_are_written_and_read() {
         (table[2].parent, table[2].depth, table[3]),
         (1, 2, Cap::EMPTY)
     );
-    let mut out = [0; 64];
+    let mut out = [0; 128];
     assert_eq!(write_listing(&table, 3, &mut out), Ok(listing.len()));
     assert!(out.starts_with(listing));
     assert_eq!(write_listing(&table, 2, &mut out), Err(Refusal::Disordered));
@@ -657,7 +687,12 @@ fn listings_are_written_and_read() {
         read_listing(listing, few, &mut tally),
         Err(Refusal::TableFull)
     );
-    assert_eq!(read_listing(b"?", few, &mut tally), Err(Refusal::Misspelt));
+    for wrong in [
+        &b"?"[..],
+        b"(issued 3)\n(1 0 64 rw (2 0 16 ro) (3 16 16 rw))\n",
+    ] {
+        assert_eq!(read_listing(wrong, few, &mut tally), Err(Refusal::Misspelt));
+    }
     let many = &mut vec![Cap::EMPTY; MAX_ROWS + 1];
     assert_eq!(
         read_listing(listing, many, &mut tally),
@@ -665,24 +700,40 @@ fn listings_are_written_and_read() {
     );
 }
 
+/// A listing in which each form has domain 0 as its maker and its one holder.
+fn of_zero(listing: &str) -> Vec<u8> {
+    let (issued, forms) = listing.split_once('\n').unwrap();
+    let mut text = issued.to_string() + "\n";
+    let mut is_in_head = false;
+    for (at, letter) in forms.char_indices() {
+        let ends = letter == ')' || forms[at..].starts_with(" (");
+        if is_in_head && ends {
+            text += " 0 0000000000000001";
+        }
+        is_in_head = letter == '(' || (is_in_head && !ends);
+        text.push(letter);
+    }
+    text.into_bytes()
+}
+
 #[test]
 fn listings_have_kinds() {
-    let listing = b"(issued 4)\n(1 0 64 rw (2 0 8 rw raw (3 0 4 ro)) (4 8 8 ro cell))\n";
+    let listing = of_zero("(issued 4)\n(1 0 64 rw (2 0 8 rw raw (3 0 4 ro)) (4 8 8 ro cell))\n");
     let mut table = [Cap::EMPTY; 5];
     let mut tally = Tally::default();
-    assert_eq!(read_listing(listing, &mut table, &mut tally), Ok(()));
+    assert_eq!(read_listing(&listing, &mut table, &mut tally), Ok(()));
     let kinds = table.map(|row| Kind::from_number(row.kind).unwrap());
     assert_eq!(kinds[..3], [Kind::Reference, Kind::Raw, Kind::Reference]);
     assert_eq!((kinds[3], table[4]), (Kind::Cell, Cap::EMPTY));
     let mut out = [0; MAX_LISTING];
     assert_eq!(write_listing(&table, 4, &mut out), Ok(listing.len()));
-    assert!(out.starts_with(listing));
+    assert!(out.starts_with(&listing));
     for wrong in [
         "(issued 1)\n(1 0 64 rw cell)\n",
         "(issued 2)\n(1 0 64 rw (2 0 8 rw reference))\n",
         "(issued 2)\n(1 0 64 rw (2 0 8 raw rw))\n",
     ] {
-        let read = read_listing(wrong.as_bytes(), &mut table, &mut tally);
+        let read = read_listing(&of_zero(wrong), &mut table, &mut tally);
         assert_eq!(read, Err(Refusal::Misspelt));
     }
     assert_eq!(tally.issued, 4);
@@ -690,14 +741,14 @@ fn listings_have_kinds() {
 
 #[test]
 fn listings_have_marks() {
-    let listing = b"(issued 2)\n(1 0 8 rw fresh (2 0 4 ro cell fresh))\n";
+    let listing = of_zero("(issued 2)\n(1 0 8 rw fresh (2 0 4 ro cell fresh))\n");
     let mut table = [Cap::EMPTY; 3];
     let mut tally = Tally::default();
-    assert_eq!(read_listing(listing, &mut table, &mut tally), Ok(()));
+    assert_eq!(read_listing(&listing, &mut table, &mut tally), Ok(()));
     assert_eq!(table.map(|row| row.fresh), [1, 1, 0]);
     let mut out = [0; MAX_LISTING];
     assert_eq!(write_listing(&table, 2, &mut out), Ok(listing.len()));
-    assert!(out.starts_with(listing));
+    assert!(out.starts_with(&listing));
     for wrong in [
         "(issued 1)\n(1 0 8 fresh rw)\n",
         "(issued 1)\n(1 65536 1 rw fresh)\n",
@@ -705,7 +756,7 @@ fn listings_have_marks() {
         "(issued 2)\n(1 0 8 rw (2 0 4 ro fresh))\n",
         "(issued 2)\n(1 0 8 rw fresh (2 0 4 ro fresh cell))\n",
     ] {
-        let read = read_listing(wrong.as_bytes(), &mut table, &mut tally);
+        let read = read_listing(&of_zero(wrong), &mut table, &mut tally);
         assert_eq!(read, Err(Refusal::Misspelt));
     }
     // The bits are not in a listing: here they are those of a table that wrote the first four.
@@ -722,21 +773,22 @@ fn listings_have_marks() {
 fn capcheck_prints_the_verdict_and_the_listing() {
     let mut out = vec![0; MAX_CHECK];
     let length = check(b"(create 0 8 rw)\n", &mut out).unwrap();
-    assert_eq!(&out[..length], b"(allowed 1)\n(issued 1)\n(1 0 8 rw)\n");
+    let expected = b"(allowed 1)\n(issued 1)\n(1 0 8 rw 0 0000000000000001)\n";
+    assert_eq!(&out[..length], expected);
     let length = check(b"(create 0 8 rw fresh)\n(read 1 0 8)\n", &mut out).unwrap();
-    let expected = b"(refused 16 2)\n(issued 1)\n(1 0 8 rw fresh)\n";
+    let expected = b"(refused 16 2)\n(issued 1)\n(1 0 8 rw fresh 0 0000000000000001)\n";
     assert_eq!(&out[..length], expected);
     assert_eq!(check(b"", &mut []), Err(Refusal::BufferTooShort));
 }
 
 #[test]
 fn refusals_have_their_numbers() {
-    for number in 1..=16 {
+    for number in 1..=18 {
         let refusal = Refusal::from_number(number).unwrap();
         assert_eq!(u32::from(refusal.number()), number);
     }
     assert_eq!(Refusal::from_number(0), None);
-    assert_eq!(Refusal::from_number(17), None);
+    assert_eq!(Refusal::from_number(19), None);
     assert_eq!(
         Refusal::Ended.to_string(),
         "refusal 5, the capability has ended"
@@ -744,5 +796,13 @@ fn refusals_have_their_numbers() {
     assert_eq!(
         Refusal::NotWritten.to_string(),
         "refusal 16, read before it was written"
+    );
+    assert_eq!(
+        Refusal::NotHolder.to_string(),
+        "refusal 17, the domain is no holder"
+    );
+    assert_eq!(
+        Refusal::LimitReached.to_string(),
+        "refusal 18, the domain has reached its limit"
     );
 }

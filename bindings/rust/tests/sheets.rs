@@ -41,6 +41,7 @@ const ROOT: Event = Event::Create {
     span: WHOLE,
     right: Right::ReadWrite,
     fresh: false,
+    holders: None,
 };
 
 fn borrow(parent: u32, kind: Kind) -> Event {
@@ -50,6 +51,7 @@ fn borrow(parent: u32, kind: Kind) -> Event {
         span: WHOLE,
         right: Right::ReadWrite,
         kind,
+        holders: None,
     }
 }
 
@@ -272,6 +274,7 @@ fn bits_are_followed_by_any_sheet() {
         span: WHOLE,
         right: Right::ReadOnly,
         fresh: true,
+        holders: None,
     };
     let half = Event::Create {
         written: None,
@@ -281,6 +284,7 @@ fn bits_are_followed_by_any_sheet() {
         },
         right: Right::ReadWrite,
         fresh: false,
+        holders: None,
     };
     let unwritten = Answer::Refused(Refusal::NotWritten);
     // Where a create keeps what it strikes, others may write for what is fresh, and take it back.

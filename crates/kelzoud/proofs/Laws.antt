@@ -1,6 +1,6 @@
 -- The answer of a run, taken apart, and how many names a line reads as.
 -- Assumes nothing.
-use mathlib.Core.Path.{_≡_, refl, ap, _∙_}
+use mathlib.Core.Path.{_≡_, refl, sym, ap, _∙_}
 use mathlib.Core.List.{List}
 use Prim.Native.Nat.{ℕ, _≤_}
 use native.Mathlib.Omega.{arith}
@@ -19,26 +19,34 @@ pub ran-parts : (a : RunAnswer) (h : State) (x : Ran State) → ranOf a h ≡ x 
 ran-parts (Allowed k) h x e = (ap (λ (r : Ran State). r .state) e, ap packedRan e)
 ran-parts (Refused r k) h x e = (ap (λ (r : Ran State). r .state) e, ap packedRan e)
 
--- the names that a line reads as
-pub record Counted (line : List ℕ) (n : ℕ) : Type 0 where
+-- the names that a line reads as, and the domain that drops them
+pub record Counted (line : List ℕ) (actor n : ℕ) : Type 0 where
   pub names : List ℕ
-  pub read : readGroup line ≡ value names
+  pub read : readGroup line ≡ value (actor, names)
   pub count : n ≡ length names
   pub few : n ≤ 64
 
-pub counted : (line : List ℕ) (n : ℕ) → value n ≡ countOf (readGroup line) → Counted line n
-counted line n = go (readGroup line) refl
+pub counted : (line : List ℕ) (actor n : ℕ) → value (actor, n) ≡ countOf (readGroup line) → Counted line actor n
+counted line actor n = go (readGroup line) refl
   where
-    go : (r : Result (List ℕ)) → readGroup line ≡ r → value n ≡ countOf r → Counted line n
-    go (value names) is e =
-        let l : n ≡ length names = cc in
-        record { names = names; read = is; count = l; few = omega (arith, l, group-few names (read-group-is-spelling line names is .0)) }
+    go : (r : Result (ℕ × List ℕ)) → readGroup line ≡ r → value (actor, n) ≡ countOf r → Counted line actor n
+    go (value g) is e =
+        let names = g .1 in
+        let both : _≡_ {A = ℕ × ℕ} (actor, n) (g .0, length names) = cc in
+        let who : g .0 ≡ actor = ap (λ (p : ℕ × ℕ). p .0) (sym both) in
+        let l : n ≡ length names = ap (λ (p : ℕ × ℕ). p .1) both in
+        record {
+          names = names;
+          read = is ∙ ap (λ (a : ℕ). value (a, names)) who;
+          count = l;
+          few = omega (arith, l, group-few names (read-group-is-spelling line (g .0) names is .1));
+        }
     go (refused k) is e = absurd (let z : _≡_ {A = ℕ} 0 1 = cc in omega arith)
 
 -- one that reads as none
 pub unread : (line : List ℕ) (k : ℕ) → refused k ≡ countOf (readGroup line) → readGroup line ≡ refused k
 unread line k = go (readGroup line) refl
   where
-    go : (r : Result (List ℕ)) → readGroup line ≡ r → refused k ≡ countOf r → readGroup line ≡ refused k
-    go (value names) is e = absurd (let z : _≡_ {A = ℕ} 0 1 = cc in omega arith)
+    go : (r : Result (ℕ × List ℕ)) → readGroup line ≡ r → refused k ≡ countOf r → readGroup line ≡ refused k
+    go (value g) is e = absurd (let z : _≡_ {A = ℕ} 0 1 = cc in omega arith)
     go (refused x) is e = let h : x ≡ k = cc in is ∙ ap (λ (n : ℕ). refused n) h

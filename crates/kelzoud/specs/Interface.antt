@@ -46,6 +46,6 @@ eventAfter (refused k) before = before
 
 -- the names after it: those that are dropped together first, and the later ones as they were; a single event and a refusal leave all
 abbrev pub groupAfter : Result Request → List ℕ → List ℕ
-groupAfter (value (Single e)) before = before
-groupAfter (value (Group names)) before = sets before 0 names
+groupAfter (value (Single by e)) before = before
+groupAfter (value (Group by names)) before = sets before 0 names
 groupAfter (refused k) before = before

@@ -21,6 +21,7 @@ use trace::check;
 use trace::run::run;
 ghost use mathlib.Core.Path.{_≡_};
 ghost use mathlib.Core.Bool.{true};
+ghost use Rattle.model.specs.Requests.{Unlimited};
 ghost use Rattle.kelzoud_events.specs.Interface.{packed, requestIn};
 ghost use Rattle.kelzoud.specs.Interface.{packedResult, packedRead, packedRan, spellingIn, eventAfter, groupAfter};
 ghost use Rattle.listing.specs.ReadInto.{target, answerInto, targetInto};
@@ -29,6 +30,7 @@ ghost use Rattle.sheet.specs.ReadSheet.{judgeText, sheetInto};
 ghost use Rattle.sheet.specs.WriteSheet.{writeSheet};
 ghost use Rattle.table.specs.Words.{rowsIn};
 ghost use Rattle.table.specs.Sheets.{bytesOf, sheetLent};
+ghost use Rattle.table.specs.Limits.{limitsIn};
 ghost use Rattle.table.specs.Lent.{tallyIn, lent};
 ghost use Rattle.text.specs.Request.{readRequest, writeRequest};
 ghost use Rattle.text.specs.Write.{written, stored};
@@ -38,30 +40,32 @@ ghost use Rattle.trace.specs.Run;
 mod answers;
 mod requests;
 
-// A run of a text on the table, the bits and the tally that are lent, by the sheet that is lent, card 6's where no byte of one is.
+// A run of a text on the table, the bits and the tally that are lent, by the sheet that is lent, card 6's where no byte of one is, with the limits that
+// are lent, none where no number is.
 #[no_mangle]
 pub extern "C" fn kz_abi_run(
     table: &mut [Row],
     bits: &mut [u8],
     tally: &mut [u32; 7],
     sheet: &[u8],
+    limits: &[u32],
     text: &[u8],
 ) -> u64
-    ensures { λ r. ⌜ (rowsIn (now (table .exit)) ≡ Run.run (sheetLent (now (sheet .entry))) (lent (now (table .entry)) (now (bits .entry)) (now (tally .entry))) (now (text .entry)) .state .memory .table)
-        × (now (bits .exit) ≡ Run.run (sheetLent (now (sheet .entry))) (lent (now (table .entry)) (now (bits .entry)) (now (tally .entry))) (now (text .entry)) .state .memory .bits)
-        × (tallyIn (now (tally .exit)) ≡ Run.run (sheetLent (now (sheet .entry))) (lent (now (table .entry)) (now (bits .entry)) (now (tally .entry))) (now (text .entry)) .state .tally)
-        × (r ≡ packedRan (Run.run (sheetLent (now (sheet .entry))) (lent (now (table .entry)) (now (bits .entry)) (now (tally .entry))) (now (text .entry)))) ⌝ }
+    ensures { λ r. ⌜ (rowsIn (now (table .exit)) ≡ Run.run (sheetLent (now (sheet .entry))) (limitsIn (now (limits .entry))) (lent (now (table .entry)) (now (bits .entry)) (now (tally .entry))) (now (text .entry)) .state .memory .table)
+        × (now (bits .exit) ≡ Run.run (sheetLent (now (sheet .entry))) (limitsIn (now (limits .entry))) (lent (now (table .entry)) (now (bits .entry)) (now (tally .entry))) (now (text .entry)) .state .memory .bits)
+        × (tallyIn (now (tally .exit)) ≡ Run.run (sheetLent (now (sheet .entry))) (limitsIn (now (limits .entry))) (lent (now (table .entry)) (now (bits .entry)) (now (tally .entry))) (now (text .entry)) .state .tally)
+        × (r ≡ packedRan (Run.run (sheetLent (now (sheet .entry))) (limitsIn (now (limits .entry))) (lent (now (table .entry)) (now (bits .entry)) (now (tally .entry))) (now (text .entry)))) ⌝ }
 {
     let bytes = sheet_lent(sheet);
-    let answer = run(table, bits, tally, &bytes, text);
+    let answer = run(table, bits, tally, &bytes, limits, text);
     packed_run(answer)
 }
 
-// Writes the line of a request.
+// Writes the line of a request. A line says who acts, and no limits.
 #[no_mangle]
 pub extern "C" fn kz_abi_write_event(event: &Words, names: &[u32], out: &mut [u8]) -> u64
-    ensures { λ r. ⌜ (r ≡ packedResult (writeRequest (requestIn (now (event .entry)) (now (names .entry))) (now (out .entry)) .answer))
-        × (now (out .exit) ≡ writeRequest (requestIn (now (event .entry)) (now (names .entry))) (now (out .entry)) .buffer) ⌝ }
+    ensures { λ r. ⌜ (r ≡ packedResult (writeRequest (requestIn Unlimited (now (event .entry)) (now (names .entry))) (now (out .entry)) .answer))
+        × (now (out .exit) ≡ writeRequest (requestIn Unlimited (now (event .entry)) (now (names .entry))) (now (out .entry)) .buffer) ⌝ }
 {
     let words = *event;
     let asked = asked_in(words);
@@ -78,9 +82,9 @@ pub extern "C" fn kz_abi_read_event(
     event: &mut Words,
     names: &mut [u32; 64],
 ) -> u64
-    ensures { λ r. ⌜ (r ≡ packedRead (readRequest (spellingIn named) (now (line .entry))))
-        × (now (event .exit) ≡ eventAfter (readRequest (spellingIn named) (now (line .entry))) (now (event .entry)))
-        × (now (names .exit) ≡ groupAfter (readRequest (spellingIn named) (now (line .entry))) (now (names .entry))) ⌝ }
+    ensures { λ r. ⌜ (r ≡ packedRead (readRequest Unlimited (spellingIn named) (now (line .entry))))
+        × (now (event .exit) ≡ eventAfter (readRequest Unlimited (spellingIn named) (now (line .entry))) (now (event .entry)))
+        × (now (names .exit) ≡ groupAfter (readRequest Unlimited (spellingIn named) (now (line .entry))) (now (names .entry))) ⌝ }
 {
     let spelling = spelling_in(named);
     read_request(spelling, line, event, names)

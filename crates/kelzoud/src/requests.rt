@@ -16,7 +16,7 @@ use text::spelling::Spelling;
 use text::write::Written;
 use text::write::write_event;
 ghost use mathlib.Core.Path.{_≡_};
-ghost use Rattle.model.specs.Requests.{requestOf};
+ghost use Rattle.model.specs.Requests.{Unlimited, requestOf};
 ghost use Rattle.text.specs.Group.{readGroup};
 ghost use Rattle.text.specs.Request.{groupOf, readRequest, spellingWith, spellingOf, writeRequest};
 ghost use Rattle.text.specs.Write.{outcome};
@@ -57,24 +57,24 @@ fn spelling_of(event: Event) -> Spelling
 
 // Writes the line of what is asked.
 pub fn write_request(asked: Asked, names: &[u32], out: &mut [u8]) -> Written
-    ensures { λ r. ⌜ outcome r (now (out .exit)) ≡ writeRequest (requestOf asked (now (names .entry))) (now (out .entry)) ⌝ }
+    ensures { λ r. ⌜ outcome r (now (out .exit)) ≡ writeRequest (requestOf Unlimited asked (now (names .entry))) (now (out .entry)) ⌝ }
 {
     match asked {
-        Asked::Single(event) => write_event(spelling_of(event), event, out),
-        Asked::Group => write_group(names, out),
+        Asked::Single(actor, event) => write_event(spelling_of(event), actor, event, out),
+        Asked::Group(actor) => write_group(actor, names, out),
     }
 }
 
 // Reads a line that is no event: the names that it drops together.
 fn read_names(line: &[u8], event: &mut Words, names: &mut [u32; 64]) -> u64
-    ensures { λ r. ⌜ (r ≡ packedRead (groupOf (readGroup (now (line .entry)))))
-        × (now (event .exit) ≡ eventAfter (groupOf (readGroup (now (line .entry)))) (now (event .entry)))
-        × (now (names .exit) ≡ groupAfter (groupOf (readGroup (now (line .entry)))) (now (names .entry))) ⌝ }
+    ensures { λ r. ⌜ (r ≡ packedRead (groupOf Unlimited (readGroup (now (line .entry)))))
+        × (now (event .exit) ≡ eventAfter (groupOf Unlimited (readGroup (now (line .entry)))) (now (event .entry)))
+        × (now (names .exit) ≡ groupAfter (groupOf Unlimited (readGroup (now (line .entry)))) (now (names .entry))) ⌝ }
 {
     let found = read_group(line, names);
     match found {
-        GroupRead::Count(count) => {
-            *event = group_words(count as u32);
+        GroupRead::Count(actor, count) => {
+            *event = group_words(actor, count as u32);
             pack(0, 0)
         }
         GroupRead::Refused(refusal) => pack_refusal(refusal, 0),
@@ -88,14 +88,14 @@ pub fn read_request(
     event: &mut Words,
     names: &mut [u32; 64],
 ) -> u64
-    ensures { λ r. ⌜ (r ≡ packedRead (readRequest spelling (now (line .entry))))
-        × (now (event .exit) ≡ eventAfter (readRequest spelling (now (line .entry))) (now (event .entry)))
-        × (now (names .exit) ≡ groupAfter (readRequest spelling (now (line .entry))) (now (names .entry))) ⌝ }
+    ensures { λ r. ⌜ (r ≡ packedRead (readRequest Unlimited spelling (now (line .entry))))
+        × (now (event .exit) ≡ eventAfter (readRequest Unlimited spelling (now (line .entry))) (now (event .entry)))
+        × (now (names .exit) ≡ groupAfter (readRequest Unlimited spelling (now (line .entry))) (now (names .entry))) ⌝ }
 {
     let found = read_event(spelling, line);
     match found {
-        EventRead::Event(read) => {
-            *event = words_of(read);
+        EventRead::Event(actor, read) => {
+            *event = words_of(actor, read);
             pack(0, 0)
         }
         EventRead::Refused(_) => read_names(line, event, names),

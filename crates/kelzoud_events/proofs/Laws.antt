@@ -1,10 +1,10 @@
--- The numbers of answers: no refusal's is above 16, and a refusal and a value that are packed into one number are found again in it. And the
+-- The numbers of answers: no refusal's is above 18, and a refusal and a value that are packed into one number are found again in it. And the
 -- words of a request stand for it.
 -- Assumes nothing.
 use mathlib.Core.Path.{_≡_, refl, sym, ap, ap₂, _∙_}
 use mathlib.Core.List.{List, _++_}
 use Prim.Native.Nat.{ℕ, _+_, _*_, _/_, _%_, _<_, _≤_}
-use native.Mathlib.Nat.{min-eq-left, min-eq-right, div-eq-of-lt, mod-eq-of-lt, mul-add-div-right, mul-add-mod-self-right, add-zero}
+use native.Mathlib.Nat.{min-eq-left, min-eq-right, div-eq-of-lt, mod-eq-of-lt, mul-add-div-right, mul-add-mod-self-right, add-zero, div-add-mod'}
 use native.Mathlib.Omega.{arith}
 use lib.ListN.{length, length-append}
 use lib.Seq.{take-append-seam}
@@ -14,13 +14,14 @@ use Rattle.model.specs.declared.NewName.{NewName}
 use Rattle.model.specs.declared.NewName.the-variants.{Unwritten, Written}
 use Rattle.model.specs.declared.Event.{Event}
 use Rattle.model.specs.declared.Event.the-variants.{Create, Borrow, Read, Write, Drop}
-use Rattle.model.specs.Requests.{Single, Group}
+use Rattle.model.specs.Requests.{Limits, Caller, Single, Group, caller}
+use Rattle.table.specs.Words.{maskOf, lowHalf, highHalf}
 use Rattle.model.specs.declared.Refusal.{Refusal}
-use Rattle.model.specs.declared.Refusal.the-variants.{Disordered, Misspelt, IllegalSpan, Unissued, Ended, OutsideSpan, ReadOnly, TooDeep, NamesSpent, TableFull, BufferTooShort, Misnamed, Misgrouped, GivenTwice, NotGiven, NotWritten}
+use Rattle.model.specs.declared.Refusal.the-variants.{Disordered, Misspelt, IllegalSpan, Unissued, Ended, OutsideSpan, ReadOnly, TooDeep, NamesSpent, TableFull, BufferTooShort, Misnamed, Misgrouped, GivenTwice, NotGiven, NotWritten, NoHolder, LimitReached}
 use Rattle.model.specs.Answers.{number}
 use Rattle.kelzoud_events.specs.Interface.{packed, rootTerms, childTerms, eventWith, rightIn, kindIn, freshIn, newIn, eventIn, askedIn, part, requestIn, namedOf, writtenOf, wordsOf}
 
-pub number-small : (r : Refusal) → number r ≤ 16
+pub number-small : (r : Refusal) → number r ≤ 18
 number-small Disordered = omega arith
 number-small Misspelt = omega arith
 number-small IllegalSpan = omega arith
@@ -37,6 +38,8 @@ number-small Misgrouped = omega arith
 number-small GivenTwice = omega arith
 number-small NotGiven = omega arith
 number-small NotWritten = omega arith
+number-small NoHolder = omega arith
+number-small LimitReached = omega arith
 
 -- ---- a refusal and a value in one number
 
@@ -87,22 +90,30 @@ InWords (Read n s) = Unit {0}
 InWords (Write n s) = Unit {0}
 InWords (Drop n) = Unit {0}
 
+-- the halves of a mask make it up
+mask-back : (mask : ℕ) → maskOf (lowHalf mask) (highHalf mask) ≡ mask
+mask-back mask = omega (arith, div-add-mod' mask 4294967296)
+
+abbrev terms : ℕ → ℕ → ℕ → ℕ → Terms
+terms right kind fresh holders = record { right = right; kind = kind; fresh = fresh; holders = holders }
+
 module _ (r : Terms) (h : r .right < 256) where
-  root-back : r .kind ≡ 0 → r .fresh < 256 → rootTerms (record { right = rightIn (r .right); kind = 0; fresh = freshIn (r .fresh) }) ≡ r
-  root-back k f = rw (lt-ltb (r .right) 256 h, lt-ltb (r .fresh) 256 f) (ap (λ (x : ℕ). record { right = r .right; kind = x; fresh = r .fresh }) (sym k))
+  root-back : r .kind ≡ 0 → r .fresh < 256 → rootTerms (terms (rightIn (r .right)) 0 (freshIn (r .fresh)) (maskOf (lowHalf (r .holders)) (highHalf (r .holders)))) ≡ r
+  root-back k f = rw (lt-ltb (r .right) 256 h, lt-ltb (r .fresh) 256 f) (ap₂ (λ (x m : ℕ). terms (r .right) x (r .fresh) m) (sym k) (mask-back (r .holders)))
 
-  child-back : r .kind < 256 → r .fresh ≡ 0 → childTerms (record { right = rightIn (r .right); kind = kindIn (r .kind); fresh = 0 }) ≡ r
-  child-back k f = rw (lt-ltb (r .right) 256 h, lt-ltb (r .kind) 256 k) (ap (λ (x : ℕ). record { right = r .right; kind = r .kind; fresh = x }) (sym f))
+  child-back : r .kind < 256 → r .fresh ≡ 0 → childTerms (terms (rightIn (r .right)) (kindIn (r .kind)) 0 (maskOf (lowHalf (r .holders)) (highHalf (r .holders)))) ≡ r
+  child-back k f = rw (lt-ltb (r .right) 256 h, lt-ltb (r .kind) 256 k) (ap₂ (λ (x m : ℕ). terms (r .right) (r .kind) x m) (sym f) (mask-back (r .holders)))
 
-pub event-back : (e : Event) (names : List ℕ) → InWords e → requestIn (wordsOf (Single e)) names ≡ Single e
+-- whichever limits come with it, the domain and the event are found again
+pub event-back : (by : Caller) (limits : Limits) (e : Event) (names : List ℕ) → InWords e → requestIn limits (wordsOf (Single by e)) names ≡ Single (caller (by .actor) limits) e
 unfolding wordsOf askedIn eventIn eventWith
-event-back (Create w s r) names h = ap₂ (λ (x : NewName) (t : Terms). Single (Create x s t)) (new-back w) (root-back r (h .0) (h .1) (h .2))
-event-back (Borrow w n s r) names h = ap₂ (λ (x : NewName) (t : Terms). Single (Borrow x n s t)) (new-back w) (child-back r (h .0) (h .1) (h .2))
-event-back (Read n s) names h = refl
-event-back (Write n s) names h = refl
-event-back (Drop n) names h = refl
+event-back by limits (Create w s r) names h = ap₂ (λ (x : NewName) (t : Terms). Single (caller (by .actor) limits) (Create x s t)) (new-back w) (root-back r (h .0) (h .1) (h .2))
+event-back by limits (Borrow w n s r) names h = ap₂ (λ (x : NewName) (t : Terms). Single (caller (by .actor) limits) (Borrow x n s t)) (new-back w) (child-back r (h .0) (h .1) (h .2))
+event-back by limits (Read n s) names h = refl
+event-back by limits (Write n s) names h = refl
+event-back by limits (Drop n) names h = refl
 
 -- the names of a group stand first in their list
-pub group-back : (names rest : List ℕ) → requestIn (wordsOf (Group names)) (names ++ rest) ≡ Group names
+pub group-back : (by : Caller) (limits : Limits) (names rest : List ℕ) → requestIn limits (wordsOf (Group by names)) (names ++ rest) ≡ Group (caller (by .actor) limits) names
 unfolding wordsOf askedIn part
-group-back names rest = rw (le-leb (0 + length names) (length (names ++ rest)) (omega (arith, length-append names rest)), take-append-seam names rest)
+group-back by limits names rest = rw (le-leb (0 + length names) (length (names ++ rest)) (omega (arith, length-append names rest)), take-append-seam names rest)

@@ -1,5 +1,6 @@
--- Events and answers as the numbers that pass between this library and C. An event is nine words of 32 bits: its kind, name, start, length and
--- right, whether its new name is written out, that name, the kind of capability that a borrow makes, and whether what a create makes is marked.
+-- Events and answers as the numbers that pass between this library and C. An event is twelve words of 32 bits: its kind, name, start, length and
+-- right, whether its new name is written out, that name, the kind of capability that a borrow makes, whether what a create makes is marked, the
+-- domain that acts, and the two halves of the mask of holders that a create or borrow gives.
 -- Assumes nothing.
 use Prim.Native.Nat.{ℕ, _+_, _*_, min}
 use mathlib.Core.Bool.{cond}
@@ -15,8 +16,10 @@ use Rattle.model.specs.declared.Event.{Event}
 use Rattle.model.specs.declared.Event.the-variants.{Create, Borrow, Read, Write, Drop}
 use Rattle.model.specs.declared.Asked.{Asked}
 use Rattle.model.specs.declared.Asked.the-variants as asked
-use Rattle.model.specs.Requests.{Request, Single, Group, requestOf}
+use Rattle.model.specs.Requests.{Limits, Request, Single, Group, requestOf}
+use Rattle.model.specs.Charge.{Charge}
 use Rattle.model.specs.Step.{Verdict}
+use Rattle.table.specs.Words.{maskOf, lowHalf, highHalf}
 
 -- ---- answers
 
@@ -42,13 +45,13 @@ spanOf start length = record { start = record { 0 = start }; length = length }
 
 -- of what is given, what a create has: it makes references; and what a borrow has: its mark is its parent's
 abbrev pub rootTerms : Terms → Terms
-rootTerms given = record { right = given .right; kind = 0; fresh = given .fresh }
+rootTerms given = record { right = given .right; kind = 0; fresh = given .fresh; holders = given .holders }
 
 abbrev pub childTerms : Terms → Terms
-childTerms given = record { right = given .right; kind = given .kind; fresh = 0 }
+childTerms given = record { right = given .right; kind = given .kind; fresh = 0; holders = given .holders }
 
 abbrev pub noTerms : Terms
-noTerms = record { right = 0; kind = 0; fresh = 0 }
+noTerms = record { right = 0; kind = 0; fresh = 0; holders = 0 }
 
 -- "An event is one of five kinds": create, borrow, read, write and drop are 1 to 5. The values that a kind lacks are not looked at.
 -- Another kind stands for an event that is refused 2 in itself, a create whose right is 0.
@@ -79,15 +82,19 @@ newIn named written = cond (eqb named 0) Unwritten (Written (nameOf written))
 
 -- what its words give
 abbrev pub termsIn : List ℕ → Terms
-termsIn w = record { right = rightIn (getD w 4 0); kind = kindIn (getD w 7 0); fresh = freshIn (getD w 8 0) }
+termsIn w = record { right = rightIn (getD w 4 0); kind = kindIn (getD w 7 0); fresh = freshIn (getD w 8 0); holders = maskOf (getD w 10 0) (getD w 11 0) }
 
 -- the event that its words are
 unfoldable pub eventIn : List ℕ → Event
 eventIn w = eventWith (newIn (getD w 5 0) (getD w 6 0)) (getD w 0 0) (getD w 1 0) (getD w 2 0) (getD w 3 0) (termsIn w)
 
+-- the domain that acts
+abbrev pub actorIn : List ℕ → ℕ
+actorIn w = getD w 9 0
+
 -- kind 6 asks that names are dropped together
 unfoldable pub askedIn : List ℕ → Asked
-askedIn w = cond (eqb (getD w 0 0) 6) asked.Group (asked.Single (eventIn w))
+askedIn w = cond (eqb (getD w 0 0) 6) (asked.Group (actorIn w)) (asked.Single (actorIn w) (eventIn w))
 
 -- names[start .. start + length]; none where that reaches past their end
 unfoldable pub part : ℕ → ℕ → List ℕ → List ℕ
@@ -97,9 +104,9 @@ part start size names = cond (leb (start + size) (length names)) (take size (dro
 abbrev pub namesIn : List ℕ → List ℕ → List ℕ
 namesIn w names = part (getD w 2 0) (getD w 3 0) names
 
--- the request that words are. An event has no use for the names
-abbrev pub requestIn : List ℕ → List ℕ → Request
-requestIn w names = requestOf (askedIn w) (namesIn w names)
+-- the request that words are, with the limits that are lent beside them. An event has no use for the names
+abbrev pub requestIn : Limits → List ℕ → List ℕ → Request
+requestIn limits w names = requestOf limits (askedIn w) (namesIn w names)
 
 -- ---- and back
 
@@ -112,14 +119,20 @@ writtenOf Unwritten = 0
 writtenOf (Written x) = x .0
 
 -- the words of so many names dropped together, which are the first in a list of their own
-abbrev pub groupWords : ℕ → List ℕ
-groupWords count = 6 ∷ 0 ∷ 0 ∷ count ∷ 0 ∷ 0 ∷ 0 ∷ 0 ∷ 0 ∷ []
+abbrev pub groupWords : ℕ → ℕ → List ℕ
+groupWords actor count = 6 ∷ 0 ∷ 0 ∷ count ∷ 0 ∷ 0 ∷ 0 ∷ 0 ∷ 0 ∷ actor ∷ 0 ∷ 0 ∷ []
 
 -- the words of a request, with 0 where its kind has no such value
 unfoldable pub wordsOf : Request → List ℕ
-wordsOf (Single (Create w s r)) = 1 ∷ 0 ∷ s .start .0 ∷ s .length ∷ r .right ∷ namedOf w ∷ writtenOf w ∷ 0 ∷ r .fresh ∷ []
-wordsOf (Single (Borrow w n s r)) = 2 ∷ n .0 ∷ s .start .0 ∷ s .length ∷ r .right ∷ namedOf w ∷ writtenOf w ∷ r .kind ∷ 0 ∷ []
-wordsOf (Single (Read n s)) = 3 ∷ n .0 ∷ s .start .0 ∷ s .length ∷ 0 ∷ 0 ∷ 0 ∷ 0 ∷ 0 ∷ []
-wordsOf (Single (Write n s)) = 4 ∷ n .0 ∷ s .start .0 ∷ s .length ∷ 0 ∷ 0 ∷ 0 ∷ 0 ∷ 0 ∷ []
-wordsOf (Single (Drop n)) = 5 ∷ n .0 ∷ 0 ∷ 0 ∷ 0 ∷ 0 ∷ 0 ∷ 0 ∷ 0 ∷ []
-wordsOf (Group names) = groupWords (length names)
+wordsOf (Single by (Create w s r)) = 1 ∷ 0 ∷ s .start .0 ∷ s .length ∷ r .right ∷ namedOf w ∷ writtenOf w ∷ 0 ∷ r .fresh ∷ by .actor ∷ lowHalf (r .holders) ∷ highHalf (r .holders) ∷ []
+wordsOf (Single by (Borrow w n s r)) = 2 ∷ n .0 ∷ s .start .0 ∷ s .length ∷ r .right ∷ namedOf w ∷ writtenOf w ∷ r .kind ∷ 0 ∷ by .actor ∷ lowHalf (r .holders) ∷ highHalf (r .holders) ∷ []
+wordsOf (Single by (Read n s)) = 3 ∷ n .0 ∷ s .start .0 ∷ s .length ∷ 0 ∷ 0 ∷ 0 ∷ 0 ∷ 0 ∷ by .actor ∷ 0 ∷ 0 ∷ []
+wordsOf (Single by (Write n s)) = 4 ∷ n .0 ∷ s .start .0 ∷ s .length ∷ 0 ∷ 0 ∷ 0 ∷ 0 ∷ 0 ∷ by .actor ∷ 0 ∷ 0 ∷ []
+wordsOf (Single by (Drop n)) = 5 ∷ n .0 ∷ 0 ∷ 0 ∷ 0 ∷ 0 ∷ 0 ∷ 0 ∷ 0 ∷ by .actor ∷ 0 ∷ 0 ∷ []
+wordsOf (Group by names) = groupWords (by .actor) (length names)
+
+-- ---- charges
+
+-- a charge as words: the refusal, 0 for none, the share of each holder, and what is left over
+abbrev pub chargeWords : Charge → List ℕ
+chargeWords c = c .refusal ∷ c .share ∷ c .rest ∷ []

@@ -2,9 +2,11 @@
 use model::Answer;
 use model::Refusal;
 use rules::answers::number_of;
+use table::charge::Charged;
 ghost use mathlib.Core.Path.{_≡_};
 ghost use Prim.Native.Nat.{_≤_, min};
-ghost use Rattle.kelzoud_events.specs.Interface.{packed, packedVerdict, answerWords};
+ghost use Rattle.kelzoud_events.specs.Interface.{packed, packedVerdict, answerWords, chargeWords};
+ghost use Rattle.table.specs.Charge.{chargeOf};
 ghost use Rattle.model.specs.Answers.{number, verdictOf};
 
 fn least(a: u64, b: u64) -> u64
@@ -14,7 +16,7 @@ fn least(a: u64, b: u64) -> u64
 }
 
 pub fn pack(number: u64, value: u64) -> u64
-    requires { ⌜ number ≤ 16 ⌝ }
+    requires { ⌜ number ≤ 18 ⌝ }
     ensures { λ r. ⌜ r ≡ packed number value ⌝ }
 {
     number * 4294967296 + least(value, 4294967295)
@@ -42,5 +44,15 @@ pub fn answer_words(answer: Answer) -> [u32; 2]
     match answer {
         Answer::Allowed(name) => [0, name.0],
         Answer::Refused(refusal) => [number_of(refusal), 0],
+    }
+}
+
+// A charge as three words.
+pub fn charge_words(charged: Charged) -> [u32; 3]
+    ensures { λ r. ⌜ r ≡ chargeWords (chargeOf charged) ⌝ }
+{
+    match charged {
+        Charged::Shares(share, rest) => [0, share, rest],
+        Charged::Refused(refusal) => [number_of(refusal), 0, 0],
     }
 }

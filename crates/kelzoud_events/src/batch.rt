@@ -1,4 +1,4 @@
-// Events in turn. The table's order is looked at once; what is known of it goes from each event to the next.
+// Events in turn. What is lent is looked at once; what is known of it goes from each event to the next.
 use crate::answers::answer_words;
 use crate::events::Words;
 use crate::events::asked_in;
@@ -8,10 +8,10 @@ use model::Tally;
 use rules::steps::take;
 use table::Row;
 use table::SheetBytes;
+use table::lent::look;
 use table::lent::set_tally;
 use table::lent::tally_at;
 use table::ordered::Look;
-use table::ordered::look_at;
 ghost use mathlib.Core.Path.{_≡_};
 ghost use mathlib.Core.List.{[], _∷_, _++_};
 ghost use Prim.Native.Nat.{_<_, _≤_, min};
@@ -20,7 +20,8 @@ ghost use Rattle.model.specs.Answers.{verdictOf};
 ghost use Rattle.table.specs.Words.{rowsIn};
 ghost use Rattle.table.specs.Sheets.{sheetIn};
 ghost use Rattle.table.specs.Lent.{tallyIn, lent};
-ghost use Rattle.table.specs.Known.{Known, Sized};
+ghost use Rattle.table.specs.Known.{Fit};
+ghost use Rattle.table.specs.Limits.{limitsIn};
 ghost use Rattle.rules.specs.Steps.{lends};
 ghost use Rattle.kelzoud_events.specs.Interface.{answerWords};
 ghost use Rattle.kelzoud_events.specs.Batch.{taken, afterAll, answersAll, Ran};
@@ -47,7 +48,7 @@ fn put_answer(answers: &mut [[u32; 2]], i: usize, answer: Answer)
     answers[i] = answer_words(answer);
 }
 
-// The first m events on a table in order, refused ones too; the answer is the tally after them.
+// The first m events on what is fit, refused ones too; the answer is the tally after them.
 fn take_turns(
     table: &mut [Row],
     live: usize,
@@ -55,13 +56,14 @@ fn take_turns(
     bits: &mut [u8],
     t: Tally,
     sheet: &SheetBytes,
+    limits: &[u32],
     events: &[Words],
     names: &[u32],
     m: usize,
     answers: &mut [[u32; 2]],
 ) -> Tally
-    requires { ⌜ Known (now table) live (t .issued) (now places) × Sized (now bits) × (m ≤ length (now events)) × (m ≤ length (now answers)) ⌝ }
-    ensures { λ r. ⌜ Ran (sheetIn (now (sheet .entry))) (lends (rowsIn (now (table .entry))) (now (bits .entry)) t) (now (events .entry)) (now (names .entry)) m (now (answers .entry)) (lends (rowsIn (now (table .exit))) (now (bits .exit)) r) (now (answers .exit)) ⌝ }
+    requires { ⌜ Fit (now table) (now bits) live (t .issued) (now limits) (now places) × (m ≤ length (now events)) × (m ≤ length (now answers)) ⌝ }
+    ensures { λ r. ⌜ Ran (sheetIn (now (sheet .entry))) (limitsIn (now (limits .entry))) (lends (rowsIn (now (table .entry))) (now (bits .entry)) t) (now (events .entry)) (now (names .entry)) m (now (answers .entry)) (lends (rowsIn (now (table .exit))) (now (bits .exit)) r) (now (answers .exit)) ⌝ }
 {
     let mut tally = t;
     let mut alive = live;
@@ -70,7 +72,17 @@ fn take_turns(
         let words = words_at(events, i);
         let asked = asked_in(words);
         let part = names_in(words, names);
-        let p = take(table, alive, places, bits, tally, sheet, asked, part);
+        let p = take(
+            table,
+            alive,
+            places,
+            bits,
+            tally,
+            sheet,
+            limits,
+            asked,
+            part,
+        );
         let outcome = p.outcome;
         let after = outcome.tally;
         let answer = outcome.answer;
@@ -94,23 +106,24 @@ fn refuse_all(answers: &mut [[u32; 2]], m: usize)
     }
 }
 
-// The first m events on any table, with as many bits as there are to be: on a table out of order each is refusal 1.
-fn apply_sized(
+// The first m events on anything that is lent: where that is not fit, each is refusal 1.
+fn apply_first(
     table: &mut [Row],
     bits: &mut [u8],
     tally: &mut [u32; 7],
     sheet: &SheetBytes,
+    limits: &[u32],
     events: &[Words],
     names: &[u32],
     m: usize,
     answers: &mut [[u32; 2]],
 )
-    requires { ⌜ Sized (now bits) × (m ≤ length (now events)) × (m ≤ length (now answers)) ⌝ }
-    ensures { λ _. ⌜ Ran (sheetIn (now (sheet .entry))) (lent (now (table .entry)) (now (bits .entry)) (now (tally .entry))) (now (events .entry)) (now (names .entry)) m (now (answers .entry)) (lent (now (table .exit)) (now (bits .exit)) (now (tally .exit))) (now (answers .exit)) ⌝ }
+    requires { ⌜ (m ≤ length (now events)) × (m ≤ length (now answers)) ⌝ }
+    ensures { λ _. ⌜ Ran (sheetIn (now (sheet .entry))) (limitsIn (now (limits .entry))) (lent (now (table .entry)) (now (bits .entry)) (now (tally .entry))) (now (events .entry)) (now (names .entry)) m (now (answers .entry)) (lent (now (table .exit)) (now (bits .exit)) (now (tally .exit))) (now (answers .exit)) ⌝ }
 {
     let t = tally_at(tally);
     let mut places = [0u16; 1024];
-    let found = look_at(table, t.issued, &mut places);
+    let found = look(table, bits, t.issued, limits, &mut places);
     match found {
         Look::InOrder(live) => {
             let after = take_turns(
@@ -120,6 +133,7 @@ fn apply_sized(
                 bits,
                 t,
                 sheet,
+                limits,
                 events,
                 names,
                 m,
@@ -131,27 +145,25 @@ fn apply_sized(
     }
 }
 
-// As many events as there are answers for, on the table, the bits and the tally that are lent, by a sheet; the answer is how many.
+// As many events as there are answers for, on the table, the bits and the tally that are lent, by a sheet, with limits where some are lent; the
+// answer is how many.
 pub fn apply_all(
     table: &mut [Row],
     bits: &mut [u8],
     tally: &mut [u32; 7],
     sheet: &SheetBytes,
+    limits: &[u32],
     events: &[Words],
     names: &[u32],
     answers: &mut [[u32; 2]],
 ) -> usize
-    ensures { λ r. ⌜ (rowsIn (now (table .exit)) ≡ afterAll (sheetIn (now (sheet .entry))) (lent (now (table .entry)) (now (bits .entry)) (now (tally .entry))) (now (events .entry)) (now (names .entry)) (now (answers .entry)) .memory .table)
-        × (now (bits .exit) ≡ afterAll (sheetIn (now (sheet .entry))) (lent (now (table .entry)) (now (bits .entry)) (now (tally .entry))) (now (events .entry)) (now (names .entry)) (now (answers .entry)) .memory .bits)
-        × (tallyIn (now (tally .exit)) ≡ afterAll (sheetIn (now (sheet .entry))) (lent (now (table .entry)) (now (bits .entry)) (now (tally .entry))) (now (events .entry)) (now (names .entry)) (now (answers .entry)) .tally)
-        × (now (answers .exit) ≡ answersAll (sheetIn (now (sheet .entry))) (lent (now (table .entry)) (now (bits .entry)) (now (tally .entry))) (now (events .entry)) (now (names .entry)) (now (answers .entry)))
+    ensures { λ r. ⌜ (rowsIn (now (table .exit)) ≡ afterAll (sheetIn (now (sheet .entry))) (limitsIn (now (limits .entry))) (lent (now (table .entry)) (now (bits .entry)) (now (tally .entry))) (now (events .entry)) (now (names .entry)) (now (answers .entry)) .memory .table)
+        × (now (bits .exit) ≡ afterAll (sheetIn (now (sheet .entry))) (limitsIn (now (limits .entry))) (lent (now (table .entry)) (now (bits .entry)) (now (tally .entry))) (now (events .entry)) (now (names .entry)) (now (answers .entry)) .memory .bits)
+        × (tallyIn (now (tally .exit)) ≡ afterAll (sheetIn (now (sheet .entry))) (limitsIn (now (limits .entry))) (lent (now (table .entry)) (now (bits .entry)) (now (tally .entry))) (now (events .entry)) (now (names .entry)) (now (answers .entry)) .tally)
+        × (now (answers .exit) ≡ answersAll (sheetIn (now (sheet .entry))) (limitsIn (now (limits .entry))) (lent (now (table .entry)) (now (bits .entry)) (now (tally .entry))) (now (events .entry)) (now (names .entry)) (now (answers .entry)))
         × (r ≡ taken (now (events .entry)) (now (answers .entry))) ⌝ }
 {
     let m = fewer(events.len(), answers.len());
-    if bits.len() != 8192 {
-        refuse_all(answers, m);
-        return m;
-    }
-    apply_sized(table, bits, tally, sheet, events, names, m, answers);
+    apply_first(table, bits, tally, sheet, limits, events, names, m, answers);
     m
 }

@@ -6,12 +6,15 @@ use model::Name;
 use model::NewName;
 use model::Span;
 use model::Terms;
+use table::words::high_half;
+use table::words::joined;
+use table::words::low_half;
 ghost use mathlib.Core.Path.{_≡_};
-ghost use Rattle.model.specs.Requests.{Single};
-ghost use Rattle.kelzoud_events.specs.Interface.{eventWith, rightIn, kindIn, freshIn, newIn, eventIn, askedIn, part, namesIn, namedOf, writtenOf, groupWords, wordsOf};
+ghost use Rattle.model.specs.Requests.{Unlimited, Single, caller};
+ghost use Rattle.kelzoud_events.specs.Interface.{eventWith, rightIn, kindIn, freshIn, newIn, termsIn, eventIn, askedIn, part, namesIn, namedOf, writtenOf, groupWords, wordsOf};
 
 // How many words an event has.
-const WORDS: usize = 9;
+const WORDS: usize = 12;
 
 // The words of an event.
 pub type Words = [u32; WORDS];
@@ -32,6 +35,7 @@ fn event_with(new: NewName, kind: u32, name: u32, start: u32, length: u32, given
             right: given.right,
             kind: 0,
             fresh: given.fresh,
+            holders: given.holders,
         };
         return Event::Create(new, span, terms);
     }
@@ -40,6 +44,7 @@ fn event_with(new: NewName, kind: u32, name: u32, start: u32, length: u32, given
             right: given.right,
             kind: given.kind,
             fresh: 0,
+            holders: given.holders,
         };
         return Event::Borrow(new, Name(name), span, terms);
     }
@@ -56,6 +61,7 @@ fn event_with(new: NewName, kind: u32, name: u32, start: u32, length: u32, given
         right: 0,
         kind: 0,
         fresh: 0,
+        holders: 0,
     };
     Event::Create(new, span, none)
 }
@@ -90,20 +96,29 @@ fn new_in(named: u32, written: u32) -> NewName
     }
 }
 
-// What the words of an event ask for.
-pub fn asked_in(w: Words) -> Asked
-    ensures { λ r. ⌜ r ≡ askedIn w ⌝ }
+// What the words of a create or borrow give.
+fn terms_in(w: Words) -> Terms
+    ensures { λ r. ⌜ r ≡ termsIn w ⌝ }
 {
-    if w[0] == DROP_ALL {
-        return Asked::Group;
-    }
-    let new = new_in(w[5], w[6]);
-    let given = Terms {
+    Terms {
         right: right_in(w[4]),
         kind: kind_in(w[7]),
         fresh: fresh_in(w[8]),
-    };
-    Asked::Single(event_with(new, w[0], w[1], w[2], w[3], given))
+        holders: joined(w[10], w[11]),
+    }
+}
+
+// What the words of an event ask for, and by which domain.
+pub fn asked_in(w: Words) -> Asked
+    ensures { λ r. ⌜ r ≡ askedIn w ⌝ }
+{
+    let actor = w[9];
+    if w[0] == DROP_ALL {
+        return Asked::Group(actor);
+    }
+    let new = new_in(w[5], w[6]);
+    let given = terms_in(w);
+    Asked::Single(actor, event_with(new, w[0], w[1], w[2], w[3], given))
 }
 
 // A part of a list of names: none where it reaches past the end.
@@ -144,9 +159,9 @@ fn written_of(new: NewName) -> u32
     }
 }
 
-// The words of an event.
-pub fn words_of(event: Event) -> Words
-    ensures { λ r. ⌜ r ≡ wordsOf (Single event) ⌝ }
+// The words of an event by a domain.
+pub fn words_of(actor: u32, event: Event) -> Words
+    ensures { λ r. ⌜ r ≡ wordsOf (Single (caller actor Unlimited) event) ⌝ }
 {
     match event {
         Event::Create(w, s, r) => {
@@ -160,6 +175,9 @@ pub fn words_of(event: Event) -> Words
                 written_of(w),
                 0,
                 r.fresh as u32,
+                actor,
+                low_half(r.holders),
+                high_half(r.holders),
             ]
         }
         Event::Borrow(w, n, s, r) => {
@@ -173,17 +191,20 @@ pub fn words_of(event: Event) -> Words
                 written_of(w),
                 r.kind as u32,
                 0,
+                actor,
+                low_half(r.holders),
+                high_half(r.holders),
             ]
         }
-        Event::Read(n, s) => [3, n.0, s.start.0, s.length, 0, 0, 0, 0, 0],
-        Event::Write(n, s) => [4, n.0, s.start.0, s.length, 0, 0, 0, 0, 0],
-        Event::Drop(n) => [5, n.0, 0, 0, 0, 0, 0, 0, 0],
+        Event::Read(n, s) => [3, n.0, s.start.0, s.length, 0, 0, 0, 0, 0, actor, 0, 0],
+        Event::Write(n, s) => [4, n.0, s.start.0, s.length, 0, 0, 0, 0, 0, actor, 0, 0],
+        Event::Drop(n) => [5, n.0, 0, 0, 0, 0, 0, 0, 0, actor, 0, 0],
     }
 }
 
 // Those of so many names dropped together, which are first in their list.
-pub fn group_words(count: u32) -> Words
-    ensures { λ r. ⌜ r ≡ groupWords count ⌝ }
+pub fn group_words(actor: u32, count: u32) -> Words
+    ensures { λ r. ⌜ r ≡ groupWords actor count ⌝ }
 {
-    [DROP_ALL, 0, 0, count, 0, 0, 0, 0, 0]
+    [DROP_ALL, 0, 0, count, 0, 0, 0, 0, 0, actor, 0, 0]
 }

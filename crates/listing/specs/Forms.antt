@@ -10,6 +10,7 @@ use Rattle.model.specs.declared.Cap.{Cap}
 use Rattle.text.specs.Class.{newline}
 use Rattle.text.specs.Line.{through, afterSpace}
 use Rattle.text.specs.Decimal.{numberOf}
+use Rattle.text.specs.Mask.{hexOf}
 use Rattle.text.specs.Event.{kindWord, freshWord}
 use Rattle.text.specs.Read.{rightOf, kindOf, freshAt}
 use Rattle.listing.specs.Sort.{sorted}
@@ -37,11 +38,18 @@ abbrev pub kindLength : List ℕ → ℕ
 kindLength s = length (kindWord (kindOf (rightText s)))
 
 abbrev pub markOf : List ℕ → ℕ
-markOf s = freshAt (rightText s) (3 + kindLength s)
+markOf s = freshAt (rightText s) (4 + kindLength s)
 
--- what stands behind the two letters of the right, and behind the words of the kind and of the mark
+-- the maker stands behind the two letters of the right, the words of the kind and of the mark, and a space; the mask of holders behind the
+-- maker's space; and the children behind the mask's 16 digits
+abbrev pub makerText : List ℕ → List ℕ
+makerText s = drop (3 + (kindLength s + length (freshWord (markOf s)))) (rightText s)
+
+abbrev pub maskText : List ℕ → List ℕ
+maskText s = afterSpace (makerText s)
+
 abbrev pub childrenText : List ℕ → List ℕ
-childrenText s = drop (2 + (kindLength s + length (freshWord (markOf s)))) (rightText s)
+childrenText s = drop 16 (maskText s)
 
 -- the row that a form's words spell
 abbrev pub rowOf : List ℕ → ℕ → ℕ → Cap
@@ -54,6 +62,8 @@ rowOf s parent depth = record {
   depth = depth;
   kind = kindOf (rightText s);
   fresh = markOf s;
+  maker = numberOf (makerText s);
+  holders = hexOf (maskText s);
 }
 
 -- a child follows: the depth ("to depth 64") and the table ("0 to 1,024 rows") allow one, and the text goes on with a space
@@ -64,7 +74,7 @@ abbrev pub childFollows : ℕ → Reading → Bool
 childFollows depth r = follows (r .rest) (length (r .rows)) depth
 
 -- "A form holding a run of forms":
--- a form is its row, the run of its children behind the right, the kind and the mark, and its closing bracket;
+-- a form is its row, the run of its children behind the mask of holders, and its closing bracket;
 -- a run is a form behind a space, and a run behind that, as long as one follows.
 -- k bounds the calls of the two: every k above twice the bytes that are left gives the same.
 unfoldable mutual

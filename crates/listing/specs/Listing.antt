@@ -1,6 +1,7 @@
 -- Document 01, "The bracket text": "A listing is `(issued N)`, then one line for each root by rising name: name, start, length, right, then
 -- its children by rising name, each in the same form inside its parent's brackets." Card 6: the kind is "written by a borrow as a last word
--- `raw` or `cell`, and in listings after the right". Card 9: the mark is written "in listings after the kind".
+-- `raw` or `cell`, and in listings after the right". Card 9: the mark is written "in listings after the kind". Card 10: of the maker's domain and
+-- the mask of holders, "Listings always show both, maker first, before the children".
 -- Assumes nothing.
 use Prim.Native.Nat.{ℕ, suc, _+_}
 use mathlib.Core.Bool.{cond}
@@ -11,12 +12,20 @@ use Rattle.model.specs.declared.Cap.{Cap}
 use Rattle.model.specs.Table.{emptyRow, liveRows}
 use Rattle.table.specs.Rows.{nameAt}
 use Rattle.text.specs.Decimal.{decimal}
+use Rattle.text.specs.Mask.{hex}
 use Rattle.text.specs.Event.{bytes, spaced, line, rightWord, kindWord, freshWord}
 
--- "name, start, length, right", the kind behind it, and the mark: a capability's own pieces. A reference has no word of a kind, and what is
--- not marked no word of a mark.
+-- The maker in decimal, "like every number here", and the mask "as 16 digits", each with a space before it. A mask of the maker alone, which a
+-- line leaves out, is shown too.
+abbrev pub holding : ℕ → ℕ → List ℕ
+holding maker holders = spaced (maker ∷ []) ++ (32 ∷ hex 16 holders)
+
+-- "name, start, length, right", the kind behind it, the mark, the maker and the mask: a capability's own pieces. A reference has no word of a
+-- kind, and what is not marked no word of a mark.
 unfoldable pub pieces : Cap → List ℕ
-pieces c = decimal (c .name .0) ++ (spaced (c .start .0 ∷ c .length ∷ []) ++ (rightWord (c .right) ++ (kindWord (c .kind) ++ freshWord (c .fresh))))
+pieces c =
+    decimal (c .name .0)
+    ++ (spaced (c .start .0 ∷ c .length ∷ []) ++ (rightWord (c .right) ++ (kindWord (c .kind) ++ (freshWord (c .fresh) ++ holding (c .maker) (c .holders)))))
 
 -- a form: a capability's pieces and then its children, inside its brackets
 unfoldable pub form : Cap → List ℕ → List ℕ

@@ -1,5 +1,5 @@
 -- Document 01, "The bracket text": what reading a listing into a lent table answers, and what it leaves of the table and the tally. The
--- written bits of card 9 are not lent with it, so they stay as they are.
+-- written bits of card 9 are not lent with it, so they stay as they are; nor are the limits of card 10, so no listing is judged by them.
 -- Assumes nothing.
 use mathlib.Core.Path.{_≡_}
 use Prim.Native.Nat.{ℕ}

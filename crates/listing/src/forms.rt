@@ -5,6 +5,7 @@ use model::Cap;
 use model::Name;
 use table::Row;
 use table::words;
+use text::masks;
 use text::numbers;
 use text::pieces;
 use text::read;
@@ -49,7 +50,7 @@ fn last(text: &[u8], count: usize) -> &[u8]
     past(text, text.len() - count)
 }
 
-// The head of a form: its row, and how many bytes are left behind its right, its kind and its mark.
+// The head of a form: its row, and how many bytes are left behind its mask of holders.
 pub struct Head {
     pub row: Cap,
     pub left: usize,
@@ -69,7 +70,10 @@ fn head_of(text: &[u8], parent: u32, depth: u32) -> Head
     let right_text = past(length_text, length.end);
     let kind = read::kind_of(right_text) as u32;
     let past_kind = pieces::kind_length(kind);
-    let fresh = read::fresh_at(right_text, 3 + past_kind) as u32;
+    let fresh = read::fresh_at(right_text, 4 + past_kind) as u32;
+    let maker_text = past(right_text, 3 + past_kind + pieces::fresh_length(fresh));
+    let maker = numbers::read_word(maker_text);
+    let mask_text = past(maker_text, maker.end);
     let row = Cap {
         name: Name(name.value),
         parent: Name(parent),
@@ -79,8 +83,10 @@ fn head_of(text: &[u8], parent: u32, depth: u32) -> Head
         depth,
         kind,
         fresh,
+        maker: maker.value,
+        holders: masks::digits_of(mask_text),
     };
-    let children = past(right_text, 2 + past_kind + pieces::fresh_length(fresh));
+    let children = past(mask_text, 16);
     Head {
         row,
         left: children.len(),

@@ -68,7 +68,7 @@ fn same_bytes(a: &[u8], b: &[u8]) -> bool
 // Whether the first n rows, all of them live, have a text as their listing. It is written into a buffer that the text fits into, or
 // else every listing of a table in order.
 fn writes_back(text: &[u8], table: &[Row], n: usize, issued: u32, out: &mut [u8]) -> bool
-    requires { ⌜ (n ≤ 1024) × Live (firstRows (now table) n) × ((length (now text) ≤ length (now out)) ⊎ (39949 ≤ length (now out))) × (n ≤ length (now table)) × (issued ≤ 1000000) ⌝ }
+    requires { ⌜ (n ≤ 1024) × Live (firstRows (now table) n) × ((length (now text) ≤ length (now out)) ⊎ (60429 ≤ length (now out))) × (n ≤ length (now table)) × (issued ≤ 1000000) ⌝ }
     ensures { λ r. ⌜ r ≡ same (now (text .entry)) (listed (firstRows (now (table .entry)) n) issued) ⌝ }
 {
     let written = writing::write_rows(table, n, issued, out);
@@ -91,7 +91,7 @@ fn is_listing(text: &[u8], table: &[Row], issued: u32) -> bool
         let mut short = [0u8; 2048];
         return writes_back(text, table, live, issued, &mut short);
     }
-    let mut long = [0u8; 39949];
+    let mut long = [0u8; 60429];
     writes_back(text, table, live, issued, &mut long)
 }
 

@@ -6,6 +6,7 @@ use table::Row;
 use table::find;
 use table::ordered;
 use table::words;
+use text::masks;
 use text::numbers;
 use text::pieces;
 use text::write::Written;
@@ -16,24 +17,24 @@ ghost use lib.ListN.{length};
 ghost use Rattle.table.specs.Words.{rowsIn};
 ghost use Rattle.text.specs.Put.{Room, Put};
 ghost use Rattle.listing.specs.First.{firstRows};
-ghost use Rattle.listing.specs.Listing.{pieces, formAt, rootsFrom, issuedLine, listed, formLength, formsLength};
+ghost use Rattle.listing.specs.Listing.{holding, pieces, formAt, rootsFrom, issuedLine, listed, formLength, formsLength};
 ghost use Rattle.listing.specs.Links.{Live, Linked};
 ghost use Rattle.text.specs.Write.{Writes};
 ghost use Rattle.listing.specs.WriteListing.{WritesListing};
 
 // How many bytes a capability adds to a listing.
 fn form_length(c: Cap) -> usize
-    ensures { λ r. ⌜ (r ≡ formLength c) × (r ≤ 49) ⌝ }
+    ensures { λ r. ⌜ (r ≡ formLength c) × (r ≤ 77) ⌝ }
 {
-    let numbers = [c.name.0, c.start.0, c.length];
+    let numbers = [c.name.0, c.start.0, c.length, c.maker];
     let words = pieces::kind_length(c.kind) + pieces::fresh_length(c.fresh);
-    5 + pieces::spaced_length(&numbers) + words
+    22 + pieces::spaced_length(&numbers) + words
 }
 
 // How many bytes the first n capabilities add.
 fn forms_length(table: &[Row], n: usize) -> usize
     requires { ⌜ (n ≤ 1024) × (n ≤ length (now table)) ⌝ }
-    ensures { λ r. ⌜ (r ≡ formsLength (firstRows (now (table .entry)) n)) × (r ≤ 49 * n) ⌝ }
+    ensures { λ r. ⌜ (r ≡ formsLength (firstRows (now (table .entry)) n)) × (r ≤ 77 * n) ⌝ }
 {
     let mut total = 0;
     let mut i = 0;
@@ -42,6 +43,17 @@ fn forms_length(table: &[Row], n: usize) -> usize
         i += 1;
     }
     total
+}
+
+// Writes a maker and a mask of holders at a position, each with a space before it, and returns the position behind them.
+fn put_holding(out: &mut [u8], at: usize, maker: u32, holders: u64) -> usize
+    requires { ⌜ Room (now out) at (holding maker holders) ⌝ }
+    ensures { λ r. ⌜ Put (now (out .entry)) at (holding maker holders) (now (out .exit)) r ⌝ }
+{
+    let numbers = [maker];
+    let past_maker = pieces::put_numbers(out, at, &numbers);
+    out[past_maker] = b' ';
+    masks::put_digits(out, past_maker + 1, holders)
 }
 
 // Writes a capability's own pieces at a position, and returns the position behind them.
@@ -54,7 +66,8 @@ fn put_pieces(out: &mut [u8], at: usize, c: Cap) -> usize
     let past_numbers = pieces::put_numbers(out, past_name, &numbers);
     let past_right = pieces::put_right(out, past_numbers, c.right);
     let past_kind = pieces::put_kind(out, past_right, c.kind);
-    pieces::put_fresh(out, past_kind, c.fresh)
+    let past_fresh = pieces::put_fresh(out, past_kind, c.fresh);
+    put_holding(out, past_fresh, c.maker, c.holders)
 }
 
 // Writes the form of row i, with its children, and returns the position behind it. It calls itself for each depth, at most 64 deep.

@@ -2,7 +2,7 @@
 -- Assumes nothing.
 use mathlib.Core.Path.{_≡_, refl, sym, ap, _∙_}
 use mathlib.Core.Logic.{_⊎_, inl, inr}
-use mathlib.Core.Bool.{Bool, true, false, not, cond, _&&_, _||_, or-false, and-true, and-false, and-assoc, Bool·not-not}
+use mathlib.Core.Bool.{Bool, true, false, not, cond, _&&_, _||_, or-false, and-true, and-false}
 use mathlib.Core.List.{List, [], _∷_}
 use Prim.Native.Nat.{ℕ, suc, _<_, _≤_}
 use native.Mathlib.Omega.{arith}
@@ -11,21 +11,22 @@ use borrow.Author.Tests.{eqb-true, ne-eqb, le-ltb}
 use Rattle.model.specs.declared.Name.{Name}
 use Rattle.model.specs.declared.Span.{Span}
 use Rattle.model.specs.declared.Event.the-variants.{Read, Write}
-use Rattle.model.specs.Requests.{Request, Single}
+use Rattle.model.specs.Requests.{Caller, Request, Single}
 use Rattle.model.specs.declared.Sheet.{Sheet}
 use Rattle.model.specs.Lists.{filter, any}
 use Rattle.model.specs.Derivation.{Derivation}
 use Rattle.model.specs.Values.{legal, inside}
-use Rattle.model.specs.Table.{span, derivation, isMarked, named, liveRows, lookup, inOrder}
+use Rattle.model.specs.Table.{span, derivation, isMarked, isDomain, holds, named, liveRows, lookup, inOrder}
 use Rattle.model.specs.Refusals.{notWritten, refusals, judge}
 use Rattle.model.specs.Step.{State, isAllowed}
 use Rattle.model.specs.Bits.{spanWritten}
+use Rattle.model.specs.Limits.{refusedSheet}
 use Rattle.model.specs.Table
 use Rattle.model.specs.Refusals
 use Rattle.model.specs.Effects
 use Rattle.model.specs.Counts
 use Rattle.model.specs.Step
-use Rattle.model.specs.History.{Note, New, Accessed, Dropped, derivedBy, derivations, makes, later, ends, hits, lives, writable, notedAs, covers, written, isReadable, mayUse, mayRead, mayWrite, rowOf, alive, rows, table, view}
+use Rattle.model.specs.History.{Note, New, Accessed, Dropped, derivedBy, derivations, makes, later, ends, hits, lives, writable, notedAs, covers, written, isReadable, isHolder, mayUse, mayRead, mayWrite, rowOf, alive, rows, table, view}
 use Rattle.model.specs.History
 use Rattle.model.proofs.Lists.{All, All-of, All-map, test, clash, unless, and-both, any-map, any-kept, first-zero}
 use Rattle.model.proofs.Ancestries.{Falling, same, not-zero, below-differs}
@@ -119,9 +120,9 @@ module _ (sheet : Sheet) where
     given-passes : (x : ℕ) → lives sheet notes x ≡ true → eqb x 0 || ltb i x ≡ false
     given-passes x h = let p = lives-given x h in rw (not-zero (p .0)) (le-ltb i x (omega arith))
 
-    reads : inOrder (table sheet n notes) i ≡ true → (u : Name) (s : Span) → eqb (judge (view sheet n notes i) (Single (Read u s))) 0 ≡ mayRead sheet notes (u .0) s
+    reads : inOrder (table sheet n notes) i ≡ true → (by : Caller) (u : Name) (s : Span) → eqb (judge (view sheet n notes i) (Single by (Read u s))) 0 ≡ mayRead sheet n by notes (u .0) s
     unfolding judge refusals notWritten mayUse mayRead
-    reads o u s = first-zero (refusals (view sheet n notes i) (Single (Read u s))) (numbered (view sheet n notes i) (Single (Read u s))) ∙ rw (o, present (u .0)) (go (test (lives sheet notes (u .0))))
+    reads o by u s = first-zero (refusals (view sheet n notes i) (Single by (Read u s))) (numbered (view sheet n notes i) (Single by (Read u s))) ∙ rw (o, present (u .0)) (go (test (lives sheet notes (u .0))))
       where
         row : Derivation
         row = derivation (lookup (u .0) (liveRows (table sheet n notes)))
@@ -129,28 +130,55 @@ module _ (sheet : Sheet) where
         all-written : Bool
         all-written = spanWritten (written notes) s
 
-        unwritten : (m w : Bool) → not (m && not w) ≡ not m || w
-        unwritten true w = Bool·not-not w
-        unwritten false w = refl
+        refused : Bool
+        refused = refusedSheet (table sheet n notes) (by .limits)
+
+        regroup : (r d l h v m w : Bool) → not (r || false) && (not (not d) && (not (not l) && (not false && (not (not true) && (not (not h) && (not (not v) && (not (m && not w) && true))))))) ≡ l && v && true && (d && h) && not r && (not m || w)
+        regroup true d l h v m w = simp and-false
+        regroup false false l h v m w = simp and-false
+        regroup false true false h v m w = refl
+        regroup false true true false v m w = simp and-false
+        regroup false true true true false m w = refl
+        regroup false true true true true true true = refl
+        regroup false true true true true true false = refl
+        regroup false true true true true false w = refl
 
         go : (lives sheet notes (u .0) ≡ true) ⊎ (lives sheet notes (u .0) ≡ false)
-            → not (not (legal s)) && (not (eqb (u .0) 0 || ltb i (u .0)) && (not (not (lives sheet notes (u .0))) && (not (not (inside s (row .span))) && (not (isMarked row && not all-written) && true))))
-            ≡ legal s && covers notes (u .0) s && lives sheet notes (u .0) && notedAs (isReadable notes s) notes (u .0)
-        go (inl t) = rw (unwritten (isMarked row) all-written, given-passes (u .0) t, covers-found (u .0) s t, noted-found (isReadable notes s) (u .0) t, t) (simp (Bool·not-not, and-true, and-assoc))
+            → not (refused || false) && (not (not (isDomain (by .actor))) && (not (not (legal s)) && (not (eqb (u .0) 0 || ltb i (u .0)) && (not (not (lives sheet notes (u .0))) && (not (not (holds row (by .actor))) && (not (not (inside s (row .span))) && (not (isMarked row && not all-written) && true)))))))
+            ≡ legal s && covers notes (u .0) s && lives sheet notes (u .0) && notedAs (isHolder by) notes (u .0) && not refused && notedAs (isReadable notes s) notes (u .0)
+        go (inl t) =
+            rw (given-passes (u .0) t, covers-found (u .0) s t, t, ← (noted-found (isHolder by) (u .0) t), ← (noted-found (isReadable notes s) (u .0) t))
+            (regroup refused (isDomain (by .actor)) (legal s) (holds row (by .actor)) (covers notes (u .0) s) (isMarked row) all-written)
         go (inr f) = rw f (simp and-false)
 
-    writes : inOrder (table sheet n notes) i ≡ true → (u : Name) (s : Span) → eqb (judge (view sheet n notes i) (Single (Write u s))) 0 ≡ mayWrite sheet notes (u .0) s
+    writes : inOrder (table sheet n notes) i ≡ true → (by : Caller) (u : Name) (s : Span) → eqb (judge (view sheet n notes i) (Single by (Write u s))) 0 ≡ mayWrite sheet n by notes (u .0) s
     unfolding judge refusals mayUse mayWrite
-    writes o u s = first-zero (refusals (view sheet n notes i) (Single (Write u s))) (numbered (view sheet n notes i) (Single (Write u s))) ∙ rw (o, present (u .0)) (go (test (lives sheet notes (u .0))))
+    writes o by u s = first-zero (refusals (view sheet n notes i) (Single by (Write u s))) (numbered (view sheet n notes i) (Single by (Write u s))) ∙ rw (o, present (u .0)) (go (test (lives sheet notes (u .0))))
       where
+        row : Derivation
+        row = derivation (lookup (u .0) (liveRows (table sheet n notes)))
+
+        refused : Bool
+        refused = refusedSheet (table sheet n notes) (by .limits)
+
         rw-right : (w : Bool) → not (ltb (cond w 2 1) 2) ≡ w
         rw-right true = refl
         rw-right false = refl
 
+        regroup : (r d l h v w : Bool) → not (r || false) && (not (not d) && (not (not l) && (not false && (not (not true) && (not (not h) && (not (not v) && (w && true))))))) ≡ l && v && true && (d && h) && not r && w
+        regroup true d l h v w = simp and-false
+        regroup false false l h v w = simp and-false
+        regroup false true false h v w = refl
+        regroup false true true false v w = simp and-false
+        regroup false true true true false w = refl
+        regroup false true true true true w = and-true w
+
         go : (lives sheet notes (u .0) ≡ true) ⊎ (lives sheet notes (u .0) ≡ false)
-            → not (not (legal s)) && (not (eqb (u .0) 0 || ltb i (u .0)) && (not (not (lives sheet notes (u .0))) && (not (not (inside s (span (lookup (u .0) (liveRows (table sheet n notes)))))) && (not (ltb (lookup (u .0) (liveRows (table sheet n notes)) .right) 2) && true))))
-            ≡ legal s && covers notes (u .0) s && lives sheet notes (u .0) && writable sheet notes (u .0)
-        go (inl t) = rw (given-passes (u .0) t, covers-found (u .0) s t, right-found (u .0) t, rw-right (writable sheet notes (u .0)), t) (simp (Bool·not-not, and-true, and-assoc))
+            → not (refused || false) && (not (not (isDomain (by .actor))) && (not (not (legal s)) && (not (eqb (u .0) 0 || ltb i (u .0)) && (not (not (lives sheet notes (u .0))) && (not (not (holds row (by .actor))) && (not (not (inside s (row .span))) && (not (ltb (lookup (u .0) (liveRows (table sheet n notes)) .right) 2) && true)))))))
+            ≡ legal s && covers notes (u .0) s && lives sheet notes (u .0) && notedAs (isHolder by) notes (u .0) && not refused && writable sheet notes (u .0)
+        go (inl t) =
+            rw (given-passes (u .0) t, covers-found (u .0) s t, right-found (u .0) t, rw-right (writable sheet notes (u .0)), t, ← (noted-found (isHolder by) (u .0) t))
+            (regroup refused (isDomain (by .actor)) (legal s) (holds row (by .actor)) (covers notes (u .0) s) (writable sheet notes (u .0)))
         go (inr f) = rw f (simp and-false)
 
   -- ---- above 1,024 rows every request is refused, and nothing is noted
@@ -160,9 +188,9 @@ module _ (sheet : Sheet) where
   too-many n i notes k f q = rw (rows-fit sheet n i notes k, f)
 
   -- no access goes through a name that is not noted
-  unnoted : (u : ℕ) (s : Span) → (mayRead sheet [] u s ≡ false) × (mayWrite sheet [] u s ≡ false)
+  unnoted : (n : ℕ) (by : Caller) (u : ℕ) (s : Span) → (mayRead sheet n by [] u s ≡ false) × (mayWrite sheet n by [] u s ≡ false)
   unfolding mayRead mayWrite mayUse covers derivations
-  unnoted u s = (rw (and-false (legal s)), rw (and-false (legal s)))
+  unnoted n by u s = (rw (and-false (legal s)), rw (and-false (legal s)))
 
   -- ---- at every match of what is lent and the history
 
@@ -178,8 +206,8 @@ module _ (sheet : Sheet) where
         go (inl y) = law (m .memory .is-ordered y)
         go (inr f) = rw (too-many n (H .count) (H .notes) (m .memory .kept) f q) (sym (ap may (m .memory .nothing-noted f) ∙ none))
 
-    pub read-allowed : (u : Name) (s : Span) → isAllowed (Step.answer h (Single (Read u s))) ≡ mayRead sheet (H .notes) (u .0) s
-    read-allowed u s = either-way (Single (Read u s)) (λ notes. mayRead sheet notes (u .0) s) (unnoted (u .0) s .0) (λ o. reads n (H .count) (H .notes) (m .memory .kept) o u s)
+    pub read-allowed : (by : Caller) (u : Name) (s : Span) → isAllowed (Step.answer h (Single by (Read u s))) ≡ mayRead sheet n by (H .notes) (u .0) s
+    read-allowed by u s = either-way (Single by (Read u s)) (λ notes. mayRead sheet n by notes (u .0) s) (unnoted n by (u .0) s .0) (λ o. reads n (H .count) (H .notes) (m .memory .kept) o by u s)
 
-    pub write-allowed : (u : Name) (s : Span) → isAllowed (Step.answer h (Single (Write u s))) ≡ mayWrite sheet (H .notes) (u .0) s
-    write-allowed u s = either-way (Single (Write u s)) (λ notes. mayWrite sheet notes (u .0) s) (unnoted (u .0) s .1) (λ o. writes n (H .count) (H .notes) (m .memory .kept) o u s)
+    pub write-allowed : (by : Caller) (u : Name) (s : Span) → isAllowed (Step.answer h (Single by (Write u s))) ≡ mayWrite sheet n by (H .notes) (u .0) s
+    write-allowed by u s = either-way (Single by (Write u s)) (λ notes. mayWrite sheet n by notes (u .0) s) (unnoted n by (u .0) s .1) (λ o. writes n (H .count) (H .notes) (m .memory .kept) o by u s)

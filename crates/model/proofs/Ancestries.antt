@@ -10,7 +10,7 @@ use lib.Dec.{eqb}
 use borrow.Author.Tests.{eqb-true, eq-eqb, ne-eqb}
 use Rattle.model.specs.Lists.{consIf, filter}
 use Rattle.model.specs.Derivation.{Derivation, ancestry}
-use Rattle.model.proofs.Lists.{All, All-map, test, clash}
+use Rattle.model.proofs.Lists.{All, All-map, All-filter, test, clash}
 
 pub ancestry-here : (b : Derivation) (B : List Derivation) (x : ℕ) → eqb x (b .name) ≡ true → ancestry (b ∷ B) x ≡ b ∷ ancestry B (b .parent)
 unfolding ancestry
@@ -120,6 +120,10 @@ ancestry-all P x (b ∷ B) a = go (λ y. ancestry-all P y B (a .1)) (test (eqb x
     go : ((y : ℕ) → All P (ancestry B y)) → (eqb x (b .name) ≡ true) ⊎ (eqb x (b .name) ≡ false) → All P (ancestry (b ∷ B) x)
     go ih (inl e) = rw (ancestry-here b B x e) (a .0, ih (b .parent))
     go ih (inr e) = rw (ancestry-past b B x e) (ih x)
+
+-- what holds of the kept derivations holds of those on the ancestry of a kept name
+pub ancestry-among : (k : ℕ → Bool) (P : Derivation → Type 0) (n : ℕ) (B : List Derivation) → Falling n B → Closed k B → All (λ b. k (b .name) ≡ true → P b) B → (x : ℕ) → eqb x 0 || k x ≡ true → All P (ancestry B x)
+ancestry-among k P n B f c a x h = rw (← ancestry-kept k n B f c x h) (ancestry-all P x (filter (λ b. k (b .name)) B) (All-filter (λ b. k (b .name)) P B a))
 
 -- 0 has no ancestry
 pub ancestry-zero : (n : ℕ) (B : List Derivation) → Falling n B → ancestry B 0 ≡ []

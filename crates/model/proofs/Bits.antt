@@ -29,11 +29,11 @@ half-with x r l = omega arith
 odd-with : (x r : ℕ) → r < 2 → (x * 2 + r) % 2 ≡ r
 odd-with x r l = omega arith
 
-hasBit-first : (b : ℕ) → hasBit b 0 ≡ eqb (b % 2) 1
+pub hasBit-first : (b : ℕ) → hasBit b 0 ≡ eqb (b % 2) 1
 unfolding hasBit
 hasBit-first b = rw (div-one b)
 
-hasBit-next : (b j : ℕ) → hasBit b (suc j) ≡ hasBit (b / 2) j
+pub hasBit-next : (b j : ℕ) → hasBit b (suc j) ≡ hasBit (b / 2) j
 unfolding hasBit
 hasBit-next b j = rw (pow-succ' 2 j, ← (div-div-eq-div-mul b 2 (2 ^ j)))
 
@@ -183,12 +183,12 @@ span-law v s b bytes l h = from-law v (s .start .0) (lowLength s) b bytes l h �
 
 pub length-after : (bytes : List ℕ) (q : Request) → length (bitsAfter bytes q) ≡ length bytes
 unfolding bitsAfter
-length-after bytes (Single (Create w s r)) = length-from false (s .start .0) (lowLength s) bytes
-length-after bytes (Single (Borrow w u s r)) = refl
-length-after bytes (Single (Read u s)) = refl
-length-after bytes (Single (Write u s)) = length-from true (s .start .0) (lowLength s) bytes
-length-after bytes (Single (Drop u)) = refl
-length-after bytes (Group names) = refl
+length-after bytes (Single by (Create w s r)) = length-from false (s .start .0) (lowLength s) bytes
+length-after bytes (Single by (Borrow w u s r)) = refl
+length-after bytes (Single by (Read u s)) = refl
+length-after bytes (Single by (Write u s)) = length-from true (s .start .0) (lowLength s) bytes
+length-after bytes (Single by (Drop u)) = refl
+length-after bytes (Group by names) = refl
 
 -- ---- what is noted as written
 

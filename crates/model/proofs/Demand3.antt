@@ -19,12 +19,12 @@ use Rattle.model.proofs.Together.{group-singly, group-table, group-hist
 
 noted : (notes : List Note) (i : ℕ) (q : Request) → newName i q ≡ notedName (notesOf notes i q)
 unfolding notesOf notedName
-noted notes i (Single (Create w s r)) = refl
-noted notes i (Single (Borrow w u s r)) = refl
-noted notes i (Single (Read u s)) = refl
-noted notes i (Single (Write u s)) = refl
-noted notes i (Single (Drop u)) = refl
-noted notes i (Group names) = sym (none names)
+noted notes i (Single by (Create w s r)) = refl
+noted notes i (Single by (Borrow w u s r)) = refl
+noted notes i (Single by (Read u s)) = refl
+noted notes i (Single by (Write u s)) = refl
+noted notes i (Single by (Drop u)) = refl
+noted notes i (Group by names) = sym (none names)
   where
     none : (names : List ℕ) → notedName (map Dropped names) ≡ 0
     none [] = refl
@@ -44,7 +44,7 @@ demand3 sheet n t z qs =
       same-issued = r .1 .same-issued;
       same-bits = r .1 .memory .bits .told;
       noted-names = named (stateAfter sheet n t qs) (historyAfter sheet n qs .notes) (historyAfter sheet n qs .count) (r .1 .same-issued);
-      group-singly = λ names a. group-singly sheet (stateAfter sheet n t qs) names a .each-allowed;
+      group-singly = λ by names a. group-singly sheet (stateAfter sheet n t qs) by names a .each-allowed;
       group-table = group-table sheet (stateAfter sheet n t qs);
       group-history = group-history sheet n (stateAfter sheet n t qs) (historyAfter sheet n qs) (r .1);
       reads = read-allowed sheet n (stateAfter sheet n t qs) (historyAfter sheet n qs) (r .1);

@@ -12,7 +12,7 @@ use Rattle.model.specs.declared.Cap.{Cap}
 use Rattle.model.specs.declared.Terms.{Terms}
 use Rattle.model.specs.declared.NewName.{NewName}
 use Rattle.model.specs.declared.Event.the-variants.{Create}
-use Rattle.model.specs.Requests.{Single}
+use Rattle.model.specs.Requests.{Caller, Single}
 use Rattle.model.specs.declared.Access.{Access}
 use Rattle.model.specs.declared.Access.the-variants.{Writing}
 use Rattle.model.specs.declared.Effect.{Effect}
@@ -72,19 +72,25 @@ revoke-past ends lowers c rows e l = rw (e, l)
 
 -- ---- a create on rows in order
 
-module _ (sheet : Sheet) (issued : ℕ) (rows : List Cap) (n : Named rows) (h : rowsInOrder (suc issued) rows ≡ true) (w : NewName) (s : Span) (r : Terms) where
+-- the new name has no row, so what a write through it takes is what a stranger's write takes
+pub stranger-takes : (sheet : Sheet) (issued : ℕ) (rows : List Cap) → Named rows → rowsInOrder (suc issued) rows ≡ true → (s : Span) (is : Effect → Bool) → is Keep ≡ false → (x : ℕ)
+    → struck sheet is Writing (derivations rows) (suc issued) s x ≡ strangerTakes sheet is s (ancestry (derivations rows) x)
+unfolding struck
+stranger-takes sheet issued rows n h s is k x = rw (no-ancestry-above (suc issued) rows n h (suc issued) (omega arith)) (outside-takes sheet is k s (ancestry (derivations rows) x))
+
+module _ (sheet : Sheet) (issued : ℕ) (rows : List Cap) (n : Named rows) (h : rowsInOrder (suc issued) rows ≡ true) (by : Caller) (w : NewName) (s : Span) (r : Terms) where
   abbrev taken : (Effect → Bool) → ℕ → Bool
   taken is x = strangerTakes sheet is s (ancestry (derivations rows) x)
 
   -- It takes what a stranger's write takes, with subtrees, and leaves the others as they are.
-  pub create-rows : rowsAfter sheet issued rows (Single (Create w s r)) ≡ row (root issued s r) (r .right) 1 ∷ revoke (taken isEnd) (taken isLower) rows
-  unfolding rowsAfter revoke afterAccess struck
-  create-rows = ap {B = List Cap} (λ l. row (root issued s r) (r .right) 1 ∷ l) (
+  pub create-rows : rowsAfter sheet issued rows (Single by (Create w s r)) ≡ row (root by issued s r) (r .right) 1 ∷ revoke (taken isEnd) (taken isLower) rows
+  unfolding rowsAfter revoke afterAccess
+  create-rows = ap {B = List Cap} (λ l. row (root by issued s r) (r .right) 1 ∷ l) (
       taken-cong (struck sheet isEnd Writing (derivations rows) (suc issued) s) (struck sheet isLower Writing (derivations rows) (suc issued) s) (taken isEnd) (taken isLower) rows
-      (All-of _ (λ c. rw (no-ancestry-above (suc issued) rows n h (suc issued) (omega arith)) (outside-takes sheet isEnd refl s (ancestry (derivations rows) (c .name .0)), outside-takes sheet isLower refl s (ancestry (derivations rows) (c .name .0)))) rows))
+      (All-of _ (λ c. (stranger-takes sheet issued rows n h s isEnd refl (c .name .0), stranger-takes sheet issued rows n h s isLower refl (c .name .0))) rows))
 
   -- It is a write from outside every subtree but its own: a write through the new row, once it stands, leaves the same.
-  pub create-written : afterAccess sheet Writing (suc issued) s (row (root issued s r) (r .right) 1 ∷ rows) ≡ rowsAfter sheet issued rows (Single (Create w s r))
+  pub create-written : afterAccess sheet Writing (suc issued) s (row (root by issued s r) (r .right) 1 ∷ rows) ≡ rowsAfter sheet issued rows (Single by (Create w s r))
   unfolding rowsAfter revoke afterAccess struck
   create-written =
       revoke-past (takes isEnd) (takes isLower) (row new (r .right) 1) rows (user-spared sheet isEnd refl Writing s user) (user-spared sheet isLower refl Writing s user)
@@ -93,7 +99,7 @@ module _ (sheet : Sheet) (issued : ℕ) (rows : List Cap) (n : Named rows) (h : 
       (All-map _ _ (λ c q. (older isEnd (c .name .0) (q .0), older isLower (c .name .0) (q .0))) rows (lookup-each (suc issued) rows h)))
     where
       new : Derivation
-      new = root issued s r
+      new = root by issued s r
 
       user : List Derivation
       user = ancestry (new ∷ derivations rows) (suc issued)
@@ -112,12 +118,12 @@ module _ (sheet : Sheet) (issued : ℕ) (rows : List Cap) (n : Named rows) (h : 
           ∙ ap (λ (none : List Derivation). reached sheet is Writing s none (ancestry (derivations rows) x)) (sym (no-ancestry-above (suc issued) rows n h (suc issued) (omega arith)))
 
   -- A capability whose life is not taken stays as it is, but for its right if that is taken.
-  pub left-stays : All (λ c. taken isEnd (c .name .0) ≡ false → lookup (c .name .0) (rowsAfter sheet issued rows (Single (Create w s r))) ≡ lowered (taken isLower (c .name .0)) c) rows
+  pub left-stays : All (λ c. taken isEnd (c .name .0) ≡ false → lookup (c .name .0) (rowsAfter sheet issued rows (Single by (Create w s r))) ≡ lowered (taken isLower (c .name .0)) c) rows
   unfolding lookup revoke
   left-stays = All-map _ _ stays rows (All-zip _ _ rows (lookup-each (suc issued) rows h) (found-each rows))
     where
       stays : (c : Cap) → ((c .name .0 < suc issued) × (lookup (c .name .0) rows ≡ c)) × (any (named (c .name .0)) rows ≡ true) → taken isEnd (c .name .0) ≡ false
-          → lookup (c .name .0) (rowsAfter sheet issued rows (Single (Create w s r))) ≡ lowered (taken isLower (c .name .0)) c
+          → lookup (c .name .0) (rowsAfter sheet issued rows (Single by (Create w s r))) ≡ lowered (taken isLower (c .name .0)) c
       stays c q e =
           let left : List Cap = filter (λ c. not (taken isEnd (c .name .0))) rows in
           let found : any (named (c .name .0)) left ≡ true = any-kept (λ c. c .name .0) (λ x. not (taken isEnd x)) (c .name .0) (ap not e) rows ∙ q .1 in
@@ -125,7 +131,7 @@ module _ (sheet : Sheet) (issued : ℕ) (rows : List Cap) (n : Named rows) (h : 
           (lookup-lower (taken isLower) (c .name .0) left found ∙ ap (λ c. lowered (taken isLower (c .name .0)) c) (lookup-left (taken isEnd) (c .name .0) e rows ∙ q .0 .1))
 
   -- One whose life is taken has ended.
-  pub taken-ends : (x : ℕ) → x < suc issued → taken isEnd x ≡ true → any (named x) (rowsAfter sheet issued rows (Single (Create w s r))) ≡ false
+  pub taken-ends : (x : ℕ) → x < suc issued → taken isEnd x ≡ true → any (named x) (rowsAfter sheet issued rows (Single by (Create w s r))) ≡ false
   unfolding revoke
   taken-ends x l e = rw (create-rows, below-differs l, any-map (λ c. lowered (taken isLower (c .name .0)) c) (named x) left) (any-false (named x) left (All-map _ _ apart left (passes (λ c. not (taken isEnd (c .name .0))) rows)))
     where
@@ -136,11 +142,11 @@ module _ (sheet : Sheet) (issued : ℕ) (rows : List Cap) (n : Named rows) (h : 
       apart c p = ne-eqb x (c .name .0) (λ (q : x ≡ c .name .0). clash (ap (taken isEnd) (sym q) ∙ e) (not-true (taken isEnd (c .name .0)) p))
 
   -- A create of length 0 takes nothing.
-  pub create-nothing : s .length ≡ 0 → rowsAfter sheet issued rows (Single (Create w s r)) ≡ row (root issued s r) (r .right) 1 ∷ rows
+  pub create-nothing : s .length ≡ 0 → rowsAfter sheet issued rows (Single by (Create w s r)) ≡ row (root by issued s r) (r .right) 1 ∷ rows
   unfolding revoke
   create-nothing z =
       create-rows
-      ∙ ap {B = List Cap} (λ l. row (root issued s r) (r .right) 1 ∷ l)
+      ∙ ap {B = List Cap} (λ l. row (root by issued s r) (r .right) 1 ∷ l)
       (taken-cong (taken isEnd) (taken isLower) (λ x. false) (λ x. false) rows (All-of _ (λ c. (none isEnd (ancestry (derivations rows) (c .name .0)), none isLower (ancestry (derivations rows) (c .name .0)))) rows)
       ∙ map-id _
       ∙ filter-all (λ c. true) rows (All-of _ (λ c. refl) rows))
@@ -168,12 +174,12 @@ pub fresh-lowers : (s : Span) (x : List Derivation) → strangerTakes sheet6 isL
 fresh-lowers s [] = refl
 fresh-lowers s (d ∷ above) = rw (stranger-ends (d .kind), and-false (touches s (d .span))) (fresh-lowers s above)
 
-pub fresh-rows : (issued : ℕ) (rows : List Cap) → Named rows → rowsInOrder (suc issued) rows ≡ true → (w : NewName) (s : Span) (r : Terms)
-    → rowsAfter sheet6 issued rows (Single (Create w s r)) ≡ row (root issued s r) (r .right) 1 ∷ filter (λ c. not (touchesAny s (ancestry (derivations rows) (c .name .0)))) rows
+pub fresh-rows : (issued : ℕ) (rows : List Cap) → Named rows → rowsInOrder (suc issued) rows ≡ true → (by : Caller) (w : NewName) (s : Span) (r : Terms)
+    → rowsAfter sheet6 issued rows (Single by (Create w s r)) ≡ row (root by issued s r) (r .right) 1 ∷ filter (λ c. not (touchesAny s (ancestry (derivations rows) (c .name .0)))) rows
 unfolding revoke
-fresh-rows issued rows n h w s r =
-    create-rows sheet6 issued rows n h w s r
-    ∙ ap {B = List Cap} (λ l. row (root issued s r) (r .right) 1 ∷ l)
+fresh-rows issued rows n h by w s r =
+    create-rows sheet6 issued rows n h by w s r
+    ∙ ap {B = List Cap} (λ l. row (root by issued s r) (r .right) 1 ∷ l)
     (taken-cong _ _ (λ x. touchesAny s (ancestry (derivations rows) x)) (λ x. false) rows
     (All-of _ (λ c. (fresh-ends s (ancestry (derivations rows) (c .name .0)), fresh-lowers s (ancestry (derivations rows) (c .name .0)))) rows)
     ∙ map-id _)

@@ -29,12 +29,12 @@ unnamed j name = rw (ne-eqb (suc (suc j)) 0 (λ (e : suc (suc j) ≡ 0). omega a
 judged-gives : (sheet : Sheet) (h : State) (q : Request) (j : ℕ) → judge (view h) q ≡ j
     → Gives (h .tally .issued) (verdict j (newName (h .tally .issued) q) .name) (outcome sheet j h q .tally .issued)
 unfolding refusals
-judged-gives sheet h (Single (Create w s r)) zero e = next refl refl (leb-false 1000000 (h .tally .issued) (allowed (view h) (Single (Create w s r)) e 9))
-judged-gives sheet h (Single (Borrow w u s r)) zero e = next refl refl (leb-false 1000000 (h .tally .issued) (allowed (view h) (Single (Borrow w u s r)) e 9))
-judged-gives sheet h (Single (Read u s)) zero e = none refl refl
-judged-gives sheet h (Single (Write u s)) zero e = none refl refl
-judged-gives sheet h (Single (Drop u)) zero e = none refl refl
-judged-gives sheet h (Group names) zero e = none refl refl
+judged-gives sheet h (Single by (Create w s r)) zero e = next refl refl (leb-false 1000000 (h .tally .issued) (allowed (view h) (Single by (Create w s r)) e 9))
+judged-gives sheet h (Single by (Borrow w u s r)) zero e = next refl refl (leb-false 1000000 (h .tally .issued) (allowed (view h) (Single by (Borrow w u s r)) e 9))
+judged-gives sheet h (Single by (Read u s)) zero e = none refl refl
+judged-gives sheet h (Single by (Write u s)) zero e = none refl refl
+judged-gives sheet h (Single by (Drop u)) zero e = none refl refl
+judged-gives sheet h (Group by names) zero e = none refl refl
 judged-gives sheet h q (suc zero) e = none refl refl
 judged-gives sheet h q (suc (suc j)) e = none (unnamed j (newName (h .tally .issued) q)) refl
 

@@ -11,6 +11,7 @@ mod Precedence
 mod Frame
 mod Counted
 mod Bits
+mod Limits
 mod Order
 mod Match
 mod Allowed
@@ -26,4 +27,14 @@ mod Demand3
 mod Given
 mod Lowered
 mod ReadRemoved
+mod Parts
+mod Limited
+mod Recounted
+mod Apart
+mod Independence
+mod TreesApart
+mod Allotted
+mod Room
+mod Charge
+mod Tried
 pub mod Offered

@@ -109,6 +109,10 @@ module _ {A : Type 0} where
   filter-all p [] h = refl
   filter-all p (x ∷ l) h = rw (h .0, filter-all p l (h .1))
 
+  pub filter-nothing : (p : A → Bool) (l : List A) → All (λ x. p x ≡ false) l → filter p l ≡ []
+  filter-nothing p [] h = refl
+  filter-nothing p (x ∷ l) h = rw (h .0) (filter-nothing p l (h .1))
+
   pub filter-append : (p : A → Bool) (l m : List A) → filter p (l ++ m) ≡ filter p l ++ filter p m
   filter-append p [] m = refl
   filter-append p (x ∷ l) m = go (p x) (filter-append p l m)
@@ -145,6 +149,15 @@ module _ {A : Type 0} where
   any-none p [] h = tt
   any-none p (x ∷ l) h = let q = or-neither (p x) (any p l) h in (q .0, any-none p l (q .1))
 
+  -- what follows from each member that passes follows where one does
+  pub any-found : (p : A → Bool) (Q : Type 0) (l : List A) → All (λ x. p x ≡ true → Q) l → any p l ≡ true → Q
+  any-found p Q [] a h = clash h refl
+  any-found p Q (x ∷ l) a h = go (test (p x)) (any-found p Q l (a .1))
+    where
+      go : (p x ≡ true) ⊎ (p x ≡ false) → (any p l ≡ true → Q) → Q
+      go (inl t) ih = a .0 t
+      go (inr f) ih = ih (rw f at h)
+
   pub any-or : (p q : A → Bool) (l : List A) → any (λ x. p x || q x) l ≡ any p l || any q l
   any-or p q [] = refl
   any-or p q (x ∷ l) = rw (any-or p q l) (regroup (p x) (q x) (any p l) (any q l))
@@ -153,6 +166,15 @@ module _ {A : Type 0} where
       regroup true b c d = refl
       regroup false true c d = sym (or-true c)
       regroup false false c d = refl
+
+  -- what every member passes
+  pub of-all : (p : A → Bool) (l : List A) → all p l ≡ true → All (λ x. p x ≡ true) l
+  of-all p [] h = tt
+  of-all p (x ∷ l) h = let b = and-both (p x) (all p l) h in (b .0, of-all p l (b .1))
+
+  pub all-of : (p : A → Bool) (l : List A) → All (λ x. p x ≡ true) l → all p l ≡ true
+  all-of p [] h = refl
+  all-of p (x ∷ l) h = rw (h .0) (all-of p l (h .1))
 
   pub all-append : (p : A → Bool) (l m : List A) → all p (l ++ m) ≡ all p l && all p m
   all-append p [] m = refl

@@ -25,12 +25,12 @@ floors n (w ∷ notes) = floors (floor n w) notes
 -- a name given out is below the floor of each later note
 floors-next : (notes : List Note) (i : ℕ) (q : Request) {x : ℕ} → x < suc i → x < floors (suc (issuedAfter i q)) (notesOf notes i q)
 unfolding notesOf
-floors-next notes i (Single (Create w s r)) l = l
-floors-next notes i (Single (Borrow w u s r)) l = l
-floors-next notes i (Single (Read u s)) l = l
-floors-next notes i (Single (Write u s)) l = l
-floors-next notes i (Single (Drop u)) l = l
-floors-next notes i (Group names) {x} l = dropped names
+floors-next notes i (Single by (Create w s r)) l = l
+floors-next notes i (Single by (Borrow w u s r)) l = l
+floors-next notes i (Single by (Read u s)) l = l
+floors-next notes i (Single by (Write u s)) l = l
+floors-next notes i (Single by (Drop u)) l = l
+floors-next notes i (Group by names) {x} l = dropped names
   where
     dropped : (names : List ℕ) → x < floors (suc i) (map Dropped names)
     dropped [] = l

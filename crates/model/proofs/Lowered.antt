@@ -18,15 +18,17 @@ use Rattle.model.specs.declared.Access.{Access}
 use Rattle.model.specs.declared.Access.the-variants.{Reading, Writing}
 use Rattle.model.specs.declared.Sheet.{Sheet}
 use Rattle.model.specs.Lists.{filter, any, all}
-use Rattle.model.specs.Requests.{Request, Single, Group}
+use Rattle.model.specs.Requests.{Limits, Caller, Request, Single, Group, callerOf}
 use Rattle.model.specs.Values.{inside}
 use Rattle.model.specs.Table.{row, emptyRow, span, derivation, derivations, named, liveRows, lentTable, lookup, isRight, rowsInOrder, inOrder}
-use Rattle.model.specs.Refusals.{View, viewOf, unfit, notWritten, standings, checks, refusals, judge}
-use Rattle.model.specs.Bits.{bitAt, spanWritten}
+use Rattle.model.specs.Refusals.{View, viewOf, unfit, notAHolder, notWritten, standings, checks, refusals, judge}
+use Rattle.model.specs.Limits.{noRow, limitReached}
+use Rattle.model.specs.Bits.{hasBit, bitAt, spanWritten}
 use Rattle.model.specs.Effects.{lowered, revoke, afterAccess, rowsWithout, root, rowsAfter}
 use Rattle.model.specs.History
 use Rattle.model.proofs.Lists.{All, All-map, All-of, All-reverse, All-unfilter, test, clash, and-both, filter-map, map-cong, map-reverse, any-map, first-zero}
-use Rattle.model.proofs.Judged.{numbered}
+use Rattle.model.proofs.Judged.{numbered, sheet-allowed}
+use Rattle.model.proofs.Limits.{sheet-lower, row-lower, limit-lower}
 use Rattle.model.proofs.Order.{place, rises, right-positive, ordered}
 use Rattle.model.proofs.Rows.{lent-changed}
 
@@ -53,9 +55,9 @@ weaker-passes (c ∷ cs) (d ∷ ds) w p =
 checks-pass : (v : View) (q : Request) → judge v q ≡ 0 → Pass (checks (liveRows (v .table)) (v .issued) (v .isWritten) (length (v .table)) q)
 unfolding judge refusals
 checks-pass v q z =
-    and-both (not (unfit v)) (all (λ c. not (c .1)) (checks (liveRows (v .table)) (v .issued) (v .isWritten) (length (v .table)) q)) (sym (first-zero (refusals v q) (numbered v q)) ∙ eq-eqb (judge v q) 0 z) .1
+    and-both (not (unfit (callerOf q .limits) v)) (all (λ c. not (c .1)) (checks (liveRows (v .table)) (v .issued) (v .isWritten) (length (v .table)) q)) (sym (first-zero (refusals v q) (numbered v q)) ∙ eq-eqb (judge v q) 0 z) .1
 
-passed : (v : View) (q : Request) → unfit v ≡ false → Pass (checks (liveRows (v .table)) (v .issued) (v .isWritten) (length (v .table)) q) → judge v q ≡ 0
+passed : (v : View) (q : Request) → unfit (callerOf q .limits) v ≡ false → Pass (checks (liveRows (v .table)) (v .issued) (v .isWritten) (length (v .table)) q) → judge v q ≡ 0
 unfolding judge refusals
 passed v q o p = eqb-true (judge v q) 0 (first-zero (refusals v q) (numbered v q) ∙ rw o p)
 
@@ -136,35 +138,41 @@ module _ (hit : ℕ → Bool) where
     shallow : (x : ℕ) → leb 64 (lookup x (map lower rows) .depth) ≡ false → leb 64 (lookup x rows .depth) ≡ false
     shallow x e = ap (leb 64) (sym (lookup-same (λ c. c .depth) (λ c. refl) x rows)) ∙ e
 
-    roomy : leb size (length (map lower rows)) ≡ false → leb size (length rows) ≡ false
-    roomy e = rw length-map at e
+    roomy : (limits : Limits) → noRow limits (map lower rows) size ≡ false → noRow limits rows size ≡ false
+    roomy limits e = sym (row-lower (λ c. hit (c .name .0)) limits rows size) ∙ e
+
+    unreached : (by : Caller) → limitReached (by .limits) (map lower rows) (by .actor) ≡ false → limitReached (by .limits) rows (by .actor) ≡ false
+    unreached by e = sym (limit-lower (λ c. hit (c .name .0)) (by .limits) rows (by .actor)) ∙ e
+
+    held : (actor : ℕ) (u : Name) → notAHolder (map lower rows) i actor u ≡ false → notAHolder rows i actor u ≡ false
+    held actor u e = ap (λ m. not (hasBit m actor)) (sym (lookup-same (λ c. c .holders) (λ c. refl) (u .0) rows)) ∙ e
 
     readable : (u : Name) (s : Span) → notWritten (map lower rows) i isWritten u s ≡ false → notWritten rows i isWritten u s ≡ false
     unfolding notWritten
     readable u s e = ap (λ m. eqb m 1 && not (spanWritten isWritten s)) (sym (lookup-same (λ c. c .fresh) (λ c. refl) (u .0) rows)) ∙ e
 
-    standings-weaker : (names : List ℕ) → Weaker (standings rows i names) (standings (map lower rows) i names)
+    standings-weaker : (actor : ℕ) (names : List ℕ) → Weaker (standings rows i actor names) (standings (map lower rows) i actor names)
     unfolding standings
-    standings-weaker [] = tt
-    standings-weaker (u ∷ names) = (λ e. e, (found u, standings-weaker names))
+    standings-weaker actor [] = tt
+    standings-weaker actor (u ∷ names) = (λ e. e, (found u, (held actor (record { 0 = u }), standings-weaker actor names)))
 
     checks-weaker : (q : Request) → Weaker (checks rows i isWritten size q) (checks (map lower rows) i isWritten size q)
-    checks-weaker (Single (Create w s r)) = (λ e. e, (λ e. e, (λ e. e, (λ e. e, (roomy, tt)))))
-    checks-weaker (Single (Borrow w u s r)) = (λ e. e, (λ e. e, (λ e. e, (found (u .0), (within (u .0) s, (higher (u .0) (r .right), (shallow (u .0), (λ e. e, (λ e. e, (roomy, tt))))))))))
-    checks-weaker (Single (Read u s)) = (λ e. e, (λ e. e, (found (u .0), (within (u .0) s, (readable u s, tt)))))
-    checks-weaker (Single (Write u s)) = (λ e. e, (λ e. e, (found (u .0), (within (u .0) s, (higher (u .0) 2, tt)))))
-    checks-weaker (Single (Drop u)) = (λ e. e, (found (u .0), tt))
-    checks-weaker (Group names) = (λ e. e, standings-weaker names)
+    checks-weaker (Single by (Create w s r)) = (λ e. e, (λ e. e, (λ e. e, (λ e. e, (roomy (by .limits), (unreached by, tt))))))
+    checks-weaker (Single by (Borrow w u s r)) = (λ e. e, (λ e. e, (λ e. e, (found (u .0), (held (by .actor) u, (within (u .0) s, (higher (u .0) (r .right), (shallow (u .0), (λ e. e, (λ e. e, (roomy (by .limits), (unreached by, tt))))))))))))
+    checks-weaker (Single by (Read u s)) = (λ e. e, (λ e. e, (λ e. e, (found (u .0), (held (by .actor) u, (within (u .0) s, (readable u s, tt)))))))
+    checks-weaker (Single by (Write u s)) = (λ e. e, (λ e. e, (λ e. e, (found (u .0), (held (by .actor) u, (within (u .0) s, (higher (u .0) 2, tt)))))))
+    checks-weaker (Single by (Drop u)) = (λ e. e, (λ e. e, (found (u .0), (held (by .actor) u, tt))))
+    checks-weaker (Group by names) = (λ e. e, (λ e. e, standings-weaker (by .actor) names))
 
   -- a request does to the lowered rows what it does to the rows; a new name is not lowered
   rows-lower : (sheet : Sheet) (issued : ℕ) → hit (suc issued) ≡ false → (rows : List Cap) (q : Request) → rowsAfter sheet issued (map lower rows) q ≡ map lower (rowsAfter sheet issued rows q)
   unfolding rowsAfter
-  rows-lower sheet issued z rows (Single (Create w s r)) = rw z (ap {B = List Cap} (λ l. row (root issued s r) (r .right) 1 ∷ l) (access-lower sheet Writing (suc issued) s rows))
-  rows-lower sheet issued z rows (Single (Borrow w u s r)) = rw (z, lookup-same (λ c. c .depth) (λ c. refl) (u .0) rows, lookup-same (λ c. c .fresh) (λ c. refl) (u .0) rows)
-  rows-lower sheet issued z rows (Single (Read u s)) = access-lower sheet Reading (u .0) s rows
-  rows-lower sheet issued z rows (Single (Write u s)) = access-lower sheet Writing (u .0) s rows
-  rows-lower sheet issued z rows (Single (Drop u)) = without-lower (u .0 ∷ []) rows
-  rows-lower sheet issued z rows (Group names) = without-lower names rows
+  rows-lower sheet issued z rows (Single by (Create w s r)) = rw z (ap {B = List Cap} (λ l. row (root by issued s r) (r .right) 1 ∷ l) (access-lower sheet Writing (suc issued) s rows))
+  rows-lower sheet issued z rows (Single by (Borrow w u s r)) = rw (z, lookup-same (λ c. c .depth) (λ c. refl) (u .0) rows, lookup-same (λ c. c .fresh) (λ c. refl) (u .0) rows)
+  rows-lower sheet issued z rows (Single by (Read u s)) = access-lower sheet Reading (u .0) s rows
+  rows-lower sheet issued z rows (Single by (Write u s)) = access-lower sheet Writing (u .0) s rows
+  rows-lower sheet issued z rows (Single by (Drop u)) = without-lower (u .0 ∷ []) rows
+  rows-lower sheet issued z rows (Group by names) = without-lower names rows
 
   -- the same of whole tables
   pub live-lower : (t : List Cap) → liveRows (map lower t) ≡ map lower (liveRows t)
@@ -176,7 +184,7 @@ module _ (hit : ℕ → Bool) where
     pub allowed-lower : inOrder t i ≡ true → length bits ≡ 8192 → judge (viewOf (map lower t) bits i) q ≡ 0 → judge (viewOf t bits i) q ≡ 0
     allowed-lower o e z =
         let rights = All-map _ _ (λ c e. right-positive (c .right) e) (liveRows t) (rights-given (suc i) (liveRows t) (ordered t i o .rise)) in
-        passed (viewOf t bits i) q (rw (o, e))
+        passed (viewOf t bits i) q (rw (o, e, sym (sheet-lower (λ c. hit (c .name .0)) (callerOf q .limits) t (live-lower t)) ∙ sheet-allowed (viewOf (map lower t) bits i) q z))
         (weaker-passes (checks (liveRows t) i (bitAt bits) (length t) q) (checks (map lower (liveRows t)) i (bitAt bits) (length t) q) (checks-weaker (liveRows t) rights i (bitAt bits) (length t) q)
         (rw (live-lower t, length-map) at (checks-pass (viewOf (map lower t) bits i) q z)))
 

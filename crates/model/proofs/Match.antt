@@ -23,9 +23,10 @@ use Rattle.model.specs.Derivation.{Derivation, ancestry, inSubtree}
 use Rattle.model.specs.Strike.{isLower, isEnd, reached, struck, reclaimed}
 use Rattle.model.specs.Values.{end, inside, legal}
 use Rattle.model.specs.Bits.{bitAt, bitsAfter, spanWritten, inSpan}
+use Rattle.model.specs.Limits.{refusedSheet}
 use Rattle.model.specs.Step.{Memory, State, view, memoryAfter, initial}
 use Rattle.model.specs.Table.{row, span, derivation, named, liveRows, lentTable, lookup, isRight, isMarked, termsInOrder, inOrder}
-use Rattle.model.specs.Refusals.{View, notWritten, refusals, judge}
+use Rattle.model.specs.Refusals.{View, notADomain, notAHolder, unfitTable, notWritten, refusals, judge}
 use Rattle.model.specs.Effects.{root, child, revoke, afterAccess, inSubtrees, rowsWithout, rowsAfter, issuedAfter}
 use Rattle.model.specs.Table
 use Rattle.model.specs.Refusals
@@ -39,18 +40,18 @@ use Rattle.model.proofs.Ancestries.{Closed, Falling, ancestry-step, anc
 use Rattle.model.proofs.Notes.{Sound, falling, lives-older, rows-all, rowOf-new, revokedBy, rows-noted}
 use Rattle.model.proofs.Agree.{Through, closed-noted, falling-rows, ancestry-rows, rows-live, present-lives, rows-after}
 use Rattle.model.proofs.Lent.{Named, live-lent, length-lent, lookup-found, lookup-named}
-use Rattle.model.proofs.Judged.{allowed, in-order, root-given, child-given, counted-issued, Stands, Rising, drop-stands, group-rises, group-stands, next-fits}
-use Rattle.model.proofs.Order.{terms-given, marked-low, ordered, order-next, order-fresh}
+use Rattle.model.proofs.Judged.{allowed, in-order, root-given, child-given, counted-issued, Stands, Rising, drop-stands, group-rises, group-stands}
+use Rattle.model.proofs.Order.{terms-given, marked-low, ordered, next-fits, order-next, order-fresh}
 use Rattle.model.proofs.Bits.{BitsTold, told-first, span-law, length-after, all-same}
 
 -- and never down
 pub count-raised : (i : ℕ) (q : Request) → i ≤ issuedAfter i q
-count-raised i (Single (Create w s r)) = omega arith
-count-raised i (Single (Borrow w u s r)) = omega arith
-count-raised i (Single (Read u s)) = omega arith
-count-raised i (Single (Write u s)) = omega arith
-count-raised i (Single (Drop u)) = omega arith
-count-raised i (Group names) = omega arith
+count-raised i (Single by (Create w s r)) = omega arith
+count-raised i (Single by (Borrow w u s r)) = omega arith
+count-raised i (Single by (Read u s)) = omega arith
+count-raised i (Single by (Write u s)) = omega arith
+count-raised i (Single by (Drop u)) = omega arith
+count-raised i (Group by names) = omega arith
 
 right-given : (r : ℕ) → isRight r ≡ true → cond (eqb r 2) 2 1 ≡ r
 right-given r h = go (test (eqb r 2))
@@ -209,35 +210,35 @@ module _ (sheet : Sheet) where
 
     pub next : (q : Request) → judge (History.view sheet n notes i) q ≡ 0 → Next q
     unfolding refusals notesOf derivedBy ends lowers hits struck reclaimed revoke afterAccess rowsAfter live reclaim
-    next (Single (Create w s r)) h =
-        let sound : Sound (suc (suc i)) (New (root i s r) (r .right) ∷ notes) = (omega arith, omega arith, k .sound) in
-        next-noted (Single (Create w s r)) (New (root i s r) (r .right)) refl sound refl
+    next (Single by (Create w s r)) h =
+        let sound : Sound (suc (suc i)) (New (root by i s r) (r .right) ∷ notes) = (omega arith, omega arith, k .sound) in
+        next-noted (Single by (Create w s r)) (New (root by i s r) (r .right)) refl sound refl
         (ap₂ {C = List Cap} (λ c l. c ∷ l)
-        (new-row (root i s r) (r .right) 0 sound (root-given (History.view sheet n notes i) w s r h .right) (rw (ancestry-zero (suc i) (derivations notes) (falling (suc i) notes (k .sound)))))
+        (new-row (root by i s r) (r .right) 0 sound (root-given (History.view sheet n notes i) by w s r h .0 .right) (rw (ancestry-zero (suc i) (derivations notes) (falling (suc i) notes (k .sound)))))
         (ap (λ user. reclaim true user s) outside))
-    next (Single (Borrow w u s r)) h =
-        let p = allowed (History.view sheet n notes i) (Single (Borrow w u s r)) h in
+    next (Single by (Borrow w u s r)) h =
+        let p = allowed (History.view sheet n notes i) (Single by (Borrow w u s r)) h in
         let stands : Stands (liveRows (table sheet n notes)) i (u .0) = (p 4, not-false (any (named (u .0)) (liveRows (table sheet n notes))) (p 5)) in
-        let new : Derivation = child i u (markOn (ancestry (derivations notes) (u .0))) s r in
+        let new : Derivation = child by i u (markOn (ancestry (derivations notes) (u .0))) s r in
         let sound : Sound (suc (suc i)) (New new (r .right) ∷ notes) = (omega arith, stands-given (u .0) stands, k .sound) in
-        next-noted (Single (Borrow w u s r)) (New new (r .right)) refl sound (stands-through (u .0) stands)
+        next-noted (Single by (Borrow w u s r)) (New new (r .right)) refl sound (stands-through (u .0) stands)
         (ap₂ {C = List Cap} (λ c l. c ∷ l)
-        (new-row new (r .right) (lookup (u .0) (rows sheet notes) .depth) sound (child-given (History.view sheet n notes i) w u s r h .right) (depth-found (u .0) (stands .1))
-        ∙ ap (λ (m : ℕ). row (child i u m s r) (r .right) (suc (lookup (u .0) (rows sheet notes) .depth))) (sym (mark-found (u .0) (stands .1))))
+        (new-row new (r .right) (lookup (u .0) (rows sheet notes) .depth) sound (child-given (History.view sheet n notes i) by w s r u h .0 .right) (depth-found (u .0) (stands .1))
+        ∙ ap (λ (m : ℕ). row (child by i u m s r) (r .right) (suc (lookup (u .0) (rows sheet notes) .depth))) (sym (mark-found (u .0) (stands .1))))
         (ap (λ isRoot. reclaim isRoot (ancestry live (u .0)) s) (or-neither (eqb (u .0) 0) (ltb i (u .0)) (p 4) .0) ∙ map-id _ ∙ all-left (rows sheet notes)))
-    next (Single (Read u s)) h =
-        let p = allowed (History.view sheet n notes i) (Single (Read u s)) h in
+    next (Single by (Read u s)) h =
+        let p = allowed (History.view sheet n notes i) (Single by (Read u s)) h in
         let stands : Stands (liveRows (table sheet n notes)) i (u .0) = (p 4, not-false (any (named (u .0)) (liveRows (table sheet n notes))) (p 5)) in
-        next-noted (Single (Read u s)) (Accessed Reading (u .0) s) refl (tt, stands-given (u .0) stands, k .sound) (stands-through (u .0) stands) refl
-    next (Single (Write u s)) h =
-        let p = allowed (History.view sheet n notes i) (Single (Write u s)) h in
+        next-noted (Single by (Read u s)) (Accessed Reading (u .0) s) refl (tt, stands-given (u .0) stands, k .sound) (stands-through (u .0) stands) refl
+    next (Single by (Write u s)) h =
+        let p = allowed (History.view sheet n notes i) (Single by (Write u s)) h in
         let stands : Stands (liveRows (table sheet n notes)) i (u .0) = (p 4, not-false (any (named (u .0)) (liveRows (table sheet n notes))) (p 5)) in
-        next-noted (Single (Write u s)) (Accessed Writing (u .0) s) refl (tt, stands-given (u .0) stands, k .sound) (stands-through (u .0) stands) refl
-    next (Single (Drop u)) h =
-        let w = without (u .0 ∷ []) (tt, tt) (drop-stands (History.view sheet n notes i) u h, tt) in
+        next-noted (Single by (Write u s)) (Accessed Writing (u .0) s) refl (tt, stands-given (u .0) stands, k .sound) (stands-through (u .0) stands) refl
+    next (Single by (Drop u)) h =
+        let w = without (u .0 ∷ []) (tt, tt) (drop-stands (History.view sheet n notes i) by u h, tt) in
         record { is-sound = w .sound; is-closed = w .closed; same-rows = rows-without (u .0 ∷ []) w }
-    next (Group names) h =
-        let w = without names (group-rises (History.view sheet n notes i) names h) (group-stands (History.view sheet n notes i) names h) in
+    next (Group by names) h =
+        let w = without names (group-rises (History.view sheet n notes i) by names h) (group-stands (History.view sheet n notes i) by names h) in
         record { is-sound = w .sound; is-closed = w .closed; same-rows = rows-without names w }
 
     pub kept-next : (q : Request) → judge (History.view sheet n notes i) q ≡ 0 → Kept n (issuedAfter i q) (notesOf notes i q ++ notes)
@@ -245,23 +246,23 @@ module _ (sheet : Sheet) where
         record {
           sound = next q h .is-sound;
           closed = next q h .is-closed;
-          fits = rw (next q h .same-rows) (rw (live-rows, rows-fit) at (next-fits sheet (History.view sheet n notes i) q h));
+          fits = rw (next q h .same-rows) (rw (live-rows, rows-fit) at (next-fits sheet (History.view sheet n notes i) (ordered (table sheet n notes) i (in-order (History.view sheet n notes i) q h)) q h));
         }
 
     -- the bits after an allowed request are what its notes say
     bits-said : (bytes : List ℕ) → BitsTold bytes notes → (q : Request) → judge (History.view sheet n notes i) q ≡ 0 → (a : ℕ) → a < 65536 → bitAt (bitsAfter bytes q) a ≡ written (notesOf notes i q ++ notes) a
     unfolding bitsAfter notesOf written refusals
-    bits-said bytes b (Single (Create w s r)) h a l = span-law false s a bytes (b .size) l ∙ ap (cond (inSpan s a) false) (b .told a l)
-    bits-said bytes b (Single (Borrow w u s r)) h a l =
-        b .told a l ∙ sym (ap (λ (c : Bool). cond (c && inSpan s a) false (written notes a)) (or-neither (eqb (u .0) 0) (ltb i (u .0)) (allowed (History.view sheet n notes i) (Single (Borrow w u s r)) h 4) .0))
-    bits-said bytes b (Single (Read u s)) h a l = b .told a l
-    bits-said bytes b (Single (Write u s)) h a l = span-law true s a bytes (b .size) l ∙ ap (cond (inSpan s a) true) (b .told a l) ∙ either (inSpan s a) (written notes a)
+    bits-said bytes b (Single by (Create w s r)) h a l = span-law false s a bytes (b .size) l ∙ ap (cond (inSpan s a) false) (b .told a l)
+    bits-said bytes b (Single by (Borrow w u s r)) h a l =
+        b .told a l ∙ sym (ap (λ (c : Bool). cond (c && inSpan s a) false (written notes a)) (or-neither (eqb (u .0) 0) (ltb i (u .0)) (allowed (History.view sheet n notes i) (Single by (Borrow w u s r)) h 4) .0))
+    bits-said bytes b (Single by (Read u s)) h a l = b .told a l
+    bits-said bytes b (Single by (Write u s)) h a l = span-law true s a bytes (b .size) l ∙ ap (cond (inSpan s a) true) (b .told a l) ∙ either (inSpan s a) (written notes a)
       where
         either : (c d : Bool) → cond c true d ≡ c || d
         either true d = refl
         either false d = refl
-    bits-said bytes b (Single (Drop u)) h a l = b .told a l
-    bits-said bytes b (Group names) h a l = b .told a l ∙ sym (dropped names)
+    bits-said bytes b (Single by (Drop u)) h a l = b .told a l
+    bits-said bytes b (Group by names) h a l = b .told a l ∙ sym (dropped names)
       where
         dropped : (names : List ℕ) → written (map Dropped names ++ notes) a ≡ written notes a
         dropped [] = refl
@@ -317,26 +318,24 @@ module _ (sheet : Sheet) where
 
   told-judge : (n i : ℕ) (notes : List Note) (bytes : List ℕ) → BitsTold bytes notes → (q : Request) → judge (lentView n i notes bytes) q ≡ judge (History.view sheet n notes i) q
   unfolding judge refusals
-  told-judge n i notes bytes b (Single (Create w s r)) = refl
-  told-judge n i notes bytes b (Single (Borrow w u s r)) = refl
-  told-judge n i notes bytes b (Single (Read u s)) =
-      last (not (inOrder (table sheet n notes) i)) (not (legal s)) (eqb (u .0) 0 || ltb i (u .0)) (not (any (named (u .0)) live)) (not (inside s (span (lookup (u .0) live)))) (notWritten live i (bitAt bytes) u s) (notWritten live i (written notes) u s)
-      (λ f e o. same-sixteen n i notes bytes b u s (not-false (inOrder (table sheet n notes) i) f) (not-false (any (named (u .0)) live) e) (not-false (inside s (span (lookup (u .0) live))) o))
+  told-judge n i notes bytes b (Single by (Create w s r)) = refl
+  told-judge n i notes bytes b (Single by (Borrow w u s r)) = refl
+  told-judge n i notes bytes b (Single by (Read u s)) =
+      last (unfitTable (by .limits) (table sheet n notes) i) (notADomain (by .actor)) (not (legal s)) (eqb (u .0) 0 || ltb i (u .0)) (not (any (named (u .0)) live)) (notAHolder live i (by .actor) u) (not (inside s (span (lookup (u .0) live)))) (notWritten live i (bitAt bytes) u s) (notWritten live i (written notes) u s)
+      (λ f e o. same-sixteen n i notes bytes b u s (not-false (inOrder (table sheet n notes) i) (or-neither (not (inOrder (table sheet n notes) i)) (refusedSheet (table sheet n notes) (by .limits)) f .0)) (not-false (any (named (u .0)) live) e) (not-false (inside s (span (lookup (u .0) live))) o))
     where
       live : List Cap
       live = liveRows (table sheet n notes)
 
-      last : (x j p e o w w₀ : Bool) → (x ≡ false → e ≡ false → o ≡ false → w ≡ w₀)
-          → _≡_ {A = ℕ} (cond (x || false) 1 (cond j 3 (cond p 4 (cond e 5 (cond o 6 (cond w 16 0)))))) (cond (x || false) 1 (cond j 3 (cond p 4 (cond e 5 (cond o 6 (cond w₀ 16 0))))))
-      last true j p e o w w₀ f = refl
-      last false true p e o w w₀ f = refl
-      last false false true e o w w₀ f = refl
-      last false false false true o w w₀ f = refl
-      last false false false false true w w₀ f = refl
-      last false false false false false w w₀ f = ap (λ (c : Bool). cond c 16 0) (f refl refl refl)
-  told-judge n i notes bytes b (Single (Write u s)) = refl
-  told-judge n i notes bytes b (Single (Drop u)) = refl
-  told-judge n i notes bytes b (Group names) = refl
+      last : (x d j p e h o w w₀ : Bool) → (x ≡ false → e ≡ false → o ≡ false → w ≡ w₀)
+          → _≡_ {A = ℕ} (cond (x || false) 1 (cond d 2 (cond j 3 (cond p 4 (cond e 5 (cond h 17 (cond o 6 (cond w 16 0)))))))) (cond (x || false) 1 (cond d 2 (cond j 3 (cond p 4 (cond e 5 (cond h 17 (cond o 6 (cond w₀ 16 0))))))))
+      last true d j p e h o w w₀ f = refl
+      last false d j p true h o w w₀ f = refl
+      last false d j p false h true w w₀ f = refl
+      last false d j p false h false w w₀ f = ap (λ (c : Bool). cond d 2 (cond j 3 (cond p 4 (cond h 17 (cond c 16 0))))) (f refl refl refl)
+  told-judge n i notes bytes b (Single by (Write u s)) = refl
+  told-judge n i notes bytes b (Single by (Drop u)) = refl
+  told-judge n i notes bytes b (Group by names) = refl
 
   module _ (n : ℕ) (h : State) (H : History.History) (m : Match n h H) (q : Request) where
     pub same-judge : judge (view h) q ≡ judge (History.view sheet n (H .notes) (H .count)) q

@@ -15,30 +15,30 @@ use Rattle.model.proofs.Judged.{counted-issued}
 
 same-judge : (v : View) (q : Request) → judge v (rightlyNamed (v .issued) q) ≡ judge v (unnamed q)
 unfolding judge refusals rightlyNamed unnamed
-same-judge v (Single (Create w s r)) = rw (eq-eqb (suc (v .issued)) (suc (v .issued)) refl)
-same-judge v (Single (Borrow w u s r)) = rw (eq-eqb (suc (v .issued)) (suc (v .issued)) refl)
-same-judge v (Single (Read u s)) = refl
-same-judge v (Single (Write u s)) = refl
-same-judge v (Single (Drop u)) = refl
-same-judge v (Group names) = refl
+same-judge v (Single by (Create w s r)) = rw (eq-eqb (suc (v .issued)) (suc (v .issued)) refl)
+same-judge v (Single by (Borrow w u s r)) = rw (eq-eqb (suc (v .issued)) (suc (v .issued)) refl)
+same-judge v (Single by (Read u s)) = refl
+same-judge v (Single by (Write u s)) = refl
+same-judge v (Single by (Drop u)) = refl
+same-judge v (Group by names) = refl
 
 pub same-answer : (h : State) (q : Request) → answer h (rightlyNamed (h .tally .issued) q) ≡ answer h (unnamed q)
 unfolding answer rightlyNamed unnamed
-same-answer h (Single (Create w s r)) = rw (same-judge (view h) (Single (Create w s r)))
-same-answer h (Single (Borrow w u s r)) = rw (same-judge (view h) (Single (Borrow w u s r)))
-same-answer h (Single (Read u s)) = refl
-same-answer h (Single (Write u s)) = refl
-same-answer h (Single (Drop u)) = refl
-same-answer h (Group names) = refl
+same-answer h (Single by (Create w s r)) = rw (same-judge (view h) (Single by (Create w s r)))
+same-answer h (Single by (Borrow w u s r)) = rw (same-judge (view h) (Single by (Borrow w u s r)))
+same-answer h (Single by (Read u s)) = refl
+same-answer h (Single by (Write u s)) = refl
+same-answer h (Single by (Drop u)) = refl
+same-answer h (Group by names) = refl
 
 same-outcome : (sheet : Sheet) (k : ℕ) (h : State) (q : Request) → outcome sheet k h (rightlyNamed (h .tally .issued) q) ≡ outcome sheet k h (unnamed q)
 unfolding rowsAfter bitsAfter rightlyNamed unnamed
-same-outcome sheet zero h (Single (Create w s r)) = refl
-same-outcome sheet zero h (Single (Borrow w u s r)) = refl
-same-outcome sheet zero h (Single (Read u s)) = refl
-same-outcome sheet zero h (Single (Write u s)) = refl
-same-outcome sheet zero h (Single (Drop u)) = refl
-same-outcome sheet zero h (Group names) = refl
+same-outcome sheet zero h (Single by (Create w s r)) = refl
+same-outcome sheet zero h (Single by (Borrow w u s r)) = refl
+same-outcome sheet zero h (Single by (Read u s)) = refl
+same-outcome sheet zero h (Single by (Write u s)) = refl
+same-outcome sheet zero h (Single by (Drop u)) = refl
+same-outcome sheet zero h (Group by names) = refl
 same-outcome sheet (suc zero) h q = refl
 same-outcome sheet (suc (suc k)) h q = refl
 
@@ -48,12 +48,12 @@ same-after sheet h q = rw (same-judge (view h) q) (same-outcome sheet (judge (vi
 
 same-issued : (i : ℕ) (q : Request) → issuedAfter i (unnamed q) ≡ issuedAfter i q
 unfolding unnamed
-same-issued i (Single (Create w s r)) = refl
-same-issued i (Single (Borrow w u s r)) = refl
-same-issued i (Single (Read u s)) = refl
-same-issued i (Single (Write u s)) = refl
-same-issued i (Single (Drop u)) = refl
-same-issued i (Group names) = refl
+same-issued i (Single by (Create w s r)) = refl
+same-issued i (Single by (Borrow w u s r)) = refl
+same-issued i (Single by (Read u s)) = refl
+same-issued i (Single by (Write u s)) = refl
+same-issued i (Single by (Drop u)) = refl
+same-issued i (Group by names) = refl
 
 -- the issued number after an allowed request, whether it writes its name or not
 pub issued-allowed : (sheet : Sheet) (h : State) (q : Request) → answer h (unnamed q) .refusal ≡ 0 → after sheet h (unnamed q) .tally .issued ≡ issuedAfter (h .tally .issued) q

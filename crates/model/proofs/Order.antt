@@ -7,7 +7,7 @@ use mathlib.Core.List.{List, [], _∷_, _++_, map, reverse, reverse-cons, append
 use Prim.Native.Nat.{ℕ, zero, suc, _+_, _-_, _<_, _≤_}
 use native.Mathlib.Omega.{arith}
 use lib.Dec.{eqb, leb, ltb}
-use lib.ListN.{length, replicate, length-replicate}
+use lib.ListN.{length, getD, replicate, length-replicate}
 use borrow.Author.Tests.{eqb-true, eq-eqb, ne-eqb, eqb-false, leb-true, leb-false, le-leb, ltb-true, ltb-false, lt-ltb, not-true, not-false}
 use Rattle.model.specs.declared.Name.{Name}
 use Rattle.model.specs.declared.Span.{Span}
@@ -16,7 +16,7 @@ use Rattle.model.specs.declared.Tally.{Tally}
 use Rattle.model.specs.declared.Terms.{Terms}
 use Rattle.model.specs.declared.NewName.{NewName}
 use Rattle.model.specs.declared.Event.the-variants.{Create, Borrow, Read, Write, Drop}
-use Rattle.model.specs.Requests.{Request, Single, Group}
+use Rattle.model.specs.Requests.{Limits, Unlimited, Limited, Caller, Request, Single, Group, callerOf}
 use Rattle.model.specs.declared.Effect.{Effect}
 use Rattle.model.specs.declared.Sheet.{Sheet}
 use Rattle.model.specs.Lists.{consIf, filter, any, all, final}
@@ -26,7 +26,7 @@ use Rattle.model.specs.Values.{end, legal, inside}
 use Rattle.model.specs.Derivation.{Derivation, ancestry, inSubtree, onAncestry}
 use Rattle.model.specs.Strike.{isLower, isEnd, strike, reached, struck}
 use Rattle.model.specs.Step.{State, view}
-use Rattle.model.specs.Table.{row, emptyRow, span, derivation, derivations, named, liveRows, lentTable, lookup, isEmptyRow, liveRowsFirst, isRight, isKind, isMark, isMarked, termsInOrder, rowFitsParent, parentInOrder, rowInOrder, rowsInOrder, inOrder}
+use Rattle.model.specs.Table.{row, emptyRow, span, derivation, derivations, named, liveRows, lentTable, lookup, isEmptyRow, liveRowsFirst, isRight, isKind, isMark, isMarked, isDomain, holds, termsInOrder, rowFitsParent, parentInOrder, rowInOrder, rowsInOrder, inOrder}
 use Rattle.model.specs.Refusals.{View, unfit, refusals, judge}
 use Rattle.model.specs.Effects.{lowered, revoke, afterAccess, inSubtrees, rowsWithout, root, child, rowsAfter, issuedAfter}
 use Rattle.model.specs.Table
@@ -35,9 +35,11 @@ use Rattle.model.specs.Effects
 use Rattle.model.specs.Counts
 use Rattle.model.specs.Step
 use Rattle.model.proofs.Lists.{All, All-map, All-of, All-sub, All-mapped, All-unmap, test, clash, unless, passes, and-both, or-neither, filter-reverse, filter-none, any-map, any-or, any-kept}
+use Rattle.model.specs.Limits.{made, sum, exceeds, refusedSheet, noRow, limitReached}
+use Rattle.model.proofs.Limits.{made-revoke, exceeds-fewer, exceeds-new, fewer-than-limits}
 use Rattle.model.proofs.Ancestries.{Falling, ancestry-step}
-use Rattle.model.proofs.Lent.{Named, live-lent, length-lent, lookup-found, lookup-named}
-use Rattle.model.proofs.Judged.{allowed, root-given, child-given, length-live, access-fits, next-fits, counted-issued, fit-order, fit-size, fit-both}
+use Rattle.model.proofs.Lent.{Named, live-lent, length-lent, lookup-kept, lookup-found, lookup-named}
+use Rattle.model.proofs.Judged.{allowed, root-given, child-given, length-live, sheet-allowed, revoke-fits, access-fits, counted-issued, fit-order, fit-size, fit-sheet, fit-all}
 use Rattle.model.proofs.Bits.{length-after}
 
 -- ---- the lent table is arranged
@@ -126,12 +128,18 @@ terms-given bound (c ∷ rows) h = let r = rises bound c rows h in (place c rows
 
 -- what a row's terms say
 pub record Fitting (d : Derivation) : Type 0 where
+  pub has-domain : isDomain (d .maker) ≡ true
+  pub has-holder : holds d (d .maker) ≡ true
   pub has-mark : isMark (d .fresh) ≡ true
   pub is-low : not (isMarked d) || leb (end (d .span)) 65536 ≡ true
 
 pub fitting : (d : Derivation) → termsInOrder d ≡ true → Fitting d
 unfolding termsInOrder
-fitting d h = let p = and-both (isMark (d .fresh)) (not (isMarked d) || leb (end (d .span)) 65536) h in record { has-mark = p .0; is-low = p .1 }
+fitting d h =
+    let p = and-both (isDomain (d .maker)) (holds d (d .maker) && (isMark (d .fresh) && (not (isMarked d) || leb (end (d .span)) 65536))) h in
+    let q = and-both (holds d (d .maker)) (isMark (d .fresh) && (not (isMarked d) || leb (end (d .span)) 65536)) (p .1) in
+    let r = and-both (isMark (d .fresh)) (not (isMarked d) || leb (end (d .span)) 65536) (q .1) in
+    record { has-domain = p .0; has-holder = q .0; has-mark = r .0; is-low = r .1 }
 
 -- a marked row ends at 65,536 or below
 pub marked-low : (d : Derivation) → termsInOrder d ≡ true → isMarked d ≡ true → end (d .span) ≤ 65536
@@ -161,14 +169,14 @@ rowsInOrder-falling bound (c ∷ rows) n h =
 
 -- ---- what takes an ancestor takes its descendants
 
-abbrev Spreads : (ℕ → Bool) → List Cap → Type 0
+abbrev pub Spreads : (ℕ → Bool) → List Cap → Type 0
 Spreads hit rows = All (λ c. hit (c .parent .0) ≡ true → hit (c .name .0) ≡ true) rows
 
 module _ (bound : ℕ) (rows : List Cap) (n : Named rows) (h : rowsInOrder bound rows ≡ true) where
   pub steps : All (λ c. ancestry (derivations rows) (c .name .0) ≡ derivation c ∷ ancestry (derivations rows) (c .parent .0)) rows
   steps = All-unmap derivation (λ b. ancestry (derivations rows) (b .name) ≡ b ∷ ancestry (derivations rows) (b .parent)) rows (All-map _ _ (λ b s. s .2) (derivations rows) (ancestry-step bound (derivations rows) (rowsInOrder-falling bound rows n h)))
 
-  struck-spreads : (sheet : Sheet) (is : Effect → Bool) (a : Access) (u : ℕ) (s : Span) → Spreads (struck sheet is a (derivations rows) u s) rows
+  pub struck-spreads : (sheet : Sheet) (is : Effect → Bool) (a : Access) (u : ℕ) (s : Span) → Spreads (struck sheet is a (derivations rows) u s) rows
   unfolding struck reached onAncestry
   struck-spreads sheet is a u s = All-map _ _ (λ c e t. rw e (rw t (or-true (is (strike sheet a s (ancestry (derivations rows) u) (derivation c ∷ ancestry (derivations rows) (c .parent .0))))))) rows steps
 
@@ -177,44 +185,47 @@ module _ (bound : ℕ) (rows : List Cap) (n : Named rows) (h : rowsInOrder bound
       → All (λ c. inSubtrees names (ancestry (derivations rows) (c .name .0)) ≡ any (λ u. eqb u (c .name .0)) names || inSubtrees names (ancestry (derivations rows) (c .parent .0))) rows
   group-step names = All-map _ _ (λ c e. rw e (any-or (λ u. eqb u (c .name .0)) (λ u. inSubtree u (ancestry (derivations rows) (c .parent .0))) names)) rows steps
 
-  dropped-spreads : (names : List ℕ) → Spreads (λ x. inSubtrees names (ancestry (derivations rows) x)) rows
+  pub dropped-spreads : (names : List ℕ) → Spreads (λ x. inSubtrees names (ancestry (derivations rows) x)) rows
   dropped-spreads names = All-map _ _ (λ c e t. rw e (rw t (or-true (any (λ u. eqb u (c .name .0)) names)))) rows (group-step names)
 
--- ---- rows taken away with all below them
+-- ---- rows kept with all above them
 
+module _ (k : ℕ → Bool) where
+  rowInOrder-kept : (c : Cap) (earlier : List Cap) → eqb (c .parent .0) 0 || k (c .parent .0) ≡ true → rowInOrder c (filter (λ c. k (c .name .0)) earlier) ≡ rowInOrder c earlier
+  unfolding rowInOrder parentInOrder
+  rowInOrder-kept c earlier h = go (test (eqb (c .parent .0) 0))
+    where
+      go : (eqb (c .parent .0) 0 ≡ true) ⊎ (eqb (c .parent .0) 0 ≡ false) → rowInOrder c (filter (λ c. k (c .name .0)) earlier) ≡ rowInOrder c earlier
+      go (inl t) = rw t
+      go (inr f) = let p : k (c .parent .0) ≡ true = rw f at h in rw (any-kept (λ c. c .name .0) k (c .parent .0) p earlier, lookup-kept k (c .parent .0) p earlier)
+
+  pub rowsInOrder-kept : (bound : ℕ) (rows : List Cap) → All (λ c. k (c .name .0) ≡ true → eqb (c .parent .0) 0 || k (c .parent .0) ≡ true) rows → rowsInOrder bound rows ≡ true → rowsInOrder bound (filter (λ c. k (c .name .0)) rows) ≡ true
+  unfolding rowsInOrder
+  rowsInOrder-kept bound [] a h = refl
+  rowsInOrder-kept bound (c ∷ rows) a h = go (test (k (c .name .0))) (rowsInOrder-kept (c .name .0) rows (a .1) (rises bound c rows h .rest))
+    where
+      kept : List Cap
+      kept = filter (λ c. k (c .name .0)) rows
+
+      go : (k (c .name .0) ≡ true) ⊎ (k (c .name .0) ≡ false) → rowsInOrder (c .name .0) kept ≡ true → rowsInOrder bound (consIf (k (c .name .0)) c kept) ≡ true
+      go (inl t) ih =
+          let r = rises bound c rows h in
+          rw t (risen bound c kept (record { below-bound = r .below-bound; in-place = rowInOrder-kept c rows (a .0 t) ∙ r .in-place; rest = ih }))
+      go (inr f) ih = rw f (rowsInOrder-wider (c .name .0) bound kept (omega (arith, rises bound c rows h .below-bound)) ih)
+
+-- rows taken away with all below them
 module _ (hit : ℕ → Bool) where
   abbrev left : Cap → Bool
   left c = not (hit (c .name .0))
 
   pub lookup-left : (x : ℕ) → hit x ≡ false → (rows : List Cap) → lookup x (filter left rows) ≡ lookup x rows
-  unfolding lookup
-  lookup-left x h [] = refl
-  lookup-left x h (c ∷ rows) = go (test (named x c)) (test (hit (c .name .0))) (lookup-left x h rows)
-    where
-      go : (named x c ≡ true) ⊎ (named x c ≡ false) → (hit (c .name .0) ≡ true) ⊎ (hit (c .name .0) ≡ false) → lookup x (filter left rows) ≡ lookup x rows
-          → lookup x (consIf (not (hit (c .name .0))) c (filter left rows)) ≡ cond (named x c) c (lookup x rows)
-      go (inl e) (inl t) ih = clash t (ap hit (sym (eqb-true x (c .name .0) e)) ∙ h)
-      go (inr e) (inl t) ih = rw (t, e) ih
-      go (inl e) (inr f) ih = rw (f, e)
-      go (inr e) (inr f) ih = rw (f, e) ih
+  lookup-left x h = lookup-kept (λ x. not (hit x)) x (ap not h)
 
-  rowInOrder-left : (c : Cap) (earlier : List Cap) → hit (c .parent .0) ≡ false → rowInOrder c (filter left earlier) ≡ rowInOrder c earlier
-  unfolding rowInOrder parentInOrder
-  rowInOrder-left c earlier h = rw (any-kept (λ c. c .name .0) (λ x. not (hit x)) (c .parent .0) (ap not h) earlier, lookup-left (c .parent .0) h earlier)
+  pub spreads-kept : (rows : List Cap) → Spreads hit rows → All (λ c. not (hit (c .name .0)) ≡ true → eqb (c .parent .0) 0 || not (hit (c .parent .0)) ≡ true) rows
+  spreads-kept rows s = All-map _ _ (λ c up t. rw (unless (hit (c .parent .0)) (λ e. clash (up e) (not-true (hit (c .name .0)) t))) (or-true (eqb (c .parent .0) 0))) rows s
 
   rowsInOrder-left : (bound : ℕ) (rows : List Cap) → Spreads hit rows → rowsInOrder bound rows ≡ true → rowsInOrder bound (filter left rows) ≡ true
-  unfolding rowsInOrder
-  rowsInOrder-left bound [] s h = refl
-  rowsInOrder-left bound (c ∷ rows) s h = go (test (hit (c .name .0))) (rowsInOrder-left (c .name .0) rows (s .1) (rises bound c rows h .rest))
-    where
-      go : (hit (c .name .0) ≡ true) ⊎ (hit (c .name .0) ≡ false) → rowsInOrder (c .name .0) (filter left rows) ≡ true → rowsInOrder bound (consIf (not (hit (c .name .0))) c (filter left rows)) ≡ true
-      go (inl t) ih = rw t (rowsInOrder-wider (c .name .0) bound (filter left rows) (omega (arith, rises bound c rows h .below-bound)) ih)
-      go (inr f) ih =
-          let r = rises bound c rows h in
-          rw f (risen bound c (filter left rows) (record { below-bound = r .below-bound; in-place = rowInOrder-left c rows (unhit (s .0) f) ∙ r .in-place; rest = ih }))
-        where
-          unhit : (hit (c .parent .0) ≡ true → hit (c .name .0) ≡ true) → hit (c .name .0) ≡ false → hit (c .parent .0) ≡ false
-          unhit up f = unless (hit (c .parent .0)) (λ t. clash (up t) f)
+  rowsInOrder-left bound rows s = rowsInOrder-kept (λ x. not (hit x)) bound rows (spreads-kept rows s)
 
 -- ---- rows lowered with all below them
 
@@ -322,48 +333,50 @@ module _ (sheet : Sheet) (v : View) (o : Ordered (v .table) (v .issued)) where
   abbrev i : ℕ
   i = v .issued
 
-  next-named : (q : Request) → Named (rowsAfter sheet i (liveRows t) q)
+  pub next-named : (q : Request) → Named (rowsAfter sheet i (liveRows t) q)
   unfolding rowsAfter rowsWithout
-  next-named (Single (Create w s r)) = (ne-eqb 0 (suc i) (λ (q : 0 ≡ suc i). omega arith), access-named sheet (liveRows t) (live-named t) Writing (suc i) s)
-  next-named (Single (Borrow w u s r)) = (ne-eqb 0 (suc i) (λ (q : 0 ≡ suc i). omega arith), live-named t)
-  next-named (Single (Read u s)) = access-named sheet (liveRows t) (live-named t) Reading (u .0) s
-  next-named (Single (Write u s)) = access-named sheet (liveRows t) (live-named t) Writing (u .0) s
-  next-named (Single (Drop u)) = revoke-named _ _ (liveRows t) (live-named t)
-  next-named (Group names) = revoke-named _ _ (liveRows t) (live-named t)
+  next-named (Single by (Create w s r)) = (ne-eqb 0 (suc i) (λ (q : 0 ≡ suc i). omega arith), access-named sheet (liveRows t) (live-named t) Writing (suc i) s)
+  next-named (Single by (Borrow w u s r)) = (ne-eqb 0 (suc i) (λ (q : 0 ≡ suc i). omega arith), live-named t)
+  next-named (Single by (Read u s)) = access-named sheet (liveRows t) (live-named t) Reading (u .0) s
+  next-named (Single by (Write u s)) = access-named sheet (liveRows t) (live-named t) Writing (u .0) s
+  next-named (Single by (Drop u)) = revoke-named _ _ (liveRows t) (live-named t)
+  next-named (Group by names) = revoke-named _ _ (liveRows t) (live-named t)
 
-  names-enough : (q : Request) → judge v q ≡ 0 → leb (issuedAfter i q) 1000000 ≡ true
+  pub names-enough : (q : Request) → judge v q ≡ 0 → leb (issuedAfter i q) 1000000 ≡ true
   unfolding refusals
-  names-enough (Single (Create w s r)) h = le-leb (suc i) 1000000 (leb-false 1000000 i (allowed v (Single (Create w s r)) h 9))
-  names-enough (Single (Borrow w u s r)) h = le-leb (suc i) 1000000 (leb-false 1000000 i (allowed v (Single (Borrow w u s r)) h 9))
-  names-enough (Single (Read u s)) h = o .names-left
-  names-enough (Single (Write u s)) h = o .names-left
-  names-enough (Single (Drop u)) h = o .names-left
-  names-enough (Group names) h = o .names-left
+  names-enough (Single by (Create w s r)) h = le-leb (suc i) 1000000 (leb-false 1000000 i (allowed v (Single by (Create w s r)) h 9))
+  names-enough (Single by (Borrow w u s r)) h = le-leb (suc i) 1000000 (leb-false 1000000 i (allowed v (Single by (Borrow w u s r)) h 9))
+  names-enough (Single by (Read u s)) h = o .names-left
+  names-enough (Single by (Write u s)) h = o .names-left
+  names-enough (Single by (Drop u)) h = o .names-left
+  names-enough (Group by names) h = o .names-left
 
-  rowInOrder-root : (w : NewName) (s : Span) (r : Terms) → judge v (Single (Create w s r)) ≡ 0 → (earlier : List Cap) → rowInOrder (row (root i s r) (r .right) 1) earlier ≡ true
+  rowInOrder-root : (by : Caller) (w : NewName) (s : Span) (r : Terms) → judge v (Single by (Create w s r)) ≡ 0 → (earlier : List Cap) → rowInOrder (row (root by i s r) (r .right) 1) earlier ≡ true
   unfolding rowInOrder parentInOrder termsInOrder refusals
-  rowInOrder-root w s r h earlier =
-      let p = allowed v (Single (Create w s r)) h in
-      let made = root-given v w s r h in
+  rowInOrder-root by w s r h earlier =
+      let p = allowed v (Single by (Create w s r)) h in
+      let made = root-given v by w s r h in
       let placed = or-neither (not (legal s)) (eqb (r .fresh) 1 && ltb 65536 (end s)) (p 3) in
-      rw (not-false (legal s) (placed .0), made .right, made .fresh, low (eqb (r .fresh) 1) (end s) (placed .1))
+      rw (not-false (legal s) (placed .0), made .0 .right, made .0 .domain, made .0 .holder, made .1, low (eqb (r .fresh) 1) (end s) (placed .1))
     where
       low : (m : Bool) (x : ℕ) → m && ltb 65536 x ≡ false → not m || leb x 65536 ≡ true
       low true x h = le-leb x 65536 (ltb-false 65536 x h)
       low false x h = refl
 
-  rowInOrder-child : (w : NewName) (u : Name) (s : Span) (r : Terms) → judge v (Single (Borrow w u s r)) ≡ 0 → rowInOrder (row (child i u (lookup (u .0) (liveRows t) .fresh) s r) (r .right) (suc (lookup (u .0) (liveRows t) .depth))) (liveRows t) ≡ true
+  rowInOrder-child : (by : Caller) (w : NewName) (u : Name) (s : Span) (r : Terms) → judge v (Single by (Borrow w u s r)) ≡ 0 → rowInOrder (row (child by i u (lookup (u .0) (liveRows t) .fresh) s r) (r .right) (suc (lookup (u .0) (liveRows t) .depth))) (liveRows t) ≡ true
   unfolding rowInOrder parentInOrder rowFitsParent termsInOrder refusals
-  rowInOrder-child w u s r h =
-      let p = allowed v (Single (Borrow w u s r)) h in
+  rowInOrder-child by w u s r h =
+      let p = allowed v (Single by (Borrow w u s r)) h in
       let c : Cap = lookup (u .0) (liveRows t) in
-      let made = child-given v w u s r h in
+      let made = child-given v by w s r u h in
       let parent = fitting (derivation c) (lookup-found (λ c. termsInOrder (derivation c) ≡ true) (u .0) (liveRows t) (not-false (any (named (u .0)) (liveRows t)) (p 5)) (terms-given (suc i) (liveRows t) (o .rise))) in
       let ends = and-both (leb (c .start .0) (s .start .0)) (leb (end s) (end (span c))) (not-false (inside s (span c)) (p 6)) in
       rw (
         not-false (legal s) (p 3),
-        made .right,
-        made .kind,
+        made .0 .right,
+        made .1,
+        made .0 .domain,
+        made .0 .holder,
         parent .has-mark,
         lower-end (isMarked (derivation c)) (end s) (end (span c)) (leb-true (end s) (end (span c)) (ends .1)) (parent .is-low),
         eq-eqb (c .fresh) (c .fresh) refl,
@@ -386,17 +399,78 @@ module _ (sheet : Sheet) (v : View) (o : Ordered (v .table) (v .issued)) where
   unfolding rowsWithout
   without-rowsInOrder names = revoke-rowsInOrder _ _ (suc i) (liveRows t) (dropped-spreads (suc i) (liveRows t) (live-named t) (o .rise) names) (All-of _ (λ c e. e) (liveRows t)) (o .rise)
 
-  next-rowsInOrder : (q : Request) → judge v q ≡ 0 → rowsInOrder (suc (issuedAfter i q)) (rowsAfter sheet i (liveRows t) q) ≡ true
+  pub next-rowsInOrder : (q : Request) → judge v q ≡ 0 → rowsInOrder (suc (issuedAfter i q)) (rowsAfter sheet i (liveRows t) q) ≡ true
   unfolding rowsAfter refusals
-  next-rowsInOrder (Single (Create w s r)) h =
+  next-rowsInOrder (Single by (Create w s r)) h =
       let left : List Cap = afterAccess sheet Writing (suc i) s (liveRows t) in
-      risen (suc (suc i)) (row (root i s r) (r .right) 1) left (record { below-bound = omega arith; in-place = rowInOrder-root w s r h left; rest = used-rowsInOrder Writing (suc i) s })
-  next-rowsInOrder (Single (Borrow w u s r)) h =
-      risen (suc (suc i)) (row (child i u (lookup (u .0) (liveRows t) .fresh) s r) (r .right) (suc (lookup (u .0) (liveRows t) .depth))) (liveRows t) (record { below-bound = omega arith; in-place = rowInOrder-child w u s r h; rest = o .rise })
-  next-rowsInOrder (Single (Read u s)) h = used-rowsInOrder Reading (u .0) s
-  next-rowsInOrder (Single (Write u s)) h = used-rowsInOrder Writing (u .0) s
-  next-rowsInOrder (Single (Drop u)) h = without-rowsInOrder (u .0 ∷ [])
-  next-rowsInOrder (Group names) h = without-rowsInOrder names
+      risen (suc (suc i)) (row (root by i s r) (r .right) 1) left (record { below-bound = omega arith; in-place = rowInOrder-root by w s r h left; rest = used-rowsInOrder Writing (suc i) s })
+  next-rowsInOrder (Single by (Borrow w u s r)) h =
+      risen (suc (suc i)) (row (child by i u (lookup (u .0) (liveRows t) .fresh) s r) (r .right) (suc (lookup (u .0) (liveRows t) .depth))) (liveRows t) (record { below-bound = omega arith; in-place = rowInOrder-child by w u s r h; rest = o .rise })
+  next-rowsInOrder (Single by (Read u s)) h = used-rowsInOrder Reading (u .0) s
+  next-rowsInOrder (Single by (Write u s)) h = used-rowsInOrder Writing (u .0) s
+  next-rowsInOrder (Single by (Drop u)) h = without-rowsInOrder (u .0 ∷ [])
+  next-rowsInOrder (Group by names) h = without-rowsInOrder names
+
+  -- a new row over what is left of the rows fits: by an empty row, or by the limits' sum
+  new-fits : (limits : Limits) (c : Cap) (left : List Cap) → refusedSheet t limits ≡ false → noRow limits (liveRows t) (length t) ≡ false → limitReached limits (liveRows t) (c .maker) ≡ false
+      → ((d : ℕ) → made d left ≤ made d (liveRows t)) → length left ≤ length (liveRows t) → All (λ c. termsInOrder (derivation c) ≡ true) (c ∷ left) → length (c ∷ left) ≤ length t
+  unfolding refusedSheet noRow limitReached
+  new-fits Unlimited c left r n l f k a = omega (arith, k, leb-false (length t) (length (liveRows t)) n)
+  new-fits (Limited sheet) c left r n l f k a =
+      let p = or-neither (not (eqb (length sheet) 64)) (ltb (length t) (sum sheet) || exceeds 0 (liveRows t) sheet) r in
+      let q = or-neither (ltb (length t) (sum sheet)) (exceeds 0 (liveRows t) sheet) (p .1) in
+      omega (
+        arith,
+        ltb-false (length t) (sum sheet) (q .0),
+        fewer-than-limits sheet 0 (c ∷ left) (All-map _ _ (domain (eqb-true (length sheet) 64 (not-false (eqb (length sheet) 64) (p .0)))) (c ∷ left) a)
+            (exceeds-new c left 0 (c .maker) sheet (omega arith) (omega (arith, f (c .maker), leb-false (getD sheet (c .maker) 0) (made (c .maker) (liveRows t)) l)) (exceeds-fewer (liveRows t) left f 0 sheet (q .1))),
+      )
+    where
+      domain : length sheet ≡ 64 → (c : Cap) → termsInOrder (derivation c) ≡ true → (0 ≤ c .maker) × (c .maker < 0 + length sheet)
+      domain e c h = let l = ltb-true (c .maker) 64 (fitting (derivation c) h .has-domain) in (omega arith, omega arith)
+
+  pub next-fits : (q : Request) → judge v q ≡ 0 → length (rowsAfter sheet i (liveRows t) q) ≤ length t
+  unfolding rowsAfter afterAccess rowsWithout refusals
+  next-fits (Single by (Create w s r)) h =
+      new-fits (by .limits) (row (root by i s r) (r .right) 1) (afterAccess sheet Writing (suc i) s (liveRows t)) (sheet-allowed v (Single by (Create w s r)) h) (allowed v (Single by (Create w s r)) h 10) (allowed v (Single by (Create w s r)) h 18)
+      (λ d. made-revoke d _ _ (liveRows t)) (access-fits sheet Writing (suc i) s (liveRows t)) (terms-given (suc (suc i)) (row (root by i s r) (r .right) 1 ∷ afterAccess sheet Writing (suc i) s (liveRows t)) (next-rowsInOrder (Single by (Create w s r)) h))
+  next-fits (Single by (Borrow w u s r)) h =
+      let c : Cap = row (child by i u (lookup (u .0) (liveRows t) .fresh) s r) (r .right) (suc (lookup (u .0) (liveRows t) .depth)) in
+      new-fits (by .limits) c (liveRows t) (sheet-allowed v (Single by (Borrow w u s r)) h) (allowed v (Single by (Borrow w u s r)) h 10) (allowed v (Single by (Borrow w u s r)) h 18)
+      (λ d. omega arith) (omega arith) (terms-given (suc (suc i)) (c ∷ liveRows t) (next-rowsInOrder (Single by (Borrow w u s r)) h))
+  next-fits (Single by (Read u s)) h = revoke-fits _ _ (liveRows t) (length t) (length-live t)
+  next-fits (Single by (Write u s)) h = revoke-fits _ _ (liveRows t) (length t) (length-live t)
+  next-fits (Single by (Drop u)) h = revoke-fits _ _ (liveRows t) (length t) (length-live t)
+  next-fits (Group by names) h = revoke-fits _ _ (liveRows t) (length t) (length-live t)
+
+  -- an allowed request keeps the rows within the sheet of limits that is lent with it
+  pub exceeds-next : (limits : List ℕ) (q : Request) → callerOf q .limits ≡ Limited limits → judge v q ≡ 0 → exceeds 0 (liveRows t) limits ≡ false → exceeds 0 (rowsAfter sheet i (liveRows t) q) limits ≡ false
+  unfolding rowsAfter afterAccess rowsWithout refusals limitReached
+  exceeds-next limits (Single by (Create w s r)) l z x =
+      let reached : leb (getD limits (by .actor) 0) (made (by .actor) (liveRows t)) ≡ false = rw l at (allowed v (Single by (Create w s r)) z 18) in
+      let left : List Cap = afterAccess sheet Writing (suc i) s (liveRows t) in
+      let fewer : (d : ℕ) → made d left ≤ made d (liveRows t) = λ d. made-revoke d _ _ (liveRows t) in
+      exceeds-new (row (root by i s r) (r .right) 1) left 0 (by .actor) limits (omega arith) (omega (arith, fewer (by .actor), leb-false (getD limits (by .actor) 0) (made (by .actor) (liveRows t)) reached))
+      (exceeds-fewer (liveRows t) left fewer 0 limits x)
+  exceeds-next limits (Single by (Borrow w u s r)) l z x =
+      let reached : leb (getD limits (by .actor) 0) (made (by .actor) (liveRows t)) ≡ false = rw l at (allowed v (Single by (Borrow w u s r)) z 18) in
+      exceeds-new (row (child by i u (lookup (u .0) (liveRows t) .fresh) s r) (r .right) (suc (lookup (u .0) (liveRows t) .depth))) (liveRows t) 0 (by .actor) limits (omega arith)
+      (leb-false (getD limits (by .actor) 0) (made (by .actor) (liveRows t)) reached) x
+  exceeds-next limits (Single by (Read u s)) l z x = exceeds-fewer (liveRows t) (afterAccess sheet Reading (u .0) s (liveRows t)) (λ d. made-revoke d _ _ (liveRows t)) 0 limits x
+  exceeds-next limits (Single by (Write u s)) l z x = exceeds-fewer (liveRows t) (afterAccess sheet Writing (u .0) s (liveRows t)) (λ d. made-revoke d _ _ (liveRows t)) 0 limits x
+  exceeds-next limits (Single by (Drop u)) l z x = exceeds-fewer (liveRows t) (rowsWithout (u .0 ∷ []) (liveRows t)) (λ d. made-revoke d _ _ (liveRows t)) 0 limits x
+  exceeds-next limits (Group by names) l z x = exceeds-fewer (liveRows t) (rowsWithout names (liveRows t)) (λ d. made-revoke d _ _ (liveRows t)) 0 limits x
+
+  pub sheet-next : (q : Request) → judge v q ≡ 0 → refusedSheet (lentTable (length t) (rowsAfter sheet i (liveRows t) q)) (callerOf q .limits) ≡ false
+  unfolding refusedSheet
+  sheet-next q z = go (callerOf q .limits) refl (sheet-allowed v q z)
+    where
+      go : (limits : Limits) → callerOf q .limits ≡ limits → refusedSheet t limits ≡ false → refusedSheet (lentTable (length t) (rowsAfter sheet i (liveRows t) q)) limits ≡ false
+      go Unlimited l r = refl
+      go (Limited limits) l r =
+          let p = or-neither (not (eqb (length limits) 64)) (ltb (length t) (sum limits) || exceeds 0 (liveRows t) limits) r in
+          let x = or-neither (ltb (length t) (sum limits)) (exceeds 0 (liveRows t) limits) (p .1) in
+          rw (p .0, length-lent (length t) (rowsAfter sheet i (liveRows t) q) (next-fits q z), x .0, live-lent (length t) (rowsAfter sheet i (liveRows t) q) (next-named q)) (exceeds-next limits q l z (x .1))
 
   -- a table as long as this one with rows that fit and rise
   lent-inOrder : (rows : List Cap) (j : ℕ) → length rows ≤ length t → Named rows → leb j 1000000 ≡ true → rowsInOrder (suc j) rows ≡ true → inOrder (lentTable (length t) rows) j ≡ true
@@ -404,7 +478,7 @@ module _ (sheet : Sheet) (v : View) (o : Ordered (v .table) (v .issued)) where
   lent-inOrder rows j l n b h = rw (length-lent (length t) rows l, o .few, liveRowsFirst-lent (length t) rows n, b, live-lent (length t) rows n) h
 
   pub order-next : (q : Request) → judge v q ≡ 0 → inOrder (lentTable (length t) (rowsAfter sheet i (liveRows t) q)) (issuedAfter i q) ≡ true
-  order-next q h = lent-inOrder (rowsAfter sheet i (liveRows t) q) (issuedAfter i q) (next-fits sheet v q h) (next-named q) (names-enough q h) (next-rowsInOrder q h)
+  order-next q h = lent-inOrder (rowsAfter sheet i (liveRows t) q) (issuedAfter i q) (next-fits q h) (next-named q) (names-enough q h) (next-rowsInOrder q h)
 
   -- an access through any name leaves a table in order; so does the half of a create that takes rows away
   pub access-inOrder : (a : Access) (u : ℕ) (s : Span) → inOrder (lentTable (length t) (afterAccess sheet a u s (liveRows t))) i ≡ true
@@ -433,11 +507,22 @@ size-after sheet h q = go (judge (view h) q)
     go (suc zero) = refl
     go (suc (suc j)) = refl
 
--- and the order
+-- a sheet of limits that is not refused stays so
+sheet-after : (sheet : Sheet) (h : State) (q : Request) → inOrder (h .memory .table) (h .tally .issued) ≡ true → refusedSheet (h .memory .table) (callerOf q .limits) ≡ false
+    → refusedSheet (Step.after sheet h q .memory .table) (callerOf q .limits) ≡ false
+unfolding Step.after
+sheet-after sheet h q o l = go (judge (view h) q) refl
+  where
+    go : (j : ℕ) → judge (view h) q ≡ j → refusedSheet (Step.outcome sheet j h q .memory .table) (callerOf q .limits) ≡ false
+    go zero z = sheet-next sheet (view h) (ordered (h .memory .table) (h .tally .issued) o) q z
+    go (suc zero) z = l
+    go (suc (suc j)) z = l
 
--- What is fit stays fit.
-pub fit-after : (sheet : Sheet) (h : State) (q : Request) → unfit (view h) ≡ false → unfit (view (Step.after sheet h q)) ≡ false
-fit-after sheet h q f = fit-both (view (Step.after sheet h q)) (order-after sheet h q (fit-order (view h) f)) (size-after sheet h q ∙ fit-size (view h) f)
+-- What is fit, with the sheet of limits that is lent with a request, stays fit with it.
+pub fit-after : (sheet : Sheet) (h : State) (q : Request) → unfit (callerOf q .limits) (view h) ≡ false → unfit (callerOf q .limits) (view (Step.after sheet h q)) ≡ false
+fit-after sheet h q f =
+    let limits = callerOf q .limits in
+    fit-all limits (view (Step.after sheet h q)) (order-after sheet h q (fit-order limits (view h) f)) (sheet-after sheet h q (fit-order limits (view h) f) (fit-sheet limits (view h) f)) (size-after sheet h q ∙ fit-size limits (view h) f)
 
 pub order-final : (sheet : Sheet) (qs : List Request) (h : State) → inOrder (h .memory .table) (h .tally .issued) ≡ true → inOrder (final (Step.after sheet) h qs .memory .table) (final (Step.after sheet) h qs .tally .issued) ≡ true
 order-final sheet [] h o = o

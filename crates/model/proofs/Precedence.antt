@@ -15,9 +15,9 @@ use Rattle.model.specs.declared.Cap.{Cap}
 use Rattle.model.specs.declared.Event.{Event}
 use Rattle.model.specs.declared.Event.the-variants.{Create, Borrow, Read, Write, Drop}
 use Rattle.model.specs.Lists.{filter, any, all, first}
-use Rattle.model.specs.Requests.{Request, Single, Group}
+use Rattle.model.specs.Requests.{Caller, Request, Single, Group}
 use Rattle.model.specs.Table.{liveRows}
-use Rattle.model.specs.Refusals.{View, unfit, misgrouped, standing, standings, precedence, place, refusals, judge}
+use Rattle.model.specs.Refusals.{View, notADomain, unfit, misgrouped, standing, standings, precedence, place, refusals, judge}
 use Rattle.model.proofs.Lists.{listed, first-none, test, clash, and-both, all-append}
 
 -- ---- checks whose places rise, from above a bound
@@ -129,29 +129,29 @@ first-lowest-repeated cs ds j rises some again l = listed-append cs ds j (go (fi
 
 -- ---- the refusals of a request
 
-rising : (v : View) (e : Event) → risesFrom 0 (refusals v (Single e)) ≡ true
+rising : (v : View) (by : Caller) (e : Event) → risesFrom 0 (refusals v (Single by e)) ≡ true
 unfolding refusals
-rising v (Create w s r) = refl
-rising v (Borrow w u s r) = refl
-rising v (Read u s) = refl
-rising v (Write u s) = refl
-rising v (Drop u) = refl
+rising v by (Create w s r) = refl
+rising v by (Borrow w u s r) = refl
+rising v by (Read u s) = refl
+rising v by (Write u s) = refl
+rising v by (Drop u) = refl
 
 -- the checks of the later names of a group repeat the numbers of the first one's
-standings-repeat : (cs : List (ℕ × Bool)) (rows : List Cap) (i : ℕ) (names : List ℕ) → ((u : Name) → all (λ d. isNumber cs (d .0)) (standing rows i u) ≡ true)
-    → all (λ d. isNumber cs (d .0)) (standings rows i names) ≡ true
+standings-repeat : (cs : List (ℕ × Bool)) (rows : List Cap) (i actor : ℕ) (names : List ℕ) → ((u : Name) → all (λ d. isNumber cs (d .0)) (standing rows i actor u) ≡ true)
+    → all (λ d. isNumber cs (d .0)) (standings rows i actor names) ≡ true
 unfolding standings
-standings-repeat cs rows i [] h = refl
-standings-repeat cs rows i (u ∷ names) h =
+standings-repeat cs rows i actor [] h = refl
+standings-repeat cs rows i actor (u ∷ names) h =
     let again : ℕ × Bool → Bool = λ d. isNumber cs (d .0) in
-    all-append again (standing rows i (record { 0 = u })) (standings rows i names)
-    ∙ rw (h (record { 0 = u }), standings-repeat cs rows i names h)
+    all-append again (standing rows i actor (record { 0 = u })) (standings rows i actor names)
+    ∙ rw (h (record { 0 = u }), standings-repeat cs rows i actor names h)
 
 -- A refusal's condition holds: of an event the one that is listed under its number, of a group some one, since 4 and 5 are listed once for
 -- each name.
-pub given-holds : (v : View) (e : Event) (k : ℕ) → judge v (Single e) ≡ suc k → listed (suc k) (refusals v (Single e)) ≡ true
+pub given-holds : (v : View) (by : Caller) (e : Event) (k : ℕ) → judge v (Single by e) ≡ suc k → listed (suc k) (refusals v (Single by e)) ≡ true
 unfolding judge
-given-holds v e k h = first-holds (refusals v (Single e)) 0 k (rising v e) h
+given-holds v by e k h = first-holds (refusals v (Single by e)) 0 k (rising v by e) h
 
 pub given-some : (v : View) (q : Request) (k : ℕ) → judge v q ≡ suc k → any (λ c. eqb (suc k) (c .0) && c .1) (refusals v q) ≡ true
 unfolding judge
@@ -161,11 +161,11 @@ given-some v q k h = first-some (refusals v q) k h
 -- 0 comes after all.
 pub given-first : (v : View) (q : Request) (j : ℕ) → place j < place (judge v q) → listed j (refusals v q) ≡ false
 unfolding judge refusals standings
-given-first v (Single e) j l = first-lowest (refusals v (Single e)) 0 j (rising v e) l
-given-first v (Group []) j l = first-lowest (refusals v (Group [])) 0 j refl l
-given-first v (Group (u ∷ names)) j l =
-    let front : List (ℕ × Bool) = (1, unfit v) ∷ (13, misgrouped (u ∷ names)) ∷ standing (liveRows (v .table)) (v .issued) (record { 0 = u }) in
-    first-lowest-repeated front (standings (liveRows (v .table)) (v .issued) names) j refl refl (standings-repeat front (liveRows (v .table)) (v .issued) names (λ u. refl)) l
+given-first v (Single by e) j l = first-lowest (refusals v (Single by e)) 0 j (rising v by e) l
+given-first v (Group by []) j l = first-lowest (refusals v (Group by [])) 0 j refl l
+given-first v (Group by (u ∷ names)) j l =
+    let front : List (ℕ × Bool) = (1, unfit (by .limits) v) ∷ (13, misgrouped (u ∷ names)) ∷ (2, notADomain (by .actor)) ∷ standing (liveRows (v .table)) (v .issued) (by .actor) (record { 0 = u }) in
+    first-lowest-repeated front (standings (liveRows (v .table)) (v .issued) (by .actor) names) j refl refl (standings-repeat front (liveRows (v .table)) (v .issued) (by .actor) names (λ u. refl)) l
 
 -- ---- the order of precedence, worded again
 
@@ -189,6 +189,13 @@ fourteen-after = (refl, refl)
 pub sixteen-after : place 16 ≡ suc (place 7)
 sixteen-after = refl
 
+-- Card 10: 17 is "after 5", and 18 "in the place of 10".
+pub seventeen-after : place 17 ≡ suc (place 5)
+seventeen-after = refl
+
+pub eighteen-after : place 18 ≡ suc (place 10)
+eighteen-after = refl
+
 -- There are no more.
-pub sixteen-numbers : length precedence ≡ 16
-sixteen-numbers = refl
+pub eighteen-numbers : length precedence ≡ 18
+eighteen-numbers = refl

@@ -21,7 +21,7 @@ use Rattle.model.specs.declared.Origin.the-variants.{Cell, Kin, Stranger
 use Rattle.model.specs.declared.Sheet.{Sheet}
 use Rattle.model.specs.declared.Tally.{Tally}
 use Rattle.model.specs.Lists.{consIf, any, all, without, answers, final}
-use Rattle.model.specs.Requests.{Request, Single, Group}
+use Rattle.model.specs.Requests.{Caller, Request, Single, Group}
 use Rattle.model.specs.Values.{touches}
 use Rattle.model.specs.Derivation.{Derivation, ancestry, inSubtree, onAncestry}
 use Rattle.model.specs.Strike.{isLower, isEnd, resultOf, origin, strike, reached, struck}
@@ -30,7 +30,7 @@ use Rattle.model.specs.Table.{row, emptyRow, span, derivation, derivatio
 use Rattle.model.specs.Refusals.{viewOf, judge}
 use Rattle.model.specs.Effects.{lowered, revoke, afterAccess, rowsAfter}
 use Rattle.model.specs.Bits.{bitsAfter}
-use Rattle.model.specs.Counts.{countUp, countAllowed}
+use Rattle.model.specs.Counts.{countUp, countRead, countAllowed}
 use Rattle.model.specs.Step.{Verdict, State, view, isAllowed, answer, after, initial, stateAfter}
 use Rattle.model.specs.History.{historyAfter}
 use Rattle.model.specs.History
@@ -51,22 +51,22 @@ use Rattle.model.proofs.Demand3.{demand3}
 -- ---- two runs
 
 -- a read and another request count in either order alike
-counts-commute : (u : Name) (s : Span) (q : Request) (t : Tally) → countAllowed q (countAllowed (Single (Read u s)) t) ≡ countAllowed (Single (Read u s)) (countAllowed q t)
-counts-commute u s (Single (Create w v r)) t = refl
-counts-commute u s (Single (Borrow w x v r)) t = refl
-counts-commute u s (Single (Read x v)) t = refl
-counts-commute u s (Single (Write x v)) t = refl
-counts-commute u s (Single (Drop x)) t = refl
-counts-commute u s (Group names) t = refl
+counts-commute : (q : Request) (t : Tally) → countAllowed q (countRead t) ≡ countRead (countAllowed q t)
+counts-commute (Single by (Create w v r)) t = refl
+counts-commute (Single by (Borrow w x v r)) t = refl
+counts-commute (Single by (Read x v)) t = refl
+counts-commute (Single by (Write x v)) t = refl
+counts-commute (Single by (Drop x)) t = refl
+counts-commute (Group by names) t = refl
 
-module _ (u : Name) (s : Span) (hit : ℕ → Bool) where
+module _ (hit : ℕ → Bool) where
   -- The second has the table of the first, lowered where `hit` says, and one read more. No empty row is hit, and no name given out later.
   record Below (h l : State) : Type 0 where
     pub ordered-table : inOrder (h .memory .table) (h .tally .issued) ≡ true
     pub bits-sized : length (h .memory .bits) ≡ 8192
     pub same-bits : l .memory .bits ≡ h .memory .bits
     pub lower-table : l .memory .table ≡ map (lower hit) (h .memory .table)
-    pub one-read-more : l .tally ≡ countAllowed (Single (Read u s)) (h .tally)
+    pub one-read-more : l .tally ≡ countRead (h .tally)
     pub zero-kept : hit 0 ≡ false
     pub later-kept : (x : ℕ) → h .tally .issued < x → hit x ≡ false
 
@@ -92,7 +92,7 @@ module _ (u : Name) (s : Span) (hit : ℕ → Bool) where
           bits-sized = rw also-allowed (length-after (h .memory .bits) q ∙ b .bits-sized);
           same-bits = rw (also-allowed, z) (ap (λ bits. bitsAfter bits q) (b .same-bits));
           lower-table = rw (also-allowed, z, b .lower-table, same-issued) (after-lower hit (h .memory .table) (h .tally .issued) q (b .zero-kept) (b .later-kept (suc (h .tally .issued)) (omega arith)) sheet);
-          one-read-more = rw (also-allowed, z) (ap (countAllowed q) (b .one-read-more) ∙ counts-commute u s q (h .tally));
+          one-read-more = rw (also-allowed, z) (ap (countAllowed q) (b .one-read-more) ∙ counts-commute q (h .tally));
           zero-kept = b .zero-kept;
           later-kept = rw also-allowed (λ x later. b .later-kept x (omega (arith, counted-issued q (h .tally), count-raised (h .tally .issued) q)));
         }
@@ -151,9 +151,9 @@ module _ (sheet : Sheet) (h : State) (u : Name) (s : Span) where
       go (inl e) = e
       go (inr e) = clash t (unstruck x (absent x (liveRows (h .memory .table)) e))
 
-  module _ (none-end : NoReadEnds sheet) (z : judge (view h) (Single (Read u s)) ≡ 0) where
+  module _ (by : Caller) (none-end : NoReadEnds sheet) (z : judge (view h) (Single by (Read u s)) ≡ 0) where
     orderly : inOrder (h .memory .table) (h .tally .issued) ≡ true
-    orderly = in-order (view h) (Single (Read u s)) z
+    orderly = in-order (view h) (Single by (Read u s)) z
 
     falls : Falling (suc (h .tally .issued)) (derivations (liveRows (h .memory .table)))
     falls = rowsInOrder-falling (suc (h .tally .issued)) (liveRows (h .memory .table)) (live-named (h .memory .table)) (ordered (h .memory .table) (h .tally .issued) orderly .rise)
@@ -167,13 +167,13 @@ module _ (sheet : Sheet) (h : State) (u : Name) (s : Span) where
         (All-of _ (λ c. (nothing-ends sheet none-end s user (ancestry (derivations (liveRows (h .memory .table))) (c .name .0)), sym (strikes-lower sheet none-end s user (ancestry (derivations (liveRows (h .memory .table))) (c .name .0))))) (liveRows (h .memory .table)))
         ∙ ap (map (lower (readStrikes sheet h u s))) (filter-all (λ c. true) (liveRows (h .memory .table)) (All-of _ (λ c. refl) (liveRows (h .memory .table)))))
 
-    below-read : Below u s (readStrikes sheet h u s) h (after sheet h (Single (Read u s)))
+    below-read : Below (readStrikes sheet h u s) h (after sheet h (Single by (Read u s)))
     unfolding after rowsAfter bitsAfter
     below-read =
         let zero-unstruck = unstruck 0 (ancestry-zero (suc (h .tally .issued)) (derivations (liveRows (h .memory .table))) falls) in
         record {
           ordered-table = orderly;
-          bits-sized = sized (view h) (Single (Read u s)) z;
+          bits-sized = sized (view h) (Single by (Read u s)) z;
           same-bits = rw z;
           lower-table =
               rw (z, read-lowers (liveRows (h .memory .table)) refl)
@@ -186,7 +186,7 @@ module _ (sheet : Sheet) (h : State) (u : Name) (s : Span) where
 -- ---- card 8
 
 -- what is lent at the read; then, at the end, with the read and without it
-module _ (sheet : Sheet) (here : State) (u : Name) (s : Span) (l h : State) (b : Below u s (readStrikes sheet here u s) h l) where
+module _ (sheet : Sheet) (here : State) (u : Name) (s : Span) (l h : State) (b : Below (readStrikes sheet here u s) h l) where
   abbrev strikes : ℕ → Bool
   strikes = readStrikes sheet here u s
 
@@ -234,61 +234,61 @@ answers-without sheet [] h q later = refl
 answers-without sheet (p ∷ before) h q later = ap {B = List Verdict} (λ l. answer h p ∷ l) (answers-without sheet before (after sheet h p) q later)
 
 -- "if one read is removed from a trace whose every event is allowed"
-pub read-removed : (sheet : Sheet) → NoReadEnds sheet → (lent : State) (before : List Request) (u : Name) (s : Span) (later : List Request)
-    → all isAllowed (answers (after sheet) answer lent (before ++ (Single (Read u s) ∷ later))) ≡ true → ReadRemoved sheet lent before u s later
+pub read-removed : (sheet : Sheet) → NoReadEnds sheet → (lent : State) (before : List Request) (by : Caller) (u : Name) (s : Span) (later : List Request)
+    → all isAllowed (answers (after sheet) answer lent (before ++ (Single by (Read u s) ∷ later))) ≡ true → ReadRemoved sheet lent before by u s later
 unfolding answer
-read-removed sheet none-end lent before u s later a =
+read-removed sheet none-end lent before by u s later a =
     record {
       all-allowed =
           rw (answers-append (after sheet) answer lent before later, all-append isAllowed (answers (after sheet) answer lent before) (answers (after sheet) answer here later), p .0)
           (ap (all isAllowed) (runs .0) ∙ q .1);
       same-answers =
           answers-append (after sheet) answer lent before later ∙ ap (λ l. answers (after sheet) answer lent before ++ l) (runs .0)
-          ∙ sym (answers-without sheet before lent (Single (Read u s)) later);
-      rights = rw (final-append (after sheet) lent before (Single (Read u s) ∷ later), final-append (after sheet) lent before later)
-          (rights sheet here u s (final (after sheet) (after sheet here (Single (Read u s))) later) (final (after sheet) here later) (runs .1));
+          ∙ sym (answers-without sheet before lent (Single by (Read u s)) later);
+      rights = rw (final-append (after sheet) lent before (Single by (Read u s) ∷ later), final-append (after sheet) lent before later)
+          (rights sheet here u s (final (after sheet) (after sheet here (Single by (Read u s))) later) (final (after sheet) here later) (runs .1));
     }
   where
     here : State
     here = final (after sheet) lent before
 
-    p : (all isAllowed (answers (after sheet) answer lent before) ≡ true) × (all isAllowed (answers (after sheet) answer here (Single (Read u s) ∷ later)) ≡ true)
+    p : (all isAllowed (answers (after sheet) answer lent before) ≡ true) × (all isAllowed (answers (after sheet) answer here (Single by (Read u s) ∷ later)) ≡ true)
     p =
-        and-both (all isAllowed (answers (after sheet) answer lent before)) (all isAllowed (answers (after sheet) answer here (Single (Read u s) ∷ later)))
-        (rw (answers-append (after sheet) answer lent before (Single (Read u s) ∷ later), all-append isAllowed (answers (after sheet) answer lent before) (answers (after sheet) answer here (Single (Read u s) ∷ later))) at a)
+        and-both (all isAllowed (answers (after sheet) answer lent before)) (all isAllowed (answers (after sheet) answer here (Single by (Read u s) ∷ later)))
+        (rw (answers-append (after sheet) answer lent before (Single by (Read u s) ∷ later), all-append isAllowed (answers (after sheet) answer lent before) (answers (after sheet) answer here (Single by (Read u s) ∷ later))) at a)
 
-    q : (isAllowed (answer here (Single (Read u s))) ≡ true) × (all isAllowed (answers (after sheet) answer (after sheet here (Single (Read u s))) later) ≡ true)
-    q = and-both (isAllowed (answer here (Single (Read u s)))) (all isAllowed (answers (after sheet) answer (after sheet here (Single (Read u s))) later)) (p .1)
+    q : (isAllowed (answer here (Single by (Read u s))) ≡ true) × (all isAllowed (answers (after sheet) answer (after sheet here (Single by (Read u s))) later) ≡ true)
+    q = and-both (isAllowed (answer here (Single by (Read u s)))) (all isAllowed (answers (after sheet) answer (after sheet here (Single by (Read u s))) later)) (p .1)
 
-    z : judge (view here) (Single (Read u s)) ≡ 0
-    z = eqb-true (judge (view here) (Single (Read u s))) 0 (q .0)
+    z : judge (view here) (Single by (Read u s)) ≡ 0
+    z = eqb-true (judge (view here) (Single by (Read u s))) 0 (q .0)
 
-    runs : (answers (after sheet) answer here later ≡ answers (after sheet) answer (after sheet here (Single (Read u s))) later)
-        × Below u s (readStrikes sheet here u s) (final (after sheet) here later) (final (after sheet) (after sheet here (Single (Read u s))) later)
-    runs = alike u s (readStrikes sheet here u s) sheet later here (after sheet here (Single (Read u s))) (below-read sheet here u s none-end z) (q .1)
+    runs : (answers (after sheet) answer here later ≡ answers (after sheet) answer (after sheet here (Single by (Read u s))) later)
+        × Below (readStrikes sheet here u s) (final (after sheet) here later) (final (after sheet) (after sheet here (Single by (Read u s))) later)
+    runs = alike (readStrikes sheet here u s) sheet later here (after sheet here (Single by (Read u s))) (below-read sheet here u s by none-end z) (q .1)
 
 -- ---- several reads
 
 -- a read gives no name
-read-unnamed : (sheet : Sheet) (before : List Request) (h : State) (u : Name) (s : Span) (later : List Request)
-    → namesIn (without (length before) (answers (after sheet) answer h (before ++ (Single (Read u s) ∷ later)))) ≡ given sheet h (before ++ (Single (Read u s) ∷ later))
+read-unnamed : (sheet : Sheet) (before : List Request) (h : State) (by : Caller) (u : Name) (s : Span) (later : List Request)
+    → namesIn (without (length before) (answers (after sheet) answer h (before ++ (Single by (Read u s) ∷ later)))) ≡ given sheet h (before ++ (Single by (Read u s) ∷ later))
 unfolding answer given
-read-unnamed sheet [] h u s later = rw (none-named (eqb (judge (view h) (Single (Read u s))) 0))
+read-unnamed sheet [] h by u s later = rw (none-named (eqb (judge (view h) (Single by (Read u s))) 0))
   where
     none-named : (b : Bool) → cond {A = ℕ} b 0 0 ≡ 0
     none-named true = refl
     none-named false = refl
-read-unnamed sheet (q ∷ before) h u s later = ap (λ l. consIf (ltb 0 (answer h q .name)) (answer h q .name) l) (read-unnamed sheet before (after sheet h q) u s later)
+read-unnamed sheet (q ∷ before) h by u s later = ap (λ l. consIf (ltb 0 (answer h q .name)) (answer h q .name) l) (read-unnamed sheet before (after sheet h q) by u s later)
 
 pub reads-removed : (sheet : Sheet) → NoReadEnds sheet → (lent : State) {qs thinner : List Request} → Thinner qs thinner → all isAllowed (answers (after sheet) answer lent qs) ≡ true → ReadsRemoved sheet lent qs thinner
 unfolding given
 reads-removed sheet none-end lent (whole qs) a = record { all-allowed = a; same-names = refl; only-rights = refl; none-lower = λ k. omega arith }
-reads-removed sheet none-end lent (one-fewer before u s later t) a =
+reads-removed sheet none-end lent (one-fewer before by u s later t) a =
     let more = reads-removed sheet none-end lent t a in
-    let one = read-removed sheet none-end lent before u s later (more .all-allowed) in
+    let one = read-removed sheet none-end lent before by u s later (more .all-allowed) in
     record {
       all-allowed = one .all-allowed;
-      same-names = ap namesIn (one .same-answers) ∙ read-unnamed sheet before lent u s later ∙ more .same-names;
+      same-names = ap namesIn (one .same-answers) ∙ read-unnamed sheet before lent by u s later ∙ more .same-names;
       only-rights = more .only-rights ∙ one .rights .only-rights;
       none-lower = λ k. omega (arith, more .none-lower k, no-lower (one .rights .rights-differ k));
     }
@@ -300,13 +300,13 @@ reads-removed sheet none-end lent (one-fewer before u s later t) a =
 -- ---- the history
 
 -- The history tells the same of a trace, which begins with n rows, all zeros: by demand 3 its table is the lent one.
-pub history-removed : (sheet : Sheet) → NoReadEnds sheet → (n : ℕ) (t : Tally) → t .issued ≡ 0 → (before : List Request) (u : Name) (s : Span) (later : List Request)
-    → all isAllowed (answers (after sheet) answer (initial n t) (before ++ (Single (Read u s) ∷ later))) ≡ true
-    → History.table sheet n (historyAfter sheet n (before ++ (Single (Read u s) ∷ later)) .notes)
+pub history-removed : (sheet : Sheet) → NoReadEnds sheet → (n : ℕ) (t : Tally) → t .issued ≡ 0 → (before : List Request) (by : Caller) (u : Name) (s : Span) (later : List Request)
+    → all isAllowed (answers (after sheet) answer (initial n t) (before ++ (Single by (Read u s) ∷ later))) ≡ true
+    → History.table sheet n (historyAfter sheet n (before ++ (Single by (Read u s) ∷ later)) .notes)
     ≡ map (λ c. lowered (readStrikes sheet (stateAfter sheet n t before) u s (c .name .0)) c) (History.table sheet n (historyAfter sheet n (before ++ later) .notes))
-history-removed sheet none-end n t z before u s later a =
-    sym (demand3 sheet n t z (before ++ (Single (Read u s) ∷ later)) .same-table)
-    ∙ read-removed sheet none-end (initial n t) before u s later a .rights .exactly
+history-removed sheet none-end n t z before by u s later a =
+    sym (demand3 sheet n t z (before ++ (Single by (Read u s) ∷ later)) .same-table)
+    ∙ read-removed sheet none-end (initial n t) before by u s later a .rights .exactly
     ∙ ap (map (λ c. lowered (readStrikes sheet (stateAfter sheet n t before) u s (c .name .0)) c)) (demand3 sheet n t z (before ++ later) .same-table)
 
 -- By card 6's sheet no read ends anything; by that of card 7's traces one does.

@@ -55,7 +55,9 @@ lent-changed f e n rows =
 pub emptyRow-empty : (c : Cap) → isEmptyRow c ≡ true → c ≡ emptyRow
 unfolding isEmptyRow
 emptyRow-empty c h =
-    let n = and-both (eqb (c .name .0) 0 && eqb (c .parent .0) 0 && eqb (c .start .0) 0 && eqb (c .length) 0 && eqb (c .right) 0 && eqb (c .depth) 0 && eqb (c .kind) 0) (eqb (c .fresh) 0) h in
+    let l = and-both (eqb (c .name .0) 0 && eqb (c .parent .0) 0 && eqb (c .start .0) 0 && eqb (c .length) 0 && eqb (c .right) 0 && eqb (c .depth) 0 && eqb (c .kind) 0 && eqb (c .fresh) 0 && eqb (c .maker) 0) (eqb (c .holders) 0) h in
+    let m = and-both (eqb (c .name .0) 0 && eqb (c .parent .0) 0 && eqb (c .start .0) 0 && eqb (c .length) 0 && eqb (c .right) 0 && eqb (c .depth) 0 && eqb (c .kind) 0 && eqb (c .fresh) 0) (eqb (c .maker) 0) (l .0) in
+    let n = and-both (eqb (c .name .0) 0 && eqb (c .parent .0) 0 && eqb (c .start .0) 0 && eqb (c .length) 0 && eqb (c .right) 0 && eqb (c .depth) 0 && eqb (c .kind) 0) (eqb (c .fresh) 0) (m .0) in
     let o = and-both (eqb (c .name .0) 0 && eqb (c .parent .0) 0 && eqb (c .start .0) 0 && eqb (c .length) 0 && eqb (c .right) 0 && eqb (c .depth) 0) (eqb (c .kind) 0) (n .0) in
     let p = and-both (eqb (c .name .0) 0 && eqb (c .parent .0) 0 && eqb (c .start .0) 0 && eqb (c .length) 0 && eqb (c .right) 0) (eqb (c .depth) 0) (o .0) in
     let q = and-both (eqb (c .name .0) 0 && eqb (c .parent .0) 0 && eqb (c .start .0) 0 && eqb (c .length) 0) (eqb (c .right) 0) (p .0) in
@@ -71,6 +73,8 @@ emptyRow-empty c h =
       depth = eqb-true (c .depth) 0 (p .1) k;
       kind = eqb-true (c .kind) 0 (o .1) k;
       fresh = eqb-true (c .fresh) 0 (n .1) k;
+      maker = eqb-true (c .maker) 0 (m .1) k;
+      holders = eqb-true (c .holders) 0 (l .1) k;
     }
 
 blanks : (t : List Cap) → all isEmptyRow t ≡ true → replicate (length t) emptyRow ≡ t

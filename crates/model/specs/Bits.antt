@@ -12,7 +12,7 @@ use Rattle.model.specs.Values.{end}
 
 -- ---- one bit
 
--- "the bit worth 2^(A mod 8)": the bit of this number of a byte
+-- "the bit worth 2^(A mod 8)": the bit of this number of a byte; by card 10 a mask of holders is read by it too
 unfoldable pub hasBit : ℕ → ℕ → Bool
 hasBit b j = eqb (b / (2 ^ j) % 2) 1
 
@@ -45,12 +45,12 @@ lowLength s = min (end s) 65536 - s .start .0
 
 -- "Every allowed create clears its addresses, every allowed write sets its own."
 unfoldable pub bitsAfter : List ℕ → Request → List ℕ
-bitsAfter bytes (Single (Create w s r)) = putFrom false (s .start .0) (lowLength s) bytes
-bitsAfter bytes (Single (Borrow w u s r)) = bytes
-bitsAfter bytes (Single (Read u s)) = bytes
-bitsAfter bytes (Single (Write u s)) = putFrom true (s .start .0) (lowLength s) bytes
-bitsAfter bytes (Single (Drop u)) = bytes
-bitsAfter bytes (Group names) = bytes
+bitsAfter bytes (Single by (Create w s r)) = putFrom false (s .start .0) (lowLength s) bytes
+bitsAfter bytes (Single by (Borrow w u s r)) = bytes
+bitsAfter bytes (Single by (Read u s)) = bytes
+bitsAfter bytes (Single by (Write u s)) = putFrom true (s .start .0) (lowLength s) bytes
+bitsAfter bytes (Single by (Drop u)) = bytes
+bitsAfter bytes (Group by names) = bytes
 
 -- every one of k addresses from a on is written
 unfoldable pub allWritten : (ℕ → Bool) → ℕ → ℕ → Bool

@@ -30,12 +30,12 @@ countIn Refusals t = t .refused
 
 -- the kind of a request; names dropped together are of the kind of a drop
 abbrev pub kindOf : Request → Counter
-kindOf (Single (Create w s r)) = Creates
-kindOf (Single (Borrow w u s r)) = Borrows
-kindOf (Single (Read u s)) = Reads
-kindOf (Single (Write u s)) = Writes
-kindOf (Single (Drop u)) = Drops
-kindOf (Group names) = Drops
+kindOf (Single by (Create w s r)) = Creates
+kindOf (Single by (Borrow w u s r)) = Borrows
+kindOf (Single by (Read u s)) = Reads
+kindOf (Single by (Write u s)) = Writes
+kindOf (Single by (Drop u)) = Drops
+kindOf (Group by names) = Drops
 
 -- document 01's order
 abbrev place : Counter → ℕ

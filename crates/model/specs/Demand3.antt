@@ -10,7 +10,7 @@ use Rattle.model.specs.declared.Tally.{Tally}
 use Rattle.model.specs.declared.Sheet.{Sheet}
 use Rattle.model.specs.declared.Event.the-variants.{Read, Write}
 use Rattle.model.specs.Lists.{all, answers, final}
-use Rattle.model.specs.Requests.{Request, Single, Group, singleDrops}
+use Rattle.model.specs.Requests.{Caller, Request, Single, Group, singleDrops}
 use Rattle.model.specs.Bits.{bitAt}
 use Rattle.model.specs.Step.{initial, stateAfter, isAllowed}
 use Rattle.model.specs.Step
@@ -32,15 +32,15 @@ pub record Demand3 (sheet : Sheet) (n : ℕ) (t : Tally) (qs : List Request) : T
   pub noted-names : (q : Request) → isAllowed (Step.answer (stateAfter sheet n t qs) q) ≡ true → Step.answer (stateAfter sheet n t qs) q .name ≡ notedName (notesOf (historyAfter sheet n qs .notes) (historyAfter sheet n qs .count) q)
   -- Card 5: "Allowed, it leaves the table, and in the history the notes, that single drops in falling order of name leave." Each of
   -- these is allowed in its turn.
-  pub group-singly : (names : List ℕ) → isAllowed (Step.answer (stateAfter sheet n t qs) (Group names)) ≡ true
-      → all isAllowed (answers (Step.after sheet) Step.answer (stateAfter sheet n t qs) (singleDrops names)) ≡ true
-  pub group-table : (names : List ℕ) → isAllowed (Step.answer (stateAfter sheet n t qs) (Group names)) ≡ true
-      → Step.after sheet (stateAfter sheet n t qs) (Group names) .memory .table ≡ final (Step.after sheet) (stateAfter sheet n t qs) (singleDrops names) .memory .table
-  pub group-history : (names : List ℕ) → isAllowed (Step.answer (stateAfter sheet n t qs) (Group names)) ≡ true
-      → History.after sheet n (historyAfter sheet n qs) (Group names) ≡ final (History.after sheet n) (historyAfter sheet n qs) (singleDrops names)
+  pub group-singly : (by : Caller) (names : List ℕ) → isAllowed (Step.answer (stateAfter sheet n t qs) (Group by names)) ≡ true
+      → all isAllowed (answers (Step.after sheet) Step.answer (stateAfter sheet n t qs) (singleDrops by names)) ≡ true
+  pub group-table : (by : Caller) (names : List ℕ) → isAllowed (Step.answer (stateAfter sheet n t qs) (Group by names)) ≡ true
+      → Step.after sheet (stateAfter sheet n t qs) (Group by names) .memory .table ≡ final (Step.after sheet) (stateAfter sheet n t qs) (singleDrops by names) .memory .table
+  pub group-history : (by : Caller) (names : List ℕ) → isAllowed (Step.answer (stateAfter sheet n t qs) (Group by names)) ≡ true
+      → History.after sheet n (historyAfter sheet n qs) (Group by names) ≡ final (History.after sheet n) (historyAfter sheet n qs) (singleDrops by names)
   -- "Each read and write is also allowed exactly when demand 3 says."
-  pub reads : (u : Name) (s : Span) → isAllowed (Step.answer (stateAfter sheet n t qs) (Single (Read u s))) ≡ mayRead sheet (historyAfter sheet n qs .notes) (u .0) s
-  pub writes : (u : Name) (s : Span) → isAllowed (Step.answer (stateAfter sheet n t qs) (Single (Write u s))) ≡ mayWrite sheet (historyAfter sheet n qs .notes) (u .0) s
+  pub reads : (by : Caller) (u : Name) (s : Span) → isAllowed (Step.answer (stateAfter sheet n t qs) (Single by (Read u s))) ≡ mayRead sheet n by (historyAfter sheet n qs .notes) (u .0) s
+  pub writes : (by : Caller) (u : Name) (s : Span) → isAllowed (Step.answer (stateAfter sheet n t qs) (Single by (Write u s))) ≡ mayWrite sheet n by (historyAfter sheet n qs .notes) (u .0) s
   -- "A name that lives after some first part of the list, and not after a longer part, never lives again, however the list goes on."
   pub life-stays-lost : (x : ℕ) (fs gs : List Request) → lives sheet (historyAfter sheet n qs .notes) x ≡ true → lives sheet (historyAfter sheet n (qs ++ fs) .notes) x ≡ false
       → lives sheet (historyAfter sheet n (qs ++ fs ++ gs) .notes) x ≡ false

@@ -15,6 +15,8 @@ pub record Derivation : Type 0 where
   pub span : Span
   pub kind : ℕ
   pub fresh : ℕ
+  pub maker : ℕ
+  pub holders : ℕ
 
 -- Document 01, "What each event does": "Subtree and ancestors are taken over parents; each capability is in its own subtree."
 -- Derivations stand newest first, so a parent's stands after its child's.

@@ -1,4 +1,4 @@
--- Document 01, "What each event does", and cards 4 to 7 and 9: what an allowed request does to the live rows and to the issued number.
+-- Document 01, "What each event does", and cards 4 to 7, 9 and 10: what an allowed request does to the live rows and to the issued number.
 -- Assumes nothing.
 use Prim.Native.Nat.{ℕ, suc}
 use mathlib.Core.Bool.{Bool, false, not, cond}
@@ -15,7 +15,7 @@ use Rattle.model.specs.Lists.{filter, any}
 use Rattle.model.specs.Derivation.{Derivation, ancestry, inSubtree}
 use Rattle.model.specs.Strike.{isLower, isEnd, struck}
 use Rattle.model.specs.Table.{row, derivation, derivations, lookup}
-use Rattle.model.specs.Requests.{Request, Single, Group}
+use Rattle.model.specs.Requests.{Caller, Request, Single, Group}
 
 -- a row, with `ro` where it is hit
 abbrev pub lowered : Bool → Cap → Cap
@@ -39,39 +39,39 @@ unfoldable pub rowsWithout : List ℕ → List Cap → List Cap
 rowsWithout names rows = revoke (λ x. inSubtrees names (ancestry (derivations rows) x)) (λ x. false) rows
 
 -- the derivations that a create and a borrow make ("Creates make references"), when so many names have been issued; card 9: "borrows below
--- it carry that mark", the parent's
-abbrev pub root : ℕ → Span → Terms → Derivation
-root issued s r = record { name = suc issued; parent = 0; span = s; kind = 0; fresh = r .fresh }
+-- it carry that mark", the parent's; card 10: the maker is who acts, and gives the holders
+abbrev pub root : Caller → ℕ → Span → Terms → Derivation
+root by issued s r = record { name = suc issued; parent = 0; span = s; kind = 0; fresh = r .fresh; maker = by .actor; holders = r .holders }
 
-abbrev pub child : ℕ → Name → ℕ → Span → Terms → Derivation
-child issued u mark s r = record { name = suc issued; parent = u .0; span = s; kind = r .kind; fresh = mark }
+abbrev pub child : Caller → ℕ → Name → ℕ → Span → Terms → Derivation
+child by issued u mark s r = record { name = suc issued; parent = u .0; span = s; kind = r .kind; fresh = mark; maker = by .actor; holders = r .holders }
 
 -- The live rows after an allowed request.
 -- Card 4: "A create is now a fresh allocation"; card 7: "a create acts as a stranger's write". It is a write to its span through the new name.
 -- That name has no row yet, so it is in the subtree of none: the write is from outside every subtree but its own, and of no cell's.
 -- A write through the new row once it stands would leave the same (proofs/Fresh).
 unfoldable pub rowsAfter : Sheet → ℕ → List Cap → Request → List Cap
-rowsAfter sheet issued rows (Single (Create w s r)) = row (root issued s r) (r .right) 1 ∷ afterAccess sheet Writing (suc issued) s rows
-rowsAfter sheet issued rows (Single (Borrow w u s r)) = row (child issued u (lookup (u .0) rows .fresh) s r) (r .right) (suc (lookup (u .0) rows .depth)) ∷ rows
-rowsAfter sheet issued rows (Single (Read u s)) = afterAccess sheet Reading (u .0) s rows
-rowsAfter sheet issued rows (Single (Write u s)) = afterAccess sheet Writing (u .0) s rows
-rowsAfter sheet issued rows (Single (Drop u)) = rowsWithout (u .0 ∷ []) rows
-rowsAfter sheet issued rows (Group names) = rowsWithout names rows
+rowsAfter sheet issued rows (Single by (Create w s r)) = row (root by issued s r) (r .right) 1 ∷ afterAccess sheet Writing (suc issued) s rows
+rowsAfter sheet issued rows (Single by (Borrow w u s r)) = row (child by issued u (lookup (u .0) rows .fresh) s r) (r .right) (suc (lookup (u .0) rows .depth)) ∷ rows
+rowsAfter sheet issued rows (Single by (Read u s)) = afterAccess sheet Reading (u .0) s rows
+rowsAfter sheet issued rows (Single by (Write u s)) = afterAccess sheet Writing (u .0) s rows
+rowsAfter sheet issued rows (Single by (Drop u)) = rowsWithout (u .0 ∷ []) rows
+rowsAfter sheet issued rows (Group by names) = rowsWithout names rows
 
 -- "The result carries the new name"; "a read, write or drop answers with name 0"
 abbrev pub newName : ℕ → Request → ℕ
-newName issued (Single (Create w s r)) = suc issued
-newName issued (Single (Borrow w u s r)) = suc issued
-newName issued (Single (Read u s)) = 0
-newName issued (Single (Write u s)) = 0
-newName issued (Single (Drop u)) = 0
-newName issued (Group names) = 0
+newName issued (Single by (Create w s r)) = suc issued
+newName issued (Single by (Borrow w u s r)) = suc issued
+newName issued (Single by (Read u s)) = 0
+newName issued (Single by (Write u s)) = 0
+newName issued (Single by (Drop u)) = 0
+newName issued (Group by names) = 0
 
 -- the issued number after an allowed request
 abbrev pub issuedAfter : ℕ → Request → ℕ
-issuedAfter issued (Single (Create w s r)) = suc issued
-issuedAfter issued (Single (Borrow w u s r)) = suc issued
-issuedAfter issued (Single (Read u s)) = issued
-issuedAfter issued (Single (Write u s)) = issued
-issuedAfter issued (Single (Drop u)) = issued
-issuedAfter issued (Group names) = issued
+issuedAfter issued (Single by (Create w s r)) = suc issued
+issuedAfter issued (Single by (Borrow w u s r)) = suc issued
+issuedAfter issued (Single by (Read u s)) = issued
+issuedAfter issued (Single by (Write u s)) = issued
+issuedAfter issued (Single by (Drop u)) = issued
+issuedAfter issued (Group by names) = issued

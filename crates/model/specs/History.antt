@@ -1,4 +1,4 @@
--- Document 01, "The history", and cards 4 to 7 and 9.
+-- Document 01, "The history", and cards 4 to 7, 9 and 10.
 -- Assumes nothing.
 use Prim.Native.Nat.{ℕ, zero, suc}
 use mathlib.Core.Bool.{Bool, false, not, cond, _&&_, _||_}
@@ -15,9 +15,10 @@ use Rattle.model.specs.Lists.{filter, any, final}
 use Rattle.model.specs.Values.{legal, inside}
 use Rattle.model.specs.Derivation.{Derivation, ancestry, inSubtree}
 use Rattle.model.specs.Strike.{isLower, isEnd, reached, reclaimed}
-use Rattle.model.specs.Table.{row, lentTable, isMarked}
+use Rattle.model.specs.Table.{row, lentTable, isMarked, isDomain, holds}
+use Rattle.model.specs.Limits.{refusedSheet}
 use Rattle.model.specs.Bits.{inSpan, spanWritten}
-use Rattle.model.specs.Requests.{Request, Single, Group}
+use Rattle.model.specs.Requests.{Caller, Request, Single, Group}
 use Rattle.model.specs.Refusals.{View, judge}
 use Rattle.model.specs.Effects.{root, child, newName, issuedAfter}
 use Rattle.model.specs.Step.{Verdict, verdict}
@@ -98,6 +99,12 @@ written (Dropped u ∷ notes) a = written notes a
 abbrev pub isReadable : List Note → Span → Derivation → Bool
 isReadable notes s d = not (isMarked d) || spanWritten (written notes) s
 
+-- ---- holders
+
+-- the domain that acts is a holder
+abbrev pub isHolder : Caller → Derivation → Bool
+isHolder by d = isDomain (by .actor) && holds d (by .actor)
+
 -- ---- what is read by a conflict sheet
 
 module _ (sheet : Sheet) where
@@ -128,23 +135,6 @@ module _ (sheet : Sheet) where
   abbrev pub livesRw : List Note → ℕ → Bool
   livesRw notes x = lives notes x && writable notes x
 
-  -- ---- demand 3: what a read and a write need, by the notes alone
-
-  -- "a read through a capability is allowed exactly when the capability was created or borrowed, the span is legal and within its own,
-  -- and since it was made neither it nor any ancestor was dropped, or touched by an allowed write through a capability outside that one's
-  -- own subtree"; by card 4 a create counts as such a write, and by card 7 the sheet says which accesses end
-  unfoldable pub mayUse : List Note → ℕ → Span → Bool
-  mayUse notes u s = legal s && covers notes u s && lives notes u
-
-  -- Card 9: a read "needs besides, in demand 3 too", that a marked capability's addresses are written
-  unfoldable pub mayRead : List Note → ℕ → Span → Bool
-  mayRead notes u s = mayUse notes u s && notedAs (isReadable notes s) notes u
-
-  -- "A write is allowed exactly when, besides, the capability was made writable and since then no allowed read touched it or an ancestor
-  -- through a capability outside that one's own subtree." Card 9: "A write needs none written."
-  unfoldable pub mayWrite : List Note → ℕ → Span → Bool
-  mayWrite notes u s = mayUse notes u s && writable notes u
-
   -- ---- the history's table
 
   -- the row of a living name
@@ -161,6 +151,25 @@ module _ (sheet : Sheet) where
   -- "The history's table has as many rows as the lent one: one for each living name, rising, .. then zeros."
   abbrev pub table : ℕ → List Note → List Cap
   table n notes = lentTable n (rows notes)
+
+  -- ---- demand 3: what a read and a write need, by the notes alone
+
+  -- "a read through a capability is allowed exactly when the capability was created or borrowed, the span is legal and within its own,
+  -- and since it was made neither it nor any ancestor was dropped, or touched by an allowed write through a capability outside that one's
+  -- own subtree"; by card 4 a create counts as such a write, and by card 7 the sheet says which accesses end
+  -- Card 10: "allowed as before if the actor is also a holder; demand 3 asks that too, and that no refused sheet of limits is lent with the
+  -- event", by the history's own table of so many rows
+  unfoldable pub mayUse : ℕ → Caller → List Note → ℕ → Span → Bool
+  mayUse n by notes u s = legal s && covers notes u s && lives notes u && notedAs (isHolder by) notes u && not (refusedSheet (table n notes) (by .limits))
+
+  -- Card 9: a read "needs besides, in demand 3 too", that a marked capability's addresses are written
+  unfoldable pub mayRead : ℕ → Caller → List Note → ℕ → Span → Bool
+  mayRead n by notes u s = mayUse n by notes u s && notedAs (isReadable notes s) notes u
+
+  -- "A write is allowed exactly when, besides, the capability was made writable and since then no allowed read touched it or an ancestor
+  -- through a capability outside that one's own subtree." Card 9: "A write needs none written."
+  unfoldable pub mayWrite : ℕ → Caller → List Note → ℕ → Span → Bool
+  mayWrite n by notes u s = mayUse n by notes u s && writable notes u
 
 -- ---- a request
 
@@ -180,12 +189,12 @@ markOn (d ∷ above) = d .fresh
 -- the notes of an allowed request, newest first, when these stand and so many names have been counted; of names dropped together "the notes, that single
 -- drops in falling order of name leave", so the smallest name stands first
 unfoldable pub notesOf : List Note → ℕ → Request → List Note
-notesOf notes count (Single (Create w s r)) = New (root count s r) (r .right) ∷ []
-notesOf notes count (Single (Borrow w u s r)) = New (child count u (markOn (ancestry (derivations notes) (u .0))) s r) (r .right) ∷ []
-notesOf notes count (Single (Read u s)) = Accessed Reading (u .0) s ∷ []
-notesOf notes count (Single (Write u s)) = Accessed Writing (u .0) s ∷ []
-notesOf notes count (Single (Drop u)) = Dropped (u .0) ∷ []
-notesOf notes count (Group names) = map Dropped names
+notesOf notes count (Single by (Create w s r)) = New (root by count s r) (r .right) ∷ []
+notesOf notes count (Single by (Borrow w u s r)) = New (child by count u (markOn (ancestry (derivations notes) (u .0))) s r) (r .right) ∷ []
+notesOf notes count (Single by (Read u s)) = Accessed Reading (u .0) s ∷ []
+notesOf notes count (Single by (Write u s)) = Accessed Writing (u .0) s ∷ []
+notesOf notes count (Single by (Drop u)) = Dropped (u .0) ∷ []
+notesOf notes count (Group by names) = map Dropped names
 
 -- the name that notes make; 0 where they make none
 unfoldable pub notedName : List Note → ℕ

@@ -4,8 +4,9 @@ pub mod Derivation
 pub mod Requests
 pub mod Strike
 pub mod Sheet6
-pub mod Table
 pub mod Bits
+pub mod Table
+pub mod Limits
 pub mod Refusals
 pub mod Effects
 pub mod Named
@@ -17,4 +18,9 @@ pub mod History
 pub mod Given
 pub mod Demand3
 pub mod ReadRemoved
+pub mod Independence
+pub mod TreesApart
+pub mod Allotted
+pub mod Charge
+pub mod Tried
 pub mod Traces

@@ -9,21 +9,21 @@ use Rattle.model.specs.Effects.{issuedAfter}
 
 -- a request that writes no name
 unfoldable pub unnamed : Request → Request
-unnamed (Single (Create w s r)) = Single (Create Unwritten s r)
-unnamed (Single (Borrow w u s r)) = Single (Borrow Unwritten u s r)
-unnamed (Single (Read u s)) = Single (Read u s)
-unnamed (Single (Write u s)) = Single (Write u s)
-unnamed (Single (Drop u)) = Single (Drop u)
-unnamed (Group names) = Group names
+unnamed (Single by (Create w s r)) = Single by (Create Unwritten s r)
+unnamed (Single by (Borrow w u s r)) = Single by (Borrow Unwritten u s r)
+unnamed (Single by (Read u s)) = Single by (Read u s)
+unnamed (Single by (Write u s)) = Single by (Write u s)
+unnamed (Single by (Drop u)) = Single by (Drop u)
+unnamed (Group by names) = Group by names
 
 -- the same that writes the right name, "the issued number plus one", when so many names have been issued
 unfoldable pub rightlyNamed : ℕ → Request → Request
-rightlyNamed issued (Single (Create w s r)) = Single (Create (Written (record { 0 = suc issued })) s r)
-rightlyNamed issued (Single (Borrow w u s r)) = Single (Borrow (Written (record { 0 = suc issued })) u s r)
-rightlyNamed issued (Single (Read u s)) = Single (Read u s)
-rightlyNamed issued (Single (Write u s)) = Single (Write u s)
-rightlyNamed issued (Single (Drop u)) = Single (Drop u)
-rightlyNamed issued (Group names) = Group names
+rightlyNamed issued (Single by (Create w s r)) = Single by (Create (Written (record { 0 = suc issued })) s r)
+rightlyNamed issued (Single by (Borrow w u s r)) = Single by (Borrow (Written (record { 0 = suc issued })) u s r)
+rightlyNamed issued (Single by (Read u s)) = Single by (Read u s)
+rightlyNamed issued (Single by (Write u s)) = Single by (Write u s)
+rightlyNamed issued (Single by (Drop u)) = Single by (Drop u)
+rightlyNamed issued (Group by names) = Group by names
 
 -- requests in turn with their right names, where each before the next is allowed
 unfoldable pub allRightlyNamed : ℕ → List Request → List Request

@@ -16,11 +16,11 @@ use Rattle.model.specs.declared.Effect.the-variants.{Keep, Lower, End}
 use Rattle.model.specs.declared.Origin.{Origin}
 use Rattle.model.specs.declared.Sheet.{Sheet}
 use Rattle.model.specs.Lists.{any, all, without, answers, final}
-use Rattle.model.specs.Requests.{Request, Single}
+use Rattle.model.specs.Requests.{Caller, Request, Single}
 use Rattle.model.specs.Strike.{isEnd, resultOf, struck}
 use Rattle.model.specs.Table.{row, emptyRow, derivation, derivations, named, liveRows}
 use Rattle.model.specs.Effects.{lowered}
-use Rattle.model.specs.Counts.{countAllowed}
+use Rattle.model.specs.Counts.{countRead}
 use Rattle.model.specs.Step.{State, isAllowed, answer, after}
 use Rattle.model.specs.Given.{given}
 
@@ -67,13 +67,13 @@ module _ (sheet : Sheet) (atRead : State) (u : Name) (s : Span) (withRead withou
     -- A read writes nothing.
     pub same-bits : withRead .memory .bits ≡ withoutRead .memory .bits
     -- With the read its tally has one read more, and all else of it is the same.
-    pub one-read-more : withRead .tally ≡ countAllowed (Single (Read u s)) (withoutRead .tally)
+    pub one-read-more : withRead .tally ≡ countRead (withoutRead .tally)
     pub unless-full : withRead .tally .reads < 4294967295 → withRead .tally .reads ≡ suc (withoutRead .tally .reads)
 
 -- What is lent at first may be anything: a trace begins with `initial`. The requests before the read, the read, and those after it.
-module _ (sheet : Sheet) (lent : State) (before : List Request) (u : Name) (s : Span) (later : List Request) where
+module _ (sheet : Sheet) (lent : State) (before : List Request) (by : Caller) (u : Name) (s : Span) (later : List Request) where
   abbrev pub allOf : List Request
-  allOf = before ++ (Single (Read u s) ∷ later)
+  allOf = before ++ (Single by (Read u s) ∷ later)
 
   abbrev pub atRead : State
   atRead = final (after sheet) lent before
@@ -92,7 +92,7 @@ module _ (sheet : Sheet) (lent : State) (before : List Request) (u : Name) (s : 
 -- may go one after the other.
 pub data Thinner : List Request → List Request → Type 0 where
   whole : (qs : List Request) → Thinner qs qs
-  one-fewer : {qs : List Request} (before : List Request) (u : Name) (s : Span) (later : List Request) → Thinner qs (before ++ (Single (Read u s) ∷ later)) → Thinner qs (before ++ later)
+  one-fewer : {qs : List Request} (before : List Request) (by : Caller) (u : Name) (s : Span) (later : List Request) → Thinner qs (before ++ (Single by (Read u s) ∷ later)) → Thinner qs (before ++ later)
 
 pub record ReadsRemoved (sheet : Sheet) (lent : State) (qs thinner : List Request) : Type 0 where
   pub all-allowed : all isAllowed (answers (after sheet) answer lent thinner) ≡ true

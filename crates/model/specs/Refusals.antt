@@ -1,4 +1,4 @@
--- Document 01, "Eleven ways to be turned down", of a request, and cards 1, 5, 6 and 9: the conditions 1 to 10, 12, 13 and 16, and which of them
+-- Document 01, "Eleven ways to be turned down", of a request, and cards 1, 5, 6, 9 and 10: the conditions 1 to 10, 12, 13 and 16 to 18, and which of them
 -- each request meets.
 -- Assumes nothing. (2 is here in its half about events; its other half, and 11, are of the text.)
 use Prim.Native.Nat.{ℕ, suc}
@@ -15,9 +15,10 @@ use Rattle.model.specs.declared.NewName.the-variants.{Unwritten, Written
 use Rattle.model.specs.declared.Event.the-variants.{Create, Borrow, Read, Write, Drop}
 use Rattle.model.specs.Lists.{any, first}
 use Rattle.model.specs.Values.{end, legal, inside}
-use Rattle.model.specs.Requests.{Request, Single, Group, isGroup}
-use Rattle.model.specs.Table.{span, derivation, named, liveRows, lookup, isRight, isKind, isMark, isMarked, inOrder}
-use Rattle.model.specs.Bits.{bitAt, spanWritten}
+use Rattle.model.specs.Requests.{Limits, Caller, Request, Single, Group, callerOf, isGroup}
+use Rattle.model.specs.Table.{span, derivation, named, liveRows, lookup, isRight, isKind, isMark, isMarked, isDomain, holds, inOrder}
+use Rattle.model.specs.Limits.{refusedSheet, noRow, limitReached}
+use Rattle.model.specs.Bits.{hasBit, bitAt, spanWritten}
 
 -- 1. table not in order
 abbrev pub disordered : List Cap → ℕ → Bool
@@ -35,13 +36,21 @@ notAKind k = not (isKind k)
 abbrev pub notAMark : ℕ → Bool
 notAMark m = not (isMark m)
 
+-- Card 10: "A domain above 63 .. is 2 in an event"
+abbrev pub notADomain : ℕ → Bool
+notADomain actor = not (isDomain actor)
+
+-- "or a mask without its maker"
+abbrev pub unfitMask : ℕ → Terms → Bool
+unfitMask actor r = notADomain actor || not (hasBit (r .holders) actor)
+
 -- 2 of what a create gives: "Creates make references"
-abbrev pub unfitRoot : Terms → Bool
-unfitRoot r = notARight (r .right) || (not (eqb (r .kind) 0) || notAMark (r .fresh))
+abbrev pub unfitRoot : ℕ → Terms → Bool
+unfitRoot actor r = notARight (r .right) || (not (eqb (r .kind) 0) || (notAMark (r .fresh) || unfitMask actor r))
 
 -- 2 of what a borrow gives: it has its parent's mark, and gives none
-abbrev pub unfitChild : Terms → Bool
-unfitChild r = notARight (r .right) || (notAKind (r .kind) || not (eqb (r .fresh) 0))
+abbrev pub unfitChild : ℕ → Terms → Bool
+unfitChild actor r = notARight (r .right) || (notAKind (r .kind) || (not (eqb (r .fresh) 0) || unfitMask actor r))
 
 -- 3. span not legal
 abbrev pub illegalSpan : Span → Bool
@@ -70,6 +79,10 @@ module _ (rows : List Cap) (issued : ℕ) where
   abbrev pub ended : Name → Bool
   ended u = not (any (named (u .0)) rows)
 
+  -- 17, "after 5". "the domain is no holder"
+  abbrev pub notAHolder : ℕ → Name → Bool
+  notAHolder actor u = not (holds (derivation (lookup (u .0) rows)) actor)
+
   -- 6. span not inside the capability's
   abbrev pub outsideSpan : Name → Span → Bool
   outsideSpan u s = not (inside s (span (lookup (u .0) rows)))
@@ -90,42 +103,38 @@ module _ (rows : List Cap) (issued : ℕ) where
   abbrev pub namesSpent : Bool
   namesSpent = leb 1000000 issued
 
-  -- 10. create or borrow with no empty row, of so many rows
-  abbrev pub tableFull : ℕ → Bool
-  tableFull size = leb size (length rows)
-
-  -- Checks in order of precedence, each with its number: the standing of a name; its use on a span; its use with a right, `ro` for
+  -- Checks in order of precedence, each with its number: the standing of a name with the domain that acts; its use on a span; its use with a right, `ro` for
   -- a borrow of `ro` and `rw` for a write; room for a new name, where 12 is "between 9 and 10".
-  abbrev pub standing : Name → List (ℕ × Bool)
-  standing u = (4, unissued u) ∷ (5, ended u) ∷ []
+  abbrev pub standing : ℕ → Name → List (ℕ × Bool)
+  standing actor u = (4, unissued u) ∷ (5, ended u) ∷ (17, notAHolder actor u) ∷ []
 
   -- of each name dropped together, "in the order written"
-  unfoldable pub standings : List ℕ → List (ℕ × Bool)
-  standings [] = []
-  standings (u ∷ names) = standing (record { 0 = u }) ++ standings names
+  unfoldable pub standings : ℕ → List ℕ → List (ℕ × Bool)
+  standings actor [] = []
+  standings actor (u ∷ names) = standing actor (record { 0 = u }) ++ standings actor names
 
-  abbrev pub within : Name → Span → List (ℕ × Bool)
-  within u s = (3, illegalSpan s) ∷ standing u ++ ((6, outsideSpan u s) ∷ [])
+  abbrev pub within : ℕ → Name → Span → List (ℕ × Bool)
+  within actor u s = (3, illegalSpan s) ∷ standing actor u ++ ((6, outsideSpan u s) ∷ [])
 
-  abbrev pub usable : Name → Span → ℕ → List (ℕ × Bool)
-  usable u s r = within u s ++ ((7, readOnly u r) ∷ [])
+  abbrev pub usable : ℕ → Name → Span → ℕ → List (ℕ × Bool)
+  usable actor u s r = within actor u s ++ ((7, readOnly u r) ∷ [])
 
-  abbrev pub room : ℕ → NewName → List (ℕ × Bool)
-  room size w = (9, namesSpent) ∷ (12, misnamed issued w) ∷ (10, tableFull size) ∷ []
+  abbrev pub room : Caller → ℕ → NewName → List (ℕ × Bool)
+  room by size w = (9, namesSpent) ∷ (12, misnamed issued w) ∷ (10, noRow (by .limits) rows size) ∷ (18, limitReached (by .limits) rows (by .actor)) ∷ []
 
   -- those that each request meets after 1; of a group, "the first name refused gives the number"
   abbrev pub checks : (ℕ → Bool) → ℕ → Request → List (ℕ × Bool)
-  checks isWritten size (Single (Create w s r)) = (2, unfitRoot r) ∷ (3, misplaced r s) ∷ room size w
-  checks isWritten size (Single (Borrow w u s r)) = (2, unfitChild r) ∷ usable u s (r .right) ++ ((8, tooDeep u) ∷ room size w)
-  checks isWritten size (Single (Read u s)) = within u s ++ ((16, notWritten isWritten u s) ∷ [])
-  checks isWritten size (Single (Write u s)) = usable u s 2
-  checks isWritten size (Single (Drop u)) = standing u
-  checks isWritten size (Group names) = (13, misgrouped names) ∷ standings names
+  checks isWritten size (Single by (Create w s r)) = (2, unfitRoot (by .actor) r) ∷ (3, misplaced r s) ∷ room by size w
+  checks isWritten size (Single by (Borrow w u s r)) = (2, unfitChild (by .actor) r) ∷ usable (by .actor) u s (r .right) ++ ((8, tooDeep u) ∷ room by size w)
+  checks isWritten size (Single by (Read u s)) = (2, notADomain (by .actor)) ∷ within (by .actor) u s ++ ((16, notWritten isWritten u s) ∷ [])
+  checks isWritten size (Single by (Write u s)) = (2, notADomain (by .actor)) ∷ usable (by .actor) u s 2
+  checks isWritten size (Single by (Drop u)) = (2, notADomain (by .actor)) ∷ standing (by .actor) u
+  checks isWritten size (Group by names) = (13, misgrouped names) ∷ (2, notADomain (by .actor)) ∷ standings (by .actor) names
 
 -- The numbers of refusals in order of precedence; card 5: 13 is "after 1"; card 7: 14 and 15, of sheets alone, "in that
--- order after 2"; card 9: 16 is "after 7".
+-- order after 2"; card 9: 16 is "after 7"; card 10: 17 "after 5", and 18 "in the place of 10".
 abbrev pub precedence : List ℕ
-precedence = 1 ∷ 13 ∷ 2 ∷ 14 ∷ 15 ∷ 3 ∷ 4 ∷ 5 ∷ 6 ∷ 7 ∷ 16 ∷ 8 ∷ 9 ∷ 12 ∷ 10 ∷ 11 ∷ []
+precedence = 1 ∷ 13 ∷ 2 ∷ 14 ∷ 15 ∷ 3 ∷ 4 ∷ 5 ∷ 17 ∷ 6 ∷ 7 ∷ 16 ∷ 8 ∷ 9 ∷ 12 ∷ 10 ∷ 18 ∷ 11 ∷ []
 
 -- the place of a number among others, from 1, or behind them
 abbrev pub placeIn : List ℕ → ℕ → ℕ
@@ -143,16 +152,20 @@ pub record View : Type 0 where
   pub isWritten : ℕ → Bool
   pub bytes : ℕ
 
+-- 1 of a table, and of the sheet of limits that is lent with it
+abbrev pub unfitTable : Limits → List Cap → ℕ → Bool
+unfitTable limits table issued = disordered table issued || refusedSheet table limits
+
 -- 1 of all that is lent. Card 9: "The caller lends 8,192 bytes (any other length is 1)"
-abbrev pub unfit : View → Bool
-unfit v = disordered (v .table) (v .issued) || not (eqb (v .bytes) 8192)
+abbrev pub unfit : Limits → View → Bool
+unfit limits v = unfitTable limits (v .table) (v .issued) || not (eqb (v .bytes) 8192)
 
 -- what is lent: a table, written bits, and so many names issued
 abbrev pub viewOf : List Cap → List ℕ → ℕ → View
 viewOf table bits issued = record { table = table; issued = issued; isWritten = bitAt bits; bytes = length bits }
 
 unfoldable pub refusals : View → Request → List (ℕ × Bool)
-refusals v q = (1, unfit v) ∷ checks (liveRows (v .table)) (v .issued) (v .isWritten) (length (v .table)) q
+refusals v q = (1, unfit (callerOf q .limits) v) ∷ checks (liveRows (v .table)) (v .issued) (v .isWritten) (length (v .table)) q
 
 -- "The lowest number that applies is the one given", where the cards give their numbers places of their own: the first of the list
 -- that holds, or 0 where the request is allowed. The places rise in each list, but for the names of a group (proofs/Precedence).

@@ -1,4 +1,5 @@
--- What a caller asks for: an event by itself, or, by card 5, "frames dropped together", names that are dropped together.
+-- What a caller asks for: an event by itself, or, by card 5, "frames dropped together", names that are dropped together; and, by card 10,
+-- who asks.
 -- Assumes nothing.
 use Prim.Native.Nat.{ℕ}
 use mathlib.Core.Bool.{Bool, true, _&&_}
@@ -10,14 +11,31 @@ use Rattle.model.specs.declared.Asked.the-variants as asked
 use Rattle.model.specs.declared.Event.{Event}
 use Rattle.model.specs.declared.Event.the-variants.{Drop}
 
-pub data Request : Type 0 where
-  Single : Event → Request
-  Group : List ℕ → Request
+-- Card 10: "A caller may lend a sheet of 64 limits, one for each domain, on the live rows it made."
+pub data Limits : Type 0 where
+  Unlimited : Limits
+  Limited : List ℕ → Limits
 
--- what is asked, with the names that are lent beside it; an event has no use for them
-abbrev pub requestOf : Asked → List ℕ → Request
-requestOf (asked.Single e) names = Single e
-requestOf asked.Group names = Group names
+-- the domain that acts, and the sheet of limits that is lent with the event, or none
+pub record Caller : Type 0 where
+  pub actor : ℕ
+  pub limits : Limits
+
+abbrev pub caller : ℕ → Limits → Caller
+caller actor limits = record { actor = actor; limits = limits }
+
+pub data Request : Type 0 where
+  Single : Caller → Event → Request
+  Group : Caller → List ℕ → Request
+
+abbrev pub callerOf : Request → Caller
+callerOf (Single by e) = by
+callerOf (Group by names) = by
+
+-- what is asked and by whom, with the sheet of limits and the names that are lent beside it; an event has no use for the names
+abbrev pub requestOf : Limits → Asked → List ℕ → Request
+requestOf limits (asked.Single actor e) names = Single (caller actor limits) e
+requestOf limits (asked.Group actor) names = Group (caller actor limits) names
 
 -- ---- names dropped together
 
@@ -35,5 +53,5 @@ unfoldable pub isGroup : List ℕ → Bool
 isGroup names = leb 1 (length names) && leb (length names) 64 && risesStrictly names
 
 -- "single drops in falling order of name"
-abbrev pub singleDrops : List ℕ → List Request
-singleDrops names = map (λ u. Single (Drop (record { 0 = u }))) (reverse names)
+abbrev pub singleDrops : Caller → List ℕ → List Request
+singleDrops by names = map (λ u. Single by (Drop (record { 0 = u }))) (reverse names)

@@ -1,4 +1,4 @@
--- Document 01, "Values", and cards 6 and 9: the rows of the lent table, and when a table is in order.
+-- Document 01, "Values", and cards 6, 9 and 10: the rows of the lent table, and when a table is in order.
 -- Assumes nothing.
 use Prim.Native.Nat.{ℕ, suc, _+_, _-_}
 use mathlib.Core.Bool.{Bool, true, not, cond, _&&_, _||_}
@@ -10,6 +10,7 @@ use Rattle.model.specs.declared.Cap.{Cap}
 use Rattle.model.specs.Lists.{filter, any, all}
 use Rattle.model.specs.Values.{end, legal, inside}
 use Rattle.model.specs.Derivation.{Derivation}
+use Rattle.model.specs.Bits.{hasBit}
 
 -- ---- rows
 
@@ -25,17 +26,19 @@ row d right depth =
       depth = depth;
       kind = d .kind;
       fresh = d .fresh;
+      maker = d .maker;
+      holders = d .holders;
     }
 
 -- a row that is all zeros
 abbrev pub emptyRow : Cap
-emptyRow = row (record { name = 0; parent = 0; span = record { start = record { 0 = 0 }; length = 0 }; kind = 0; fresh = 0 }) 0 0
+emptyRow = row (record { name = 0; parent = 0; span = record { start = record { 0 = 0 }; length = 0 }; kind = 0; fresh = 0; maker = 0; holders = 0 }) 0 0
 
 abbrev pub span : Cap → Span
 span c = record { start = c .start; length = c .length }
 
 abbrev pub derivation : Cap → Derivation
-derivation c = record { name = c .name .0; parent = c .parent .0; span = span c; kind = c .kind; fresh = c .fresh }
+derivation c = record { name = c .name .0; parent = c .parent .0; span = span c; kind = c .kind; fresh = c .fresh; maker = c .maker; holders = c .holders }
 
 abbrev pub derivations : List Cap → List Derivation
 derivations = map derivation
@@ -61,7 +64,7 @@ lookup x (c ∷ rows) = cond (named x c) c (lookup x rows)
 -- ---- a table in order
 
 unfoldable pub isEmptyRow : Cap → Bool
-isEmptyRow c = eqb (c .name .0) 0 && eqb (c .parent .0) 0 && eqb (c .start .0) 0 && eqb (c .length) 0 && eqb (c .right) 0 && eqb (c .depth) 0 && eqb (c .kind) 0 && eqb (c .fresh) 0
+isEmptyRow c = eqb (c .name .0) 0 && eqb (c .parent .0) 0 && eqb (c .start .0) 0 && eqb (c .length) 0 && eqb (c .right) 0 && eqb (c .depth) 0 && eqb (c .kind) 0 && eqb (c .fresh) 0 && eqb (c .maker) 0 && eqb (c .holders) 0
 
 -- "arranged as above": from the first row named 0 on, every row is all zeros
 unfoldable pub liveRowsFirst : List Cap → Bool
@@ -83,9 +86,17 @@ isMark m = leb m 1
 abbrev pub isMarked : Derivation → Bool
 isMarked d = eqb (d .fresh) 1
 
--- what is asked of the mark: of a marked row, that it ends at 65,536 or below
+-- Card 10: "A domain above 63 .. is .. 1 in a row"
+abbrev pub isDomain : ℕ → Bool
+isDomain d = ltb d 64
+
+-- the domain has its bit in the mask: "domain D being worth 2^D"
+abbrev pub holds : Derivation → ℕ → Bool
+holds d actor = hasBit (d .holders) actor
+
+-- what is asked of the mark, the maker and the holders: that a marked row ends at 65,536 or below, and that the mask has its maker
 unfoldable pub termsInOrder : Derivation → Bool
-termsInOrder d = isMark (d .fresh) && (not (isMarked d) || leb (end (d .span)) 65536)
+termsInOrder d = isDomain (d .maker) && (holds d (d .maker) && (isMark (d .fresh) && (not (isMarked d) || leb (end (d .span)) 65536)))
 
 -- "a span inside the parent's, a right not above it, and a depth one more and at most 64"; card 9: a row whose mark "differs from its
 -- parent's, is refusal 1"

@@ -1,12 +1,12 @@
 -- Document 01, "Traces to try", those with a star; "Eleven ways to be turned down", the examples that are events; cards 1, 2 and 4
--- to 9; and capcheck's example.
+-- to 10; and capcheck's example.
 -- One table, and one computed proof over it (proofs/Traces).
 -- Assumes nothing.
 use Prim.Native.Nat.{ℕ, zero, suc}
 use mathlib.Core.Bool.{Bool, true, false, _&&_}
 use mathlib.Core.List.{List, [], _∷_, _++_, map, reverse}
 use lib.Dec.{eqb}
-use lib.ListN.{replicate}
+use lib.ListN.{replicate, set}
 use Rattle.model.specs.declared.Span.{Span}
 use Rattle.model.specs.declared.Cap.{Cap}
 use Rattle.model.specs.declared.Tally.{Tally}
@@ -19,7 +19,7 @@ use Rattle.model.specs.Lists.{answers, final}
 use Rattle.model.specs.Sheet6.{results, conflicts, sheet6}
 use Rattle.model.specs.Table.{row, emptyRow, liveRows}
 use Rattle.model.specs.Counts.{tally}
-use Rattle.model.specs.Requests.{Request, Single, Group}
+use Rattle.model.specs.Requests.{Unlimited, Limited, Caller, Request, Single, Group}
 use Rattle.model.specs.Step.{Verdict, State, initial, answer, after}
 
 -- ---- requests, as the text spells them
@@ -33,34 +33,38 @@ RW = 2
 abbrev span : ℕ → ℕ → Span
 span start length = record { start = record { 0 = start }; length = length }
 
+-- domain 0, without limits, alone holds what it makes
+abbrev by : Caller
+by = record { actor = 0; limits = Unlimited }
+
 abbrev terms : ℕ → ℕ → ℕ → Terms
-terms right kind fresh = record { right = right; kind = kind; fresh = fresh }
+terms right kind fresh = record { right = right; kind = kind; fresh = fresh; holders = 1 }
 
 abbrev create : ℕ → ℕ → ℕ → Request
-create start length right = Single (Create Unwritten (span start length) (terms right 0 0))
+create start length right = Single by (Create Unwritten (span start length) (terms right 0 0))
 
 abbrev borrow : ℕ → ℕ → ℕ → ℕ → Request
-borrow name start length right = Single (Borrow Unwritten (record { 0 = name }) (span start length) (terms right 0 0))
+borrow name start length right = Single by (Borrow Unwritten (record { 0 = name }) (span start length) (terms right 0 0))
 
 abbrev read : ℕ → ℕ → ℕ → Request
-read name start length = Single (Read (record { 0 = name }) (span start length))
+read name start length = Single by (Read (record { 0 = name }) (span start length))
 
 abbrev write : ℕ → ℕ → ℕ → Request
-write name start length = Single (Write (record { 0 = name }) (span start length))
+write name start length = Single by (Write (record { 0 = name }) (span start length))
 
 abbrev drop : ℕ → Request
-drop name = Single (Drop (record { 0 = name }))
+drop name = Single by (Drop (record { 0 = name }))
 
 -- with a kind
 abbrev borrowAs : ℕ → ℕ → ℕ → ℕ → ℕ → Request
-borrowAs kind name start length right = Single (Borrow Unwritten (record { 0 = name }) (span start length) (terms right kind 0))
+borrowAs kind name start length right = Single by (Borrow Unwritten (record { 0 = name }) (span start length) (terms right kind 0))
 
 -- with the name written out
 abbrev createNamed : ℕ → ℕ → ℕ → ℕ → Request
-createNamed new start length right = Single (Create (Written (record { 0 = new })) (span start length) (terms right 0 0))
+createNamed new start length right = Single by (Create (Written (record { 0 = new })) (span start length) (terms right 0 0))
 
 abbrev borrowNamed : ℕ → ℕ → ℕ → ℕ → ℕ → Request
-borrowNamed new name start length right = Single (Borrow (Written (record { 0 = new })) (record { 0 = name }) (span start length) (terms right 0 0))
+borrowNamed new name start length right = Single by (Borrow (Written (record { 0 = new })) (record { 0 = name }) (span start length) (terms right 0 0))
 
 -- ---- traces
 
@@ -128,10 +132,10 @@ names zero x = []
 names (suc n) x = (x, RW) ∷ names n (suc x)
 
 abbrev namedThree : Cap
-namedThree = row (record { name = 3; parent = 0; span = span 0 64; kind = 0; fresh = 0 }) RW 1
+namedThree = row (record { name = 3; parent = 0; span = span 0 64; kind = 0; fresh = 0; maker = 0; holders = 1 }) RW 1
 
 abbrev namedOne : Cap
-namedOne = row (record { name = 1; parent = 0; span = span 0 64; kind = 0; fresh = 0 }) RW 1
+namedOne = row (record { name = 1; parent = 0; span = span 0 64; kind = 0; fresh = 0; maker = 0; holders = 1 }) RW 1
 
 unfoldable pub refused : List Trace
 refused =
@@ -195,17 +199,17 @@ reused =
 -- old drop.
 unfoldable pub together : List Trace
 together =
-    created 1024 ((borrow 1 0 8 RW, 0, 2) ∷ (borrow 1 8 8 RW, 0, 3) ∷ (borrow 1 16 8 RW, 0, 4) ∷ (Group (2 ∷ 4 ∷ []), 0, 0) ∷ (read 4 16 8, 5, 0) ∷ []) ((1, RW) ∷ (3, RW) ∷ [])
-    ∷ created 1024 ((create 64 64 RW, 0, 2) ∷ (borrow 1 0 32 RW, 0, 3) ∷ (borrow 3 0 8 RW, 0, 4) ∷ (borrow 4 0 8 RW, 0, 5) ∷ (Group (1 ∷ 4 ∷ []), 0, 0) ∷ []) ((2, RW) ∷ [])
+    created 1024 ((borrow 1 0 8 RW, 0, 2) ∷ (borrow 1 8 8 RW, 0, 3) ∷ (borrow 1 16 8 RW, 0, 4) ∷ (Group by (2 ∷ 4 ∷ []), 0, 0) ∷ (read 4 16 8, 5, 0) ∷ []) ((1, RW) ∷ (3, RW) ∷ [])
+    ∷ created 1024 ((create 64 64 RW, 0, 2) ∷ (borrow 1 0 32 RW, 0, 3) ∷ (borrow 3 0 8 RW, 0, 4) ∷ (borrow 4 0 8 RW, 0, 5) ∷ (Group by (1 ∷ 4 ∷ []), 0, 0) ∷ []) ((2, RW) ∷ [])
     ∷ created 1024
-    ((create 64 8 RW, 0, 2) ∷ (create 72 8 RW, 0, 3) ∷ (create 80 8 RW, 0, 4) ∷ (create 88 8 RW, 0, 5) ∷ (create 96 8 RW, 0, 6) ∷ (create 104 8 RW, 0, 7) ∷ (create 112 8 RW, 0, 8) ∷ (create 120 8 RW, 0, 9) ∷ (Group (2 ∷ 5 ∷ 9 ∷ []), 0, 0) ∷ [])
+    ((create 64 8 RW, 0, 2) ∷ (create 72 8 RW, 0, 3) ∷ (create 80 8 RW, 0, 4) ∷ (create 88 8 RW, 0, 5) ∷ (create 96 8 RW, 0, 6) ∷ (create 104 8 RW, 0, 7) ∷ (create 112 8 RW, 0, 8) ∷ (create 120 8 RW, 0, 9) ∷ (Group by (2 ∷ 5 ∷ 9 ∷ []), 0, 0) ∷ [])
     ((1, RW) ∷ (3, RW) ∷ (4, RW) ∷ (6, RW) ∷ (7, RW) ∷ (8, RW) ∷ [])
-    ∷ created 1024 ((borrow 1 0 8 RW, 0, 2) ∷ (drop 2, 0, 0) ∷ (Group (2 ∷ 9 ∷ []), 5, 0) ∷ (Group (0 ∷ 2 ∷ []), 4, 0) ∷ []) ((1, RW) ∷ [])
-    ∷ created 1024 ((borrow 1 0 8 RW, 0, 2) ∷ (Group (1 ∷ 2 ∷ 3 ∷ []), 4, 0) ∷ (drop 2, 0, 0) ∷ (Group (1 ∷ 2 ∷ []), 5, 0) ∷ []) ((1, RW) ∷ [])
-    ∷ created 1024 ((Group [], 13, 0) ∷ (Group (9 ∷ 8 ∷ []), 13, 0) ∷ (Group (1 ∷ 1 ∷ []), 13, 0) ∷ []) ((1, RW) ∷ [])
-    ∷ created 1024 ((Group (map (λ p. p .0) (names 65 1)), 13, 0) ∷ (Group (map (λ p. p .0) (names 64 1)), 4, 0) ∷ []) ((1, RW) ∷ [])
-    ∷ from (lending (namedThree ∷ namedThree ∷ []) 3) ((Group [], 1, 0) ∷ []) ((3, RW) ∷ (3, RW) ∷ [])
-    ∷ created 1024 ((Group (1 ∷ []), 0, 0) ∷ (Group (1 ∷ []), 5, 0) ∷ []) []
+    ∷ created 1024 ((borrow 1 0 8 RW, 0, 2) ∷ (drop 2, 0, 0) ∷ (Group by (2 ∷ 9 ∷ []), 5, 0) ∷ (Group by (0 ∷ 2 ∷ []), 4, 0) ∷ []) ((1, RW) ∷ [])
+    ∷ created 1024 ((borrow 1 0 8 RW, 0, 2) ∷ (Group by (1 ∷ 2 ∷ 3 ∷ []), 4, 0) ∷ (drop 2, 0, 0) ∷ (Group by (1 ∷ 2 ∷ []), 5, 0) ∷ []) ((1, RW) ∷ [])
+    ∷ created 1024 ((Group by [], 13, 0) ∷ (Group by (9 ∷ 8 ∷ []), 13, 0) ∷ (Group by (1 ∷ 1 ∷ []), 13, 0) ∷ []) ((1, RW) ∷ [])
+    ∷ created 1024 ((Group by (map (λ p. p .0) (names 65 1)), 13, 0) ∷ (Group by (map (λ p. p .0) (names 64 1)), 4, 0) ∷ []) ((1, RW) ∷ [])
+    ∷ from (lending (namedThree ∷ namedThree ∷ []) 3) ((Group by [], 1, 0) ∷ []) ((3, RW) ∷ (3, RW) ∷ [])
+    ∷ created 1024 ((Group by (1 ∷ []), 0, 0) ∷ (Group by (1 ∷ []), 5, 0) ∷ []) []
     ∷ []
 
 -- Card 6: a write through the parent of a raw capability, or from below it, spares it, and so does every read; a write from elsewhere ends
@@ -224,8 +228,8 @@ kinds =
     ((borrowAs 2 1 0 8 RW, 0, 2) ∷ (borrowAs 2 2 0 8 RW, 0, 3) ∷ (borrow 2 0 8 RW, 0, 4) ∷ (borrow 1 0 8 RW, 0, 5) ∷ (write 3 0 8, 0, 0) ∷ (write 4 0 8, 0, 0) ∷ [])
     ((1, RW) ∷ (2, RW) ∷ (4, RW) ∷ (5, RW) ∷ [])
     ∷ created 1024 ((borrowAs 3 1 0 8 RW, 2, 0) ∷ (borrowAs 255 9 0 8 RW, 2, 0) ∷ []) ((1, RW) ∷ [])
-    ∷ from (lending (row (record { name = 1; parent = 0; span = span 0 64; kind = 1; fresh = 0 }) RW 1 ∷ []) 1) ((read 1 0 8, 1, 0) ∷ []) ((1, RW) ∷ [])
-    ∷ from (lending (namedOne ∷ row (record { name = 2; parent = 1; span = span 0 8; kind = 3; fresh = 0 }) RW 2 ∷ []) 2) ((read 1 0 8, 1, 0) ∷ []) ((1, RW) ∷ (2, RW) ∷ [])
+    ∷ from (lending (row (record { name = 1; parent = 0; span = span 0 64; kind = 1; fresh = 0; maker = 0; holders = 1 }) RW 1 ∷ []) 1) ((read 1 0 8, 1, 0) ∷ []) ((1, RW) ∷ [])
+    ∷ from (lending (namedOne ∷ row (record { name = 2; parent = 1; span = span 0 8; kind = 3; fresh = 0; maker = 0; holders = 1 }) RW 2 ∷ []) 2) ((read 1 0 8, 1, 0) ∷ []) ((1, RW) ∷ (2, RW) ∷ [])
     ∷ []
 
 -- Card 6, after section 5.1 of source document 000: figure 3 with its raw pointer as one; raw pointers and their parent in turn; a raw one
@@ -280,10 +284,10 @@ thinned =
 
 -- Card 9
 abbrev createFresh : ℕ → ℕ → ℕ → Request
-createFresh start length right = Single (Create Unwritten (span start length) (terms right 0 1))
+createFresh start length right = Single by (Create Unwritten (span start length) (terms right 0 1))
 
 abbrev markedRow : ℕ → ℕ → ℕ → ℕ → ℕ → ℕ → Cap
-markedRow mark name parent start length depth = row (record { name = name; parent = parent; span = span start length; kind = 0; fresh = mark }) RW depth
+markedRow mark name parent start length depth = row (record { name = name; parent = parent; span = span start length; kind = 0; fresh = mark; maker = 0; holders = 1 }) RW depth
 
 -- by a sheet that keeps everything, what is not marked and what is may lie over the same addresses
 abbrev keepingSheet : Sheet
@@ -303,14 +307,14 @@ writtenFirst =
     ((2, ro) ∷ (3, RW) ∷ [])
     -- 2: another mark, a kind in a create, a mark in a borrow; 3: an end above 65,536
     ∷ trace 4
-    ((Single (Create Unwritten (span 0 8) (terms RW 0 2)), 2, 0) ∷ (Single (Create Unwritten (span 0 8) (terms RW 1 0)), 2, 0) ∷ (createFresh 65528 9 RW, 3, 0) ∷ (createFresh 65528 8 RW, 0, 1) ∷ (Single (Borrow Unwritten (record { 0 = 1 }) (span 65528 8) (terms RW 0 1)), 2, 0) ∷ (createFresh 65536 0 RW, 0, 2) ∷ [])
+    ((Single by (Create Unwritten (span 0 8) (terms RW 0 2)), 2, 0) ∷ (Single by (Create Unwritten (span 0 8) (terms RW 1 0)), 2, 0) ∷ (createFresh 65528 9 RW, 3, 0) ∷ (createFresh 65528 8 RW, 0, 1) ∷ (Single by (Borrow Unwritten (record { 0 = 1 }) (span 65528 8) (terms RW 0 1)), 2, 0) ∷ (createFresh 65536 0 RW, 0, 2) ∷ [])
     ((1, RW) ∷ (2, RW) ∷ [])
     -- 1: a marked row that ends above 65,536, marks that differ from the parent's, no mark, and 8,191 bytes
     ∷ from (lending (markedRow 1 1 0 65530 7 1 ∷ []) 1) ((read 1 65530 0, 1, 0) ∷ []) ((1, RW) ∷ [])
     ∷ from (lending (namedOne ∷ markedRow 1 2 1 0 8 2 ∷ []) 2) ((read 1 0 8, 1, 0) ∷ []) ((1, RW) ∷ (2, RW) ∷ [])
     ∷ from (lending (markedRow 1 1 0 0 64 1 ∷ markedRow 0 2 1 0 8 2 ∷ []) 2) ((read 1 0 8, 1, 0) ∷ []) ((1, RW) ∷ (2, RW) ∷ [])
     ∷ from (lending (markedRow 2 1 0 0 64 1 ∷ []) 1) ((read 1 0 8, 1, 0) ∷ []) ((1, RW) ∷ [])
-    ∷ from (record { memory = record { table = namedOne ∷ []; bits = replicate 8191 0 }; tally = noCounts 1 }) ((read 1 0 8, 1, 0) ∷ (Group [], 1, 0) ∷ []) ((1, RW) ∷ [])
+    ∷ from (record { memory = record { table = namedOne ∷ []; bits = replicate 8191 0 }; tally = noCounts 1 }) ((read 1 0 8, 1, 0) ∷ (Group by [], 1, 0) ∷ []) ((1, RW) ∷ [])
     -- every write sets, through whatever capability and also below an end above 65,536, and every create clears
     ∷ record {
       sheet = keepingSheet;
@@ -322,6 +326,45 @@ writtenFirst =
     }
     ∷ []
 
+-- Card 10: a domain that holds no bit is 17, after 5 and before 6, and in a group in its turn; a domain above 63 and a mask without its maker are
+-- 2, and 1 in a row. With limits a domain's create past its own is 18, after 12 and also in a full table, and others go on; a sheet of another
+-- length, of too high a sum, or which the table exceeds, is 1.
+abbrev acting : ℕ → Caller
+acting d = record { actor = d; limits = Unlimited }
+
+-- with limits for the domains 0 and 3
+abbrev within : ℕ → ℕ → ℕ → Caller
+within zeroth third d = record { actor = d; limits = Limited (set (set (replicate 64 0) 0 zeroth) 3 third) }
+
+abbrev holding : ℕ → Terms
+holding mask = record { right = RW; kind = 0; fresh = 0; holders = mask }
+
+abbrev createBy : Caller → ℕ → ℕ → ℕ → Request
+createBy q mask start length = Single q (Create Unwritten (span start length) (holding mask))
+
+-- with a name that is written out
+abbrev namedBy : Caller → ℕ → ℕ → ℕ → ℕ → Request
+namedBy q name mask start length = Single q (Create (Written (record { 0 = name })) (span start length) (holding mask))
+
+abbrev borrowBy : Caller → ℕ → ℕ → ℕ → ℕ → Request
+borrowBy q mask name start length = Single q (Borrow Unwritten (record { 0 = name }) (span start length) (holding mask))
+
+abbrev readBy : Caller → ℕ → ℕ → ℕ → Request
+readBy q name start length = Single q (Read (record { 0 = name }) (span start length))
+
+abbrev dropBy : Caller → ℕ → Request
+dropBy q name = Single q (Drop (record { 0 = name }))
+
+unfoldable pub domains : List Trace
+domains =
+    trace 4
+    ((createBy (acting 3) 9 0 8, 0, 1) ∷ (createBy (acting 3) 8 8 8, 0, 2) ∷ (read 1 0 8, 0, 0) ∷ (read 2 8 8, 17, 0) ∷ (read 2 0 8, 17, 0) ∷ (readBy (acting 3) 2 0 8, 6, 0) ∷ (Group by (1 ∷ 2 ∷ []), 17, 0) ∷ (dropBy (acting 3) 2, 0, 0) ∷ (read 2 8 8, 5, 0) ∷ [])
+    ((1, RW) ∷ [])
+    ∷ trace 4 ((createBy (acting 64) 1 0 8, 2, 0) ∷ (createBy (acting 3) 4 0 8, 2, 0) ∷ (createBy (acting 3) 8 0 8, 0, 1) ∷ (borrowBy (acting 3) 1 1 0 8, 2, 0) ∷ (borrowBy (acting 0) 1 1 0 8, 17, 0) ∷ (readBy (acting 64) 9 0 8, 2, 0) ∷ []) ((1, RW) ∷ [])
+    ∷ trace 2 ((createBy (within 1 1 0) 1 0 8, 0, 1) ∷ (createBy (within 1 1 0) 1 8 8, 18, 0) ∷ (namedBy (within 1 1 0) 9 1 8 8, 12, 0) ∷ (createBy (within 1 1 3) 8 8 8, 0, 2) ∷ (borrowBy (within 1 1 3) 8 2 8 8, 18, 0) ∷ (readBy (within 0 1 0) 1 0 8, 1, 0) ∷ (readBy (within 2 1 0) 1 0 8, 1, 0) ∷ (readBy (record { actor = 0; limits = Limited [] }) 1 0 8, 1, 0) ∷ []) ((1, RW) ∷ (2, RW) ∷ [])
+    ∷ from (lending (row (record { name = 1; parent = 0; span = span 0 64; kind = 0; fresh = 0; maker = 3; holders = 1 }) RW 1 ∷ []) 1) ((read 1 0 8, 1, 0) ∷ []) ((1, RW) ∷ [])
+    ∷ []
+
 -- "The bracket text": what capcheck is shown on
 unfoldable pub printed : Trace
 printed =
@@ -330,7 +373,7 @@ printed =
     ((1, RW) ∷ (2, ro) ∷ (3, RW) ∷ [])
 
 unfoldable pub traces : List Trace
-traces = starred ++ (refused ++ (written ++ (empty ++ (reused ++ (together ++ (kinds ++ (inRust ++ (sheets ++ (thinned ++ (writtenFirst ++ (printed ∷ [])))))))))))
+traces = starred ++ (refused ++ (written ++ (empty ++ (reused ++ (together ++ (kinds ++ (inRust ++ (sheets ++ (thinned ++ (writtenFirst ++ (domains ++ (printed ∷ []))))))))))))
 
 -- ---- when a trace goes as it says
 

@@ -17,8 +17,9 @@ pub struct Span {
 }
 
 // "Values", a row of the lent table, in document 01's order of the fields, and card 6: "The record gains a kind: 0 reference, 1 raw,
-// 2 cell"; card 9: borrows below a `fresh` create "carry that mark in their records", 1 where they do and 0 else. Eight words of 32 bits: the
-// same record in C, and no byte of it is padding. The right is 1 (`ro`) or 2 (`rw`) in a table in order, and the kind at most 2.
+// 2 cell"; card 9: borrows below a `fresh` create "carry that mark in their records", 1 where they do and 0 else; card 10: "the maker's
+// domain and a 64-bit mask of holders", domain D being worth 2^D. In a table in order the right is 1 (`ro`) or 2 (`rw`), the kind at most 2,
+// and the maker at most 63. In C the mask is two words, so that a row is eleven words of 32 bits and no byte of it is padding.
 #[repr(C)]
 pub struct Cap {
     pub name: Name,
@@ -29,6 +30,8 @@ pub struct Cap {
     pub depth: u32,
     pub kind: u32,
     pub fresh: u32,
+    pub maker: u32,
+    pub holders: u64,
 }
 
 // "Values", the tally: names issued, the allowed events of each of the five kinds, and refused events.
@@ -50,11 +53,13 @@ pub enum NewName {
 }
 
 // What a create or borrow gives to what it makes besides a span: the right; by card 6 the kind, which is 0 in a create ("Creates make
-// references"); and by card 9 whether it is `fresh`, 1, or not, 0, as in every borrow. Each may be any byte.
+// references"); and by card 9 whether it is `fresh`, 1, or not, 0, as in every borrow. Each may be any byte. Card 10: "a 64-bit mask of
+// holders, given by the maker at creation or borrowing and including itself".
 pub struct Terms {
     pub right: u8,
     pub kind: u8,
     pub fresh: u8,
+    pub holders: u64,
 }
 
 // "Values", an event: one of five kinds, each with its own values. The names, starts and lengths may be any 32-bit numbers.
@@ -66,11 +71,11 @@ pub enum Event {
     Drop(Name),
 }
 
-// What is asked: an event, or, card 5, that the names which are lent beside it are dropped together. An enum holds no list, so the names
-// stand beside; `requestOf` of specs/Requests puts both together.
+// What is asked, and by which domain: an event, or, card 5, that the names which are lent beside it are dropped together. An enum holds no
+// list, so the names stand beside; `requestOf` of specs/Requests puts both together. The domain may be any 32-bit number.
 pub enum Asked {
-    Single(Event),
-    Group,
+    Single(u32, Event),
+    Group(u32),
 }
 
 // "What each event does": the two kinds of access to memory.
@@ -113,9 +118,10 @@ pub struct Sheet {
 
 // "Eleven ways to be turned down", and those of the cards: each is named for its condition.
 pub enum Refusal {
-    // 1: table not in order, or written bits of another length than 8,192 bytes.
+    // 1: table not in order, written bits of another length than 8,192 bytes, or a sheet of limits that is refused.
     Disordered,
-    // 2: line or listing not in the one spelling; event whose right is neither 1 nor 2, or whose kind or mark is none.
+    // 2: line or listing not in the one spelling; event whose right is neither 1 nor 2, whose kind, mark or domain is none, or whose mask of
+    // holders lacks its maker.
     Misspelt,
     // 3: span not legal: it ends above 4,294,967,296, or that of a `fresh` create above 65,536.
     IllegalSpan,
@@ -145,6 +151,10 @@ pub enum Refusal {
     NotGiven,
     // 16, after 7: a read through a marked capability with some address not yet written.
     NotWritten,
+    // 17, after 5: the domain is no holder.
+    NoHolder,
+    // 18, in the place of 10: the domain's limit is reached.
+    LimitReached,
 }
 
 // The answer to an event: allowed, with the new name of a create or borrow and name 0 of the others; or refused.

@@ -3,11 +3,12 @@
 use Prim.Native.Nat.{ℕ}
 use mathlib.Core.Path.{_≡_}
 use mathlib.Core.List.{List}
+use Rattle.model.specs.declared.Asked.{Asked}
 use Rattle.model.specs.declared.Cap.{Cap}
 use Rattle.model.specs.declared.Sheet.{Sheet}
 use Rattle.model.specs.declared.Tally.{Tally}
 use Rattle.rules.specs.declared.Outcome.{Outcome}
-use Rattle.model.specs.Requests.{Request}
+use Rattle.model.specs.Requests.{Limits, Request, requestOf}
 use Rattle.model.specs.Refusals.{viewOf, judge}
 use Rattle.model.specs.Step.{State, after}
 use Rattle.model.specs.Step
@@ -25,7 +26,8 @@ pub record Stepped (sheet : Sheet) (ws : List (List ℕ)) (bs : List ℕ) (t : T
   pub tally : r .tally ≡ after sheet (lends (rowsIn ws) bs t) q .tally
   pub answer : verdictOf (r .answer) ≡ Step.answer (lends (rowsIn ws) bs t) q
 
--- with some written bits a request on these rows is allowed
-pub record AllowedOn (rows : List Cap) (issued : ℕ) (q : Request) : Type 0 where
+-- with some written bits and some limits what is asked is allowed on these rows
+pub record AllowedOn (rows : List Cap) (issued : ℕ) (asked : Asked) (names : List ℕ) : Type 0 where
   pub bits : List ℕ
-  pub judged : judge (viewOf rows bits issued) q ≡ 0
+  pub limits : Limits
+  pub judged : judge (viewOf rows bits issued) (requestOf limits asked names) ≡ 0

@@ -24,5 +24,7 @@ pub fn number_of(refusal: Refusal) -> u32
         Refusal::GivenTwice => 14,
         Refusal::NotGiven => 15,
         Refusal::NotWritten => 16,
+        Refusal::NoHolder => 17,
+        Refusal::LimitReached => 18,
     }
 }

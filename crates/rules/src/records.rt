@@ -23,6 +23,7 @@ ghost use Rattle.model.specs.Table.{emptyRow};
 ghost use Rattle.model.specs.Answers.{verdictOf};
 ghost use Rattle.table.specs.Words.{wordsOf, rowsIn};
 ghost use Rattle.table.specs.Sheets.{sheetIn};
+ghost use Rattle.table.specs.Limits.{limitsIn};
 ghost use Rattle.model.specs.Requests.{requestOf};
 ghost use Rattle.rules.specs.Steps.{lends};
 ghost use Rattle.rules.specs.Records;
@@ -82,14 +83,15 @@ fn request_first(
     bits: &mut [u8],
     t: Tally,
     sheet: &SheetBytes,
+    limits: &[u32],
     asked: Asked,
     names: &[u32],
 ) -> Outcome
     requires { ⌜ length (now rows) ≡ 1024 ⌝ }
-    ensures { λ r. ⌜ Requested (sheetIn (now (sheet .entry))) (now (rows .entry)) n (now (bits .entry)) t (requestOf asked (now (names .entry))) (now (rows .exit)) (now (bits .exit)) r ⌝ }
+    ensures { λ r. ⌜ Requested (sheetIn (now (sheet .entry))) (now (rows .entry)) n (now (bits .entry)) t (requestOf (limitsIn (now (limits .entry))) asked (now (names .entry))) (now (rows .exit)) (now (bits .exit)) r ⌝ }
 {
     if n <= 1024 {
-        return step(&mut rows[..n], bits, t, sheet, asked, names);
+        return step(&mut rows[..n], bits, t, sheet, limits, asked, names);
     }
     Outcome {
         tally: t,
@@ -104,35 +106,38 @@ fn request_held(
     bits: &mut [u8],
     t: Tally,
     sheet: Sheet,
+    limits: &[u32],
     asked: Asked,
     names: &[u32],
 ) -> Outcome
     requires { ⌜ length (now rows) ≡ 1024 ⌝ }
-    ensures { λ r. ⌜ Requested sheet (now (rows .entry)) n (now (bits .entry)) t (requestOf asked (now (names .entry))) (now (rows .exit)) (now (bits .exit)) r ⌝ }
+    ensures { λ r. ⌜ Requested sheet (now (rows .entry)) n (now (bits .entry)) t (requestOf (limitsIn (now (limits .entry))) asked (now (names .entry))) (now (rows .exit)) (now (bits .exit)) r ⌝ }
 {
     let bytes = bytes_of(sheet);
-    request_first(rows, n, bits, t, &bytes, asked, names)
+    request_first(rows, n, bits, t, &bytes, limits, asked, names)
 }
 
-// A request on the table, the bits and the tally that are lent, by a sheet; the names are those of names dropped together.
+// A request on the table, the bits and the tally that are lent, by a sheet, with limits where some are lent; the names are those of names
+// dropped together.
 pub fn apply(
     table: &mut [Cap],
     bits: &mut [u8],
     tally: &mut Tally,
     sheet: Sheet,
+    limits: &[u32],
     asked: Asked,
     names: &[u32],
 ) -> Answer
-    ensures { λ r. ⌜ (now (table .exit) ≡ Step.after sheet (lends (now (table .entry)) (now (bits .entry)) (now (tally .entry))) (requestOf asked (now (names .entry))) .memory .table)
-        × (now (bits .exit) ≡ Step.after sheet (lends (now (table .entry)) (now (bits .entry)) (now (tally .entry))) (requestOf asked (now (names .entry))) .memory .bits)
-        × (now (tally .exit) ≡ Step.after sheet (lends (now (table .entry)) (now (bits .entry)) (now (tally .entry))) (requestOf asked (now (names .entry))) .tally)
-        × (verdictOf r ≡ Step.answer (lends (now (table .entry)) (now (bits .entry)) (now (tally .entry))) (requestOf asked (now (names .entry)))) ⌝ }
+    ensures { λ r. ⌜ (now (table .exit) ≡ Step.after sheet (lends (now (table .entry)) (now (bits .entry)) (now (tally .entry))) (requestOf (limitsIn (now (limits .entry))) asked (now (names .entry))) .memory .table)
+        × (now (bits .exit) ≡ Step.after sheet (lends (now (table .entry)) (now (bits .entry)) (now (tally .entry))) (requestOf (limitsIn (now (limits .entry))) asked (now (names .entry))) .memory .bits)
+        × (now (tally .exit) ≡ Step.after sheet (lends (now (table .entry)) (now (bits .entry)) (now (tally .entry))) (requestOf (limitsIn (now (limits .entry))) asked (now (names .entry))) .tally)
+        × (verdictOf r ≡ Step.answer (lends (now (table .entry)) (now (bits .entry)) (now (tally .entry))) (requestOf (limitsIn (now (limits .entry))) asked (now (names .entry)))) ⌝ }
 {
     let mut rows = [[0u32; WIDTH]; 1024];
     let n = table.len();
     let m = held(n);
     load(table, m, &mut rows);
-    let out = request_held(&mut rows, n, bits, *tally, sheet, asked, names);
+    let out = request_held(&mut rows, n, bits, *tally, sheet, limits, asked, names);
     store(table, m, &rows);
     *tally = out.tally;
     out.answer

@@ -33,6 +33,8 @@ fn marked_row(c: Cap, mark: u8) -> Cap
             depth: c.depth,
             kind: c.kind,
             fresh: c.fresh,
+            maker: c.maker,
+            holders: c.holders,
         }
     } else {
         c

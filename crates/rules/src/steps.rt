@@ -20,36 +20,47 @@ use model::Name;
 use model::Refusal;
 use model::Span;
 use model::Tally;
+use model::Terms;
 use table::Row;
 use table::SheetBytes;
 use table::bits::put_span;
 use table::find::find;
+use table::lent::look;
 use table::ordered::Look;
-use table::ordered::look_at;
 use table::requests::judge_request;
 use table::words::row_at;
 use table::words::set_row;
 ghost use mathlib.Core.Path.{_≡_};
 ghost use mathlib.Core.Bool.{true, false};
-ghost use mathlib.Core.List.{List, _∷_};
-ghost use Prim.Native.Nat.{ℕ, _<_, _≤_};
+ghost use mathlib.Core.List.{[], _∷_};
+ghost use Prim.Native.Nat.{_<_, _≤_};
 ghost use lib.ListN.{length};
 ghost use Rattle.model.specs.Lists.{any};
 ghost use Rattle.model.specs.Table.{row, named, lookup};
 ghost use Rattle.model.specs.Effects.{afterAccess, rowsWithout, rowsAfter};
 ghost use Rattle.model.specs.Answers.{verdictOf};
 ghost use Rattle.model.specs.Bits.{bitsAfter};
-ghost use Rattle.model.specs.Requests.{Single, requestOf};
+ghost use Rattle.model.specs.Requests.{Unlimited, Single, caller, requestOf};
 ghost use Rattle.table.specs.Words.{rowsIn};
 ghost use Rattle.table.specs.Sheets.{sheetIn};
 ghost use Rattle.table.specs.Rows.{before, Rise, Found, Places, Orderly};
-ghost use Rattle.table.specs.Known.{Known, Sized};
+ghost use Rattle.table.specs.Known.{Known, Sized, Fit};
+ghost use Rattle.table.specs.Limits.{limitsIn};
 ghost use Rattle.rules.specs.Engine.{Ready, Downward, Quiet, Most, kept, Settled};
 ghost use Rattle.rules.specs.Steps.{Stepped, AllowedOn};
 
 // The row of a new capability.
-fn new_row(name: u32, parent: u32, s: Span, depth: u32, right: u8, kind: u8, fresh: u32) -> Cap
-    ensures { λ r. ⌜ r ≡ row (record { name = name; parent = parent; span = s; kind = kind; fresh = fresh }) right depth ⌝ }
+fn new_row(
+    name: u32,
+    parent: u32,
+    s: Span,
+    depth: u32,
+    kind: u8,
+    fresh: u32,
+    maker: u32,
+    given: Terms,
+) -> Cap
+    ensures { λ r. ⌜ r ≡ row (record { name = name; parent = parent; span = s; kind = kind; fresh = fresh; maker = maker; holders = given .holders }) (given .right) depth ⌝ }
 {
     let start = s.start;
     Cap {
@@ -57,10 +68,12 @@ fn new_row(name: u32, parent: u32, s: Span, depth: u32, right: u8, kind: u8, fre
         parent: Name(parent),
         start,
         length: s.length,
-        right: right as u32,
+        right: given.right as u32,
         depth,
         kind: kind as u32,
         fresh,
+        maker,
+        holders: given.holders,
     }
 }
 
@@ -156,21 +169,22 @@ fn change_event(
     places: &mut [u16; 1024],
     sheet: &SheetBytes,
     issued: u32,
+    actor: u32,
     e: Event,
 ) -> usize
-    requires { ⌜ Orderly (rowsIn (now table)) (length (now table)) k issued × AllowedOn (rowsIn (now table)) issued (Single e) × Places (rowsIn (now table)) k (now places) ⌝ }
-    ensures { λ r. ⌜ Settled (rowsIn (now (table .exit))) (length (now (table .entry))) r (rowsAfter (sheetIn (now (sheet .entry))) issued (before (rowsIn (now (table .entry))) k) (Single e)) (now (places .exit)) ⌝ }
+    requires { ⌜ Orderly (rowsIn (now table)) (length (now table)) k issued × AllowedOn (rowsIn (now table)) issued (Asked.Single actor e) [] × Places (rowsIn (now table)) k (now places) ⌝ }
+    ensures { λ r. ⌜ Settled (rowsIn (now (table .exit))) (length (now (table .entry))) r (rowsAfter (sheetIn (now (sheet .entry))) issued (before (rowsIn (now (table .entry))) k) (Single (caller actor Unlimited) e)) (now (places .exit)) ⌝ }
 {
     match e {
         Event::Create(_, s, r) => {
-            let c = new_row(issued + 1, 0, s, 1, r.right, 0, r.fresh as u32);
+            let c = new_row(issued + 1, 0, s, 1, 0, r.fresh as u32, actor, r);
             let left = access_rows(table, k, places, sheet, Access::Writing, issued + 1, s);
             append(table, left, places, c, left)
         }
         Event::Borrow(_, u, s, r) => {
             let q = find(table, k, u.0);
             let p = row_of(table, k, u.0, q);
-            let c = new_row(issued + 1, u.0, s, p.depth + 1, r.right, r.kind, p.fresh);
+            let c = new_row(issued + 1, u.0, s, p.depth + 1, r.kind, p.fresh, actor, r);
             append(table, k, places, c, q)
         }
         Event::Read(u, s) => access_rows(table, k, places, sheet, Access::Reading, u.0, s),
@@ -192,19 +206,19 @@ fn change(
     asked: Asked,
     names: &[u32],
 ) -> usize
-    requires { ⌜ Known (now table) k issued (now places) × AllowedOn (rowsIn (now table)) issued (requestOf asked (now names)) ⌝ }
-    ensures { λ r. ⌜ Settled (rowsIn (now (table .exit))) (length (now (table .entry))) r (rowsAfter (sheetIn (now (sheet .entry))) issued (before (rowsIn (now (table .entry))) k) (requestOf asked (now (names .entry)))) (now (places .exit)) ⌝ }
+    requires { ⌜ Known (now table) k issued (now places) × AllowedOn (rowsIn (now table)) issued asked (now names) ⌝ }
+    ensures { λ r. ⌜ Settled (rowsIn (now (table .exit))) (length (now (table .entry))) r (rowsAfter (sheetIn (now (sheet .entry))) issued (before (rowsIn (now (table .entry))) k) (requestOf Unlimited asked (now (names .entry)))) (now (places .exit)) ⌝ }
 {
     match asked {
-        Asked::Single(e) => change_event(table, k, places, sheet, issued, e),
-        Asked::Group => drop_names(table, k, places, names),
+        Asked::Single(actor, e) => change_event(table, k, places, sheet, issued, actor, e),
+        Asked::Group(_) => drop_names(table, k, places, names),
     }
 }
 
 // What an allowed event does to the bits: a create clears those of its addresses, and a write sets them.
 fn event_bits(bits: &mut [u8], e: Event)
     requires { ⌜ Sized (now bits) ⌝ }
-    ensures { λ _. ⌜ now (bits .exit) ≡ bitsAfter (now (bits .entry)) (Single e) ⌝ }
+    ensures { λ _. ⌜ now (bits .exit) ≡ bitsAfter (now (bits .entry)) (Single (caller 0 Unlimited) e) ⌝ }
 {
     match e {
         Event::Create(_, s, _) => put_span(bits, false, s),
@@ -218,16 +232,16 @@ fn event_bits(bits: &mut [u8], e: Event)
 // What an allowed request does to them. Names dropped together leave them as they are.
 fn change_bits(bits: &mut [u8], asked: Asked)
     requires { ⌜ Sized (now bits) ⌝ }
-    ensures { λ _. ⌜ ((names : List ℕ) → now (bits .exit) ≡ bitsAfter (now (bits .entry)) (requestOf asked names)) ⌝ }
+    ensures { λ _. ⌜ now (bits .exit) ≡ bitsAfter (now (bits .entry)) (requestOf Unlimited asked []) ⌝ }
 {
     match asked {
-        Asked::Single(e) => event_bits(bits, e),
-        Asked::Group => {}
+        Asked::Single(_, e) => event_bits(bits, e),
+        Asked::Group(_) => {}
     }
 }
 
-// A request on a table in order, of which it is known how many rows live and where each row's parent stands, with as many bits as there
-// are to be. All that is known after it too, so that a run of requests looks for it once. The names are those of names dropped together.
+// A request on what is fit: a table in order, of which it is known how many rows live and where each row's parent stands, with as many bits
+// as there are to be, and limits that are not refused. All that is known after it too, so that a run of requests looks for it once. The names are those of names dropped together.
 pub fn take(
     table: &mut [Row],
     k: usize,
@@ -235,14 +249,15 @@ pub fn take(
     bits: &mut [u8],
     t: Tally,
     sheet: &SheetBytes,
+    limits: &[u32],
     asked: Asked,
     names: &[u32],
 ) -> Progress
-    requires { ⌜ Known (now table) k (t .issued) (now places) × Sized (now bits) ⌝ }
-    ensures { λ r. ⌜ Stepped (sheetIn (now (sheet .entry))) (now (table .entry)) (now (bits .entry)) t (requestOf asked (now (names .entry))) (now (table .exit)) (now (bits .exit)) (r .outcome)
-        × Known (now (table .exit)) (r .live) (r .outcome .tally .issued) (now (places .exit)) × Sized (now (bits .exit)) ⌝ }
+    requires { ⌜ Fit (now table) (now bits) k (t .issued) (now limits) (now places) ⌝ }
+    ensures { λ r. ⌜ Stepped (sheetIn (now (sheet .entry))) (now (table .entry)) (now (bits .entry)) t (requestOf (limitsIn (now (limits .entry))) asked (now (names .entry))) (now (table .exit)) (now (bits .exit)) (r .outcome)
+        × Fit (now (table .exit)) (now (bits .exit)) (r .live) (r .outcome .tally .issued) (now (limits .entry)) (now (places .exit)) ⌝ }
 {
-    let a = judge_request(table, k, bits, t.issued, asked, names);
+    let a = judge_request(table, k, bits, t.issued, limits, asked, names);
     match a {
         Answer::Refused(x) => {
             let outcome = Outcome {
@@ -273,26 +288,34 @@ fn disordered(t: Tally) -> Outcome
     }
 }
 
-// A request on any table and any bits: a table that is not in order, as above 1,024 rows, is refusal 1, and so is another number of bytes than
-// 8,192.
+// A request on any table, any bits and any limits: a table that is not in order, as above 1,024 rows, is refusal 1, and so are another number
+// of bytes than 8,192, and limits that are refused.
 pub(crate) fn step(
     table: &mut [Row],
     bits: &mut [u8],
     t: Tally,
     sheet: &SheetBytes,
+    limits: &[u32],
     asked: Asked,
     names: &[u32],
 ) -> Outcome
-    ensures { λ r. ⌜ Stepped (sheetIn (now (sheet .entry))) (now (table .entry)) (now (bits .entry)) t (requestOf asked (now (names .entry))) (now (table .exit)) (now (bits .exit)) r ⌝ }
+    ensures { λ r. ⌜ Stepped (sheetIn (now (sheet .entry))) (now (table .entry)) (now (bits .entry)) t (requestOf (limitsIn (now (limits .entry))) asked (now (names .entry))) (now (table .exit)) (now (bits .exit)) r ⌝ }
 {
-    if bits.len() != 8192 {
-        return disordered(t);
-    }
     let mut places = [0u16; 1024];
-    let found = look_at(table, t.issued, &mut places);
+    let found = look(table, bits, t.issued, limits, &mut places);
     match found {
         Look::InOrder(live) => {
-            let p = take(table, live, &mut places, bits, t, sheet, asked, names);
+            let p = take(
+                table,
+                live,
+                &mut places,
+                bits,
+                t,
+                sheet,
+                limits,
+                asked,
+                names,
+            );
             let outcome = p.outcome;
             outcome
         }

@@ -2,14 +2,16 @@
 -- Assumes nothing.
 use Prim.Native.Nat.{ℕ}
 use mathlib.Core.Path.{_≡_}
-use mathlib.Core.Bool.{false}
+use mathlib.Core.Bool.{true, false}
 use mathlib.Core.List.{List}
 use lib.ListN.{length}
 use Rattle.model.specs.Table.{inOrder}
+use Rattle.model.specs.Refusals.{unfit, viewOf}
 use Rattle.table.specs.declared.ordered.Look.{Look}
 use Rattle.table.specs.declared.ordered.Look.the-variants.{InOrder, Disordered}
 use Rattle.table.specs.Words.{rowsIn}
 use Rattle.table.specs.Rows.{Orderly, Places}
+use Rattle.table.specs.Limits.{limitsIn, Allowed}
 
 -- a table in order, of which so many rows live; places has where the parent of each stands
 pub record Known (ws : List (List ℕ)) (live issued : ℕ) (places : List ℕ) : Type 0 where
@@ -24,3 +26,14 @@ Sized bits = length bits ≡ 8192
 abbrev pub Looks : List (List ℕ) → ℕ → List ℕ → Look → Type 0
 Looks ws issued places (InOrder live) = Known ws live issued places
 Looks ws issued places Disordered = inOrder (rowsIn ws) issued ≡ false
+
+-- all that is lent is fit, and what is known of it
+pub record Fit (ws : List (List ℕ)) (bits : List ℕ) (live issued : ℕ) (limits places : List ℕ) : Type 0 where
+  pub known : Known ws live issued places
+  pub sized : Sized bits
+  pub allowed : Allowed ws limits
+
+-- what a look at all that is lent finds
+abbrev pub Finds : List (List ℕ) → List ℕ → ℕ → List ℕ → List ℕ → Look → Type 0
+Finds ws bits issued limits places (InOrder live) = Fit ws bits live issued limits places
+Finds ws bits issued limits places Disordered = unfit (limitsIn limits) (viewOf (rowsIn ws) bits issued) ≡ true

@@ -1,4 +1,4 @@
--- What the caller lends: a table of eight words a row, the written bits, and a tally of seven words, in the record's order of the fields.
+-- What the caller lends: a table of eleven words a row, the written bits, and a tally of seven words, in the record's order of the fields.
 -- Assumes nothing.
 use Prim.Native.Nat.{ℕ}
 use mathlib.Core.List.{List}

@@ -8,13 +8,13 @@ use Rattle.model.specs.declared.Name.{Name}
 use Rattle.model.specs.declared.NewName.{NewName}
 use Rattle.model.specs.declared.Span.{Span}
 use Rattle.model.specs.declared.Cap.{Cap}
-use Rattle.model.specs.declared.Terms.{Terms}
 use Rattle.table.specs.declared.judge.Place.{Place}
 use Rattle.table.specs.declared.judge.Place.the-variants.{At, Not}
-use lib.Dec.{leb}
 use Rattle.model.specs.Lists.{first}
 use Rattle.model.specs.Step.{Verdict}
-use Rattle.model.specs.Refusals.{unfitChild, misnamed, misgrouped, tooDeep, notWritten, standing, standings, within, usable, room}
+use Rattle.model.specs.Refusals.{notADomain, misgrouped, unissued, ended, tooDeep, notWritten, standing, standings, within, usable, room}
+use Rattle.model.specs.Limits.{noRow, limitReached}
+use Rattle.model.specs.Requests.{Limits, caller}
 use Rattle.model.specs.Answers.{number}
 use Rattle.table.specs.Rows.{nameAt, before}
 
@@ -23,23 +23,26 @@ abbrev pub Passes : List Cap → ℕ → ℕ → List (ℕ × Bool) → Place �
 Passes T k x checks (At q) = (first checks ≡ 0) × (q < k) × (nameAt T q ≡ x)
 Passes T k x checks (Not r) = first checks ≡ number r
 
-abbrev pub Stands : List Cap → ℕ → ℕ → Name → Place → Type 0
-Stands T k issued u = Passes T k (u .0) (standing (before T k) issued u)
+-- 4 and 5: whether a capability of the name lives
+abbrev pub living : List Cap → ℕ → Name → List (ℕ × Bool)
+living rows issued u = (4, unissued rows issued u) ∷ (5, ended rows issued u) ∷ []
 
-abbrev pub Serves : List Cap → ℕ → ℕ → Name → Span → ℕ → Place → Type 0
-Serves T k issued u s r = Passes T k (u .0) (usable (before T k) issued u s r)
+abbrev pub Lives : List Cap → ℕ → ℕ → Name → Place → Type 0
+Lives T k issued u = Passes T k (u .0) (living (before T k) issued u)
 
--- the checks of a borrow, on a table of so many rows
-abbrev pub borrowChecks : List Cap → ℕ → ℕ → NewName → Name → Span → Terms → List (ℕ × Bool)
-borrowChecks rows issued size w u s r = (2, unfitChild r) ∷ usable rows issued u s (r .right) ++ ((8, tooDeep rows issued u) ∷ room rows issued size w)
+abbrev pub Stands : List Cap → ℕ → ℕ → ℕ → Name → Place → Type 0
+Stands T k issued actor u = Passes T k (u .0) (standing (before T k) issued actor u)
+
+abbrev pub Serves : List Cap → ℕ → ℕ → ℕ → Name → Span → ℕ → Place → Type 0
+Serves T k issued actor u s r = Passes T k (u .0) (usable (before T k) issued actor u s r)
 
 -- the checks of a read
-abbrev pub readChecks : List Cap → ℕ → (ℕ → Bool) → Name → Span → List (ℕ × Bool)
-readChecks rows issued isWritten u s = within rows issued u s ++ ((16, notWritten rows issued isWritten u s) ∷ [])
+abbrev pub readChecks : List Cap → ℕ → (ℕ → Bool) → ℕ → Name → Span → List (ℕ × Bool)
+readChecks rows issued isWritten actor u s = within rows issued actor u s ++ ((16, notWritten rows issued isWritten u s) ∷ [])
 
 -- the checks of names dropped together
-abbrev pub groupChecks : List Cap → ℕ → List ℕ → List (ℕ × Bool)
-groupChecks rows issued names = (13, misgrouped names) ∷ standings rows issued names
+abbrev pub groupChecks : List Cap → ℕ → ℕ → List ℕ → List (ℕ × Bool)
+groupChecks rows issued actor names = (13, misgrouped names) ∷ (2, notADomain actor) ∷ standings rows issued actor names
 
 -- its answer, with name 0
 abbrev pub saidOf : Place → Verdict
@@ -47,5 +50,12 @@ saidOf (At q) = record { refusal = 0; name = 0 }
 saidOf (Not r) = record { refusal = number r; name = 0 }
 
 -- the checks of `room`, where k rows of n live
-abbrev pub roomFor : ℕ → ℕ → ℕ → NewName → List (ℕ × Bool)
-roomFor n k issued w = (9, leb 1000000 issued) ∷ (12, misnamed issued w) ∷ (10, leb n k) ∷ []
+abbrev pub rowChecks : List Cap → ℕ → ℕ → Limits → ℕ → List (ℕ × Bool)
+rowChecks T k n limits actor = (10, noRow limits (before T k) n) ∷ (18, limitReached limits (before T k) actor) ∷ []
+
+abbrev pub roomFor : List Cap → ℕ → ℕ → ℕ → Limits → ℕ → NewName → List (ℕ × Bool)
+roomFor T k n issued limits actor w = room (before T k) issued (caller actor limits) n w
+
+-- the checks of a borrow behind 2
+abbrev pub childChecks : List Cap → ℕ → ℕ → ℕ → Limits → ℕ → NewName → Name → Span → ℕ → List (ℕ × Bool)
+childChecks T k n issued limits actor w u s right = usable (before T k) issued actor u s right ++ ((8, tooDeep (before T k) issued u) ∷ roomFor T k n issued limits actor w)

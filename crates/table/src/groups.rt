@@ -2,11 +2,12 @@
 use crate::Row;
 use crate::judge::Place;
 use crate::judge::place_of;
+use crate::masks::is_domain;
 use model::Answer;
 use model::Name;
 use model::Refusal;
 ghost use mathlib.Core.Path.{_≡_};
-ghost use Prim.Native.Nat.{_≤_};
+ghost use Prim.Native.Nat.{_<_, _≤_};
 ghost use Rattle.model.specs.Lists.{first};
 ghost use Rattle.model.specs.Step.{verdict};
 ghost use Rattle.model.specs.Answers.{verdictOf};
@@ -36,14 +37,14 @@ pub fn is_group(names: &[u32]) -> bool
     true
 }
 
-// Refusals 4 and 5, of the first name that gets one.
-fn judge_names(table: &[Row], k: usize, issued: u32, names: &[u32]) -> Answer
-    requires { ⌜ (k ≤ 1024) × Rise (rowsIn (now table)) k ⌝ }
-    ensures { λ a. ⌜ verdictOf a ≡ verdict (first (standings (before (rowsIn (now (table .entry))) k) issued (now (names .entry)))) 0 ⌝ }
+// Refusals 4, 5 and 17, of the first name that gets one.
+fn judge_names(table: &[Row], k: usize, issued: u32, actor: u32, names: &[u32]) -> Answer
+    requires { ⌜ (k ≤ 1024) × Rise (rowsIn (now table)) k × (actor < 64) ⌝ }
+    ensures { λ a. ⌜ verdictOf a ≡ verdict (first (standings (before (rowsIn (now (table .entry))) k) issued actor (now (names .entry)))) 0 ⌝ }
 {
     let mut i = 0;
     while i < names.len() {
-        let place = place_of(table, k, issued, Name(names[i]));
+        let place = place_of(table, k, issued, actor, Name(names[i]));
         if let Place::Not(x) = place {
             return Answer::Refused(x);
         }
@@ -53,12 +54,15 @@ fn judge_names(table: &[Row], k: usize, issued: u32, names: &[u32]) -> Answer
 }
 
 // The answer to a group of names.
-pub(crate) fn judge_group(table: &[Row], k: usize, issued: u32, names: &[u32]) -> Answer
+pub(crate) fn judge_group(table: &[Row], k: usize, issued: u32, actor: u32, names: &[u32]) -> Answer
     requires { ⌜ (k ≤ 1024) × Rise (rowsIn (now table)) k ⌝ }
-    ensures { λ a. ⌜ verdictOf a ≡ verdict (first (groupChecks (before (rowsIn (now (table .entry))) k) issued (now (names .entry)))) 0 ⌝ }
+    ensures { λ a. ⌜ verdictOf a ≡ verdict (first (groupChecks (before (rowsIn (now (table .entry))) k) issued actor (now (names .entry)))) 0 ⌝ }
 {
     if !is_group(names) {
         return Answer::Refused(Refusal::Misgrouped);
     }
-    judge_names(table, k, issued, names)
+    if !is_domain(actor) {
+        return Answer::Refused(Refusal::Misspelt);
+    }
+    judge_names(table, k, issued, actor, names)
 }

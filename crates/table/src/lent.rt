@@ -1,6 +1,12 @@
-// The lent tally: seven words, in the record's order. Only these two functions know the layout.
+// What is lent: the tally, seven words in the record's order, whose layout only `tally_at` and `set_tally` know; and a look at all else.
+use crate::Row;
+use crate::limits::are_allowed;
+use crate::ordered::Look;
+use crate::ordered::look_at;
 use model::Tally;
 ghost use mathlib.Core.Path.{_≡_};
+ghost use lib.ListN.{length};
+ghost use Rattle.table.specs.Known.{Finds};
 ghost use Rattle.table.specs.Lent.{tallyIn};
 
 // The tally that seven words are.
@@ -31,4 +37,32 @@ pub fn set_tally(tally: &mut [u32; 7], t: Tally)
         t.drops,
         t.refused,
     ];
+}
+
+// Whether all that is lent is fit: the table in order, 8,192 bytes of written bits, and limits that are not refused. If it is, the place of
+// each row's parent is noted, for those who work on it.
+pub fn look(
+    table: &[Row],
+    bits: &[u8],
+    issued: u32,
+    limits: &[u32],
+    places: &mut [u16; 1024],
+) -> Look
+    requires { ⌜ length (now places) ≡ 1024 ⌝ }
+    ensures { λ r. ⌜ Finds (now (table .entry)) (now (bits .entry)) issued (now (limits .entry)) (now (places .exit)) r ⌝ }
+{
+    if bits.len() != 8192 {
+        return Look::Disordered;
+    }
+    let found = look_at(table, issued, places);
+    match found {
+        Look::Disordered => Look::Disordered,
+        Look::InOrder(live) => {
+            if are_allowed(table, live, issued, limits) {
+                Look::InOrder(live)
+            } else {
+                Look::Disordered
+            }
+        }
+    }
 }

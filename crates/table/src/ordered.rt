@@ -2,6 +2,8 @@
 use crate::Row;
 use crate::find::find_near;
 use crate::find::live_count;
+use crate::masks::has_bit;
+use crate::masks::is_domain;
 use crate::spans::end;
 use crate::spans::is_inside;
 use crate::spans::is_legal;
@@ -9,12 +11,13 @@ use crate::spans::span_of;
 use crate::words::row_at;
 use model::Cap;
 ghost use mathlib.Core.Path.{_≡_};
-ghost use mathlib.Core.Bool.{true, _&&_};
+ghost use mathlib.Core.Bool.{true, not, _&&_, _||_};
 ghost use Prim.Native.Nat.{suc, _<_, _≤_};
-ghost use lib.Dec.{eqb};
+ghost use lib.Dec.{eqb, leb};
 ghost use lib.ListN.{length, drop};
 ghost use Rattle.model.specs.Lists.{all};
-ghost use Rattle.model.specs.Table.{derivation, isEmptyRow, isRight, isKind, isMark, termsInOrder, rowFitsParent, rowInOrder, rowsInOrder, inOrder};
+ghost use Rattle.model.specs.Table.{derivation, isEmptyRow, isRight, isKind, isMark, isMarked, span, termsInOrder, rowFitsParent, rowInOrder, rowsInOrder, inOrder};
+ghost use Rattle.model.specs.Values;
 ghost use Rattle.table.specs.Words.{rowsIn};
 ghost use Rattle.table.specs.Rows.{before, Filled, Rise, Front, Found, PlacesIf};
 ghost use Rattle.table.specs.Known.{Looks};
@@ -43,7 +46,13 @@ fn is_empty_row(c: Cap) -> bool
     if c.kind != 0 {
         return false;
     }
-    c.fresh == 0
+    if c.fresh != 0 {
+        return false;
+    }
+    if c.maker != 0 {
+        return false;
+    }
+    c.holders == 0
 }
 
 // The rows from k on are all zeros.
@@ -85,12 +94,25 @@ pub fn is_mark(m: u32) -> bool
 
 // The mark of a row: a marked one ends at 65,536 or below.
 fn mark_in_order(c: Cap) -> bool
-    ensures { λ r. ⌜ r ≡ termsInOrder (derivation c) ⌝ }
+    ensures { λ r. ⌜ r ≡ isMark (c .fresh) && (not (isMarked (derivation c)) || leb (Values.end (span c)) 65536) ⌝ }
 {
     if c.fresh == 1 {
         return end(span_of(c)) <= 65536;
     }
     is_mark(c.fresh)
+}
+
+// The maker of a row, which is among its holders, and its mark.
+fn terms_in_order(c: Cap) -> bool
+    ensures { λ r. ⌜ r ≡ termsInOrder (derivation c) ⌝ }
+{
+    if !is_domain(c.maker) {
+        return false;
+    }
+    if !has_bit(c.holders, c.maker) {
+        return false;
+    }
+    mark_in_order(c)
 }
 
 // A row without a parent.
@@ -133,7 +155,7 @@ fn row_in_order(table: &[Row], i: usize, c: Cap, q: usize) -> bool
     if !is_kind(c.kind) {
         return false;
     }
-    if !mark_in_order(c) {
+    if !terms_in_order(c) {
         return false;
     }
     if c.parent.0 == 0 {

@@ -15,22 +15,24 @@ ghost use Rattle.model.specs.Step.{verdict};
 ghost use Rattle.table.specs.Words.{rowsIn};
 ghost use Rattle.table.specs.Rows.{Orderly};
 ghost use Rattle.table.specs.Known.{Sized};
+ghost use Rattle.table.specs.Limits.{limitsIn, Allowed};
 
-// The answer to what is asked; the names are those of names dropped together. Internal: the caller shows that the table is in order, and
-// that there are as many bits as there are to be.
+// The answer to what is asked; the names are those of names dropped together. Internal: the caller shows that the table is in order, that
+// there are as many bits as there are to be, and that the limits are not refused.
 pub fn judge_request(
     table: &[Row],
     k: usize,
     bits: &[u8],
     issued: u32,
+    limits: &[u32],
     asked: Asked,
     names: &[u32],
 ) -> Answer
-    requires { ⌜ Orderly (rowsIn (now table)) (length (now table)) k issued × Sized (now bits) ⌝ }
-    ensures { λ a. ⌜ verdictOf a ≡ verdict (Refusals.judge (viewOf (rowsIn (now (table .entry))) (now (bits .entry)) issued) (requestOf asked (now (names .entry)))) (newName issued (requestOf asked (now (names .entry)))) ⌝ }
+    requires { ⌜ Orderly (rowsIn (now table)) (length (now table)) k issued × Sized (now bits) × Allowed (now table) (now limits) ⌝ }
+    ensures { λ a. ⌜ verdictOf a ≡ verdict (Refusals.judge (viewOf (rowsIn (now (table .entry))) (now (bits .entry)) issued) (requestOf (limitsIn (now (limits .entry))) asked (now (names .entry)))) (newName issued (requestOf (limitsIn (now (limits .entry))) asked (now (names .entry)))) ⌝ }
 {
     match asked {
-        Asked::Single(e) => judge(table, k, bits, issued, e),
-        Asked::Group => judge_group(table, k, issued, names),
+        Asked::Single(actor, e) => judge(table, k, bits, issued, limits, actor, e),
+        Asked::Group(actor) => judge_group(table, k, issued, actor, names),
     }
 }

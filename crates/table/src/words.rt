@@ -1,4 +1,5 @@
-// The rows of a lent table: an array of words each, in the record's order. Only these two functions know their places.
+// The rows of a lent table: an array of words each, in the record's order, of which the mask of holders takes two. Only `row_at` and `set_row`
+// know their places.
 use crate::Row;
 use model::Addr;
 use model::Cap;
@@ -7,7 +8,27 @@ ghost use mathlib.Core.Path.{_≡_};
 ghost use Prim.Native.Nat.{_<_};
 ghost use lib.ListN.{length, getD, set};
 ghost use Rattle.model.specs.Table.{emptyRow};
-ghost use Rattle.table.specs.Words.{wordsOf, rowsIn};
+ghost use Rattle.table.specs.Words.{maskOf, lowHalf, highHalf, wordsOf, rowsIn};
+
+// A mask of holders by its two halves.
+pub fn joined(low: u32, high: u32) -> u64
+    ensures { λ r. ⌜ r ≡ maskOf low high ⌝ }
+{
+    low as u64 + high as u64 * 4294967296
+}
+
+// The halves of a mask.
+pub fn low_half(mask: u64) -> u32
+    ensures { λ r. ⌜ r ≡ lowHalf mask ⌝ }
+{
+    (mask % 4294967296) as u32
+}
+
+pub fn high_half(mask: u64) -> u32
+    ensures { λ r. ⌜ r ≡ highHalf mask ⌝ }
+{
+    (mask / 4294967296) as u32
+}
 
 // The row at i. Internal: the caller keeps i within the table.
 pub fn row_at(table: &[Row], i: usize) -> Cap
@@ -24,6 +45,8 @@ pub fn row_at(table: &[Row], i: usize) -> Cap
         depth: row[5],
         kind: row[6],
         fresh: row[7],
+        maker: row[8],
+        holders: joined(row[9], row[10]),
     }
 }
 
@@ -41,6 +64,9 @@ pub fn set_row(table: &mut [Row], i: usize, c: Cap)
         c.depth,
         c.kind,
         c.fresh,
+        c.maker,
+        low_half(c.holders),
+        high_half(c.holders),
     ];
 }
 
@@ -57,5 +83,7 @@ pub fn empty_row() -> Cap
         depth: 0,
         kind: 0,
         fresh: 0,
+        maker: 0,
+        holders: 0,
     }
 }

@@ -5,11 +5,13 @@ unfoldable pub use Rattle.text.proofs.Laws.Digits.{digits}
 pub use Rattle.text.proofs.Laws.Group.{group-few, names-after}
 pub use Rattle.text.proofs.Laws.GroupLine.{group-is-line, group-is-no-event, group-reads-back, read-group-is-spelling, refused-group-is-2}
 pub use Rattle.text.proofs.Laws.Line.{part-inside, part-longer, part-some, part-then, parts-end, parts-next, parts-together, through-le}
+pub use Rattle.text.proofs.Laws.Masks.{IsDigit, Low, hex-back, hex-digits, hex-low, hex-of-small, length-hex, mask-class, mask-other}
 pub use Rattle.text.proofs.Laws.Number.{Stops, digit-class, digit-small, number-of-small}
-pub use Rattle.text.proofs.Laws.OneLine.{Ends, header-is-no-event, spell-is-line}
-pub use Rattle.text.proofs.Laws.OneSpelling.{read-is-spelling, spelling-reads-back}
+pub use Rattle.text.proofs.Laws.OneLine.{Ends, header-is-no-event, hex-end, spell-is-line}
+pub use Rattle.text.proofs.Laws.OneSpelling.{no-domain-no-line, read-is-spelling, spelling-reads-back}
 pub use Rattle.text.proofs.Laws.Put.{put-length, put-next, put-two, sets-first}
 pub use Rattle.text.proofs.Laws.Range.{fresh-short, kind-short, right-length}
 pub use Rattle.text.proofs.Laws.Read.{same-is, same-refl, same-true}
-pub use Rattle.text.proofs.Laws.Words.{fresh-back, kind-back, kinds, marks, next, number-is, plain-decimal, right-back, right-stops, rights}
+pub use Rattle.text.proofs.Laws.Terms.{spelled-below, spelled-domain}
+pub use Rattle.text.proofs.Laws.Words.{fresh-back, kind-back, kinds, low-decimal, low-no-kind, low-no-mark, marks, next, number-is, plain-decimal, plain-hex, right-back, right-stops, rights}
 pub use Rattle.text.proofs.Laws.Write.{Wrote, writes-none, writes-put, wrote, wrote-none}

@@ -1,13 +1,14 @@
-// Runs the public calls on event lines, document 01, "The bracket text", and cards 1, 6 and 9: the examples for refusals 2 and 11, and a table
-// of good and bad lines, which is standard input. Each case is one line of output: what it is, and what was answered; a line that is
+// Runs the public calls on event lines, document 01, "The bracket text", and cards 1, 5, 6, 9 and 10: the examples for refusals 2 and 11, and a
+// table of good and bad lines, which is standard input. Each case is one line of output: what it is, and what was answered; a line that is
 // read is answered in both spellings. Last comes the class of each of the 256 byte values, 64 to a line.
 mod classes;
+mod domains;
 mod reading;
 mod show;
 mod writing;
 
 fn main() {
-    let mut buffer = io::buffer();
+    let mut buffer = io::large_buffer();
     let length = io::read_full(libc::STDIN_FILENO, &mut buffer);
     reading::cases(&buffer[..length]);
     reading::any_byte();
@@ -15,5 +16,7 @@ fn main() {
     writing::lengths();
     writing::refusals();
     writing::mark_refusals();
+    domains::written();
+    domains::groups();
     classes::all();
 }

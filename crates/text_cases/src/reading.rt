@@ -36,7 +36,10 @@ fn part(text: &[u8], start: usize, end: usize) -> &[u8] {
 fn read_in(spelling: Spelling, line: &[u8]) {
     let answer = read::read_event(spelling, line);
     match answer {
-        EventRead::Event(event) => show::say_event(event),
+        EventRead::Event(actor, event) => {
+            show::say_actor(actor);
+            show::say_event(event);
+        }
         EventRead::Refused(refusal) => show::say_refusal(refusal),
     }
 }
@@ -63,11 +66,11 @@ fn case(table: &[u8], start: usize) -> usize {
     behind(table, line_end)
 }
 
-// Runs the cases of a table, at most 96: for each a label, up to a newline, and then the bytes to read, up to a bar.
+// Runs the cases of a table, at most 160: for each a label, up to a newline, and then the bytes to read, up to a bar.
 pub fn cases(table: &[u8]) {
     let mut start = 0;
     let mut turns: u32 = 0;
-    while turns < 96 {
+    while turns < 160 {
         if table.len() <= start {
             return;
         }
@@ -78,7 +81,7 @@ pub fn cases(table: &[u8]) {
 
 fn is_read(line: &[u8; 9]) -> bool {
     let answer = read::read_event(Spelling::Plain, line);
-    if let EventRead::Event(_) = answer {
+    if let EventRead::Event(_, _) = answer {
         true
     } else {
         false

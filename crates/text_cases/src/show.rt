@@ -18,7 +18,7 @@ pub fn say_length(n: usize) {
     io::print_decimal(STDOUT_FILENO, n as u64);
 }
 
-fn say_number(n: u32) {
+pub fn say_number(n: u32) {
     say(b" ");
     io::print_decimal(STDOUT_FILENO, n as u64);
 }
@@ -58,6 +58,8 @@ fn number_of(refusal: Refusal) -> u32
         Refusal::GivenTwice => 14,
         Refusal::NotGiven => 15,
         Refusal::NotWritten => 16,
+        Refusal::NoHolder => 17,
+        Refusal::LimitReached => 18,
     }
 }
 
@@ -73,11 +75,21 @@ fn say_new(new: NewName) {
     }
 }
 
-// A right, a kind and a mark, each as a number.
+// A right, a kind, a mark and a mask of holders, each as a number.
 fn say_terms(terms: Terms) {
     say_byte(terms.right);
     say_byte(terms.kind);
     say_byte(terms.fresh);
+    say(b" ");
+    io::print_decimal(STDOUT_FILENO, terms.holders);
+}
+
+// Who acts, where it is not domain 0.
+pub fn say_actor(actor: u32) {
+    if actor != 0 {
+        say(b" as");
+        say_number(actor);
+    }
 }
 
 // An event: its word, its new name where that is written, and its values.

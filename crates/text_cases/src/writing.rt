@@ -10,9 +10,8 @@ use text::spelling::Spelling;
 use text::write;
 use text::write::Written;
 
-fn write(label: &[u8], spelling: Spelling, event: Event, out: &mut [u8]) {
-    show::say(label);
-    let answer = write::write_event(spelling, event, out);
+// What a writer answered, and what the buffer then holds.
+pub fn say_written(answer: Written, out: &[u8]) {
     match answer {
         Written::Length(length) => show::say_length(length),
         Written::Refused(refusal) => show::say_refusal(refusal),
@@ -22,16 +21,32 @@ fn write(label: &[u8], spelling: Spelling, event: Event, out: &mut [u8]) {
     show::say(b"\n");
 }
 
-// Writes an event into so many bytes, at most 30.
-fn case(label: &[u8], spelling: Spelling, event: Event, size: usize) {
-    let mut buffer = [b'.'; 30];
-    if size <= 30 {
-        write(label, spelling, event, &mut buffer[..size]);
+fn write(label: &[u8], spelling: Spelling, actor: u32, event: Event, out: &mut [u8]) {
+    show::say(label);
+    let answer = write::write_event(spelling, actor, event, out);
+    say_written(answer, out);
+}
+
+// Writes an event by a domain into so many bytes, at most 90.
+pub fn case_by(label: &[u8], spelling: Spelling, actor: u32, event: Event, size: usize) {
+    let mut buffer = [b'.'; 90];
+    if size <= 90 {
+        write(label, spelling, actor, event, &mut buffer[..size]);
     }
 }
 
+fn case(label: &[u8], spelling: Spelling, event: Event, size: usize) {
+    case_by(label, spelling, 0, event, size);
+}
+
+// What domain 0 gives to what it makes for itself alone.
 fn terms(right: u8, kind: u8, fresh: u8) -> Terms {
-    Terms { right, kind, fresh }
+    Terms {
+        right,
+        kind,
+        fresh,
+        holders: 1,
+    }
 }
 
 fn create_in(label: &[u8], spelling: Spelling, new: NewName, terms: Terms, size: usize) {

@@ -5,6 +5,7 @@ use mathlib.Core.Bool.{cond}
 use mathlib.Core.List.{List, [], _∷_, _++_}
 use lib.Dec.{leb, eqb}
 use lib.ListN.{length}
+use Rattle.model.specs.Requests.{Unlimited}
 use Rattle.model.specs.declared.Tally.{Tally}
 use Rattle.model.specs.Counts.{tally}
 use Rattle.model.specs.Sheet6.{sheet6}
@@ -31,5 +32,5 @@ noCounts = tally 0 0 0 0 0 0 0
 -- "uses 1,024 empty rows", card 6's sheet, and written bits that are zeros; "Input above 65,536 bytes gives the one line `(long)`."
 unfoldable pub checkText : List ℕ → List ℕ
 checkText input =
-    let text = report (run sheet6 (initial 1024 noCounts) input) in
+    let text = report (run sheet6 Unlimited (initial 1024 noCounts) input) in
     cond (leb (length input) 65536) text (bytes "(long)\n")

@@ -3,14 +3,17 @@
 -- Assumes nothing.
 use Prim.Native.Nat.{ℕ, suc}
 use mathlib.Core.Path.{_≡_}
+use mathlib.Core.Bool.{true}
 use mathlib.Core.List.{List, [], _++_}
 use lib.ListN.{getD}
+use Rattle.model.specs.Requests.{Limits}
 use Rattle.model.specs.declared.Name.{Name}
 use Rattle.model.specs.declared.Span.{Span}
 use Rattle.model.specs.declared.Event.the-variants.{Read}
 use Rattle.model.specs.declared.Sheet.{Sheet}
 use Rattle.model.specs.Lists.{without}
 use Rattle.model.specs.Step.{State}
+use Rattle.model.specs.Table.{isDomain}
 use Rattle.model.specs.ReadRemoved.{OnlyRights}
 use Rattle.text.specs.Line.{linesOf}
 use Rattle.text.specs.Event.{spell, InRange}
@@ -24,17 +27,18 @@ use Rattle.trace.specs.Spellings.{checked}
 unfoldable pub withoutLine : ℕ → List ℕ → List ℕ
 withoutLine k text = joined (without k (linesOf text))
 
--- that line is the read of s through u, which both spellings write alike; its numbers are of 32 bits, as all of the code
-pub record IsRead (k : ℕ) (text : List ℕ) (u : Name) (s : Span) : Type 0 where
-  pub line : getD (linesOf text) k [] ≡ spell (Read u s)
+-- that line is a domain's read of s through u, which both spellings write alike; its numbers are of 32 bits, as all of the code
+pub record IsRead (k : ℕ) (text : List ℕ) (actor : ℕ) (u : Name) (s : Span) : Type 0 where
+  pub is-domain : isDomain actor ≡ true
+  pub line : getD (linesOf text) k [] ≡ spell actor (Read u s)
   pub small : InRange (Read u s)
 
 -- by a sheet and on what is lent, the run of the text, and that without the line
-pub record LineRemoved (sheet : Sheet) (h : State) (k : ℕ) (text : List ℕ) (u : Name) (s : Span) : Type 0 where
-  pub allowed : run sheet h (withoutLine k text) .refusal ≡ 0
-  pub one-line-fewer : run sheet h text .number ≡ suc (run sheet h (withoutLine k text) .number)
-  pub rights : OnlyRights sheet (run sheet h (firstLines k text) .state) u s (run sheet h text .state) (run sheet h (withoutLine k text) .state)
-  pub same-listing : SameButRights (listingOf (run sheet h text)) (listingOf (run sheet h (withoutLine k text)))
+pub record LineRemoved (sheet : Sheet) (limits : Limits) (h : State) (k : ℕ) (text : List ℕ) (u : Name) (s : Span) : Type 0 where
+  pub allowed : run sheet limits h (withoutLine k text) .refusal ≡ 0
+  pub one-line-fewer : run sheet limits h text .number ≡ suc (run sheet limits h (withoutLine k text) .number)
+  pub rights : OnlyRights sheet (run sheet limits h (firstLines k text) .state) u s (run sheet limits h text .state) (run sheet limits h (withoutLine k text) .state)
+  pub same-listing : SameButRights (listingOf (run sheet limits h text)) (listingOf (run sheet limits h (withoutLine k text)))
 
 -- what `capcheck` prints of the two, the first not `(long)`: one line fewer, and the same listing but for rights
 pub record ChecksRemoved (k : ℕ) (text : List ℕ) : Type 0 where

@@ -7,7 +7,7 @@ use mathlib.Core.Bool.{Bool, not, cond}
 use mathlib.Core.List.{List, [], _∷_}
 use lib.Dec.{eqb}
 use Rattle.model.specs.declared.Sheet.{Sheet}
-use Rattle.model.specs.Requests.{Request}
+use Rattle.model.specs.Requests.{Limits, Request}
 use Rattle.model.specs.declared.Tally.{Tally}
 use Rattle.model.specs.Refusals.{unfit}
 use Rattle.model.specs.Counts.{countRefused}
@@ -33,9 +33,10 @@ use Rattle.trace.specs.declared.run.RunOutcome.{RunOutcome}
 abbrev pub header : List ℕ
 header = bytes "(trace 2)\n"
 
--- What takes the events of a run, over its own states: whether what it is lent is in order, its answer to an event, and the state after an
--- event and after a line that is refused for its spelling.
+-- What takes the events of a run, over its own states: the sheet of limits that is lent with the run, or none; whether what it is lent is fit;
+-- its answer to an event; and the state after an event and after a line that is refused for its spelling.
 pub record Checker (S : Type 0) : Type 0 where
+  pub limits : Limits
   pub ordered : S → Bool
   pub answer : S → Request → Verdict
   pub after : S → Request → S
@@ -60,7 +61,7 @@ module _ {S : Type 0} (c : Checker S) where
   takeRead s (refused r) = record { refusal = r; state = c .misspelt s }
 
   abbrev pub takeLine : Spelling → S → List ℕ → Taken S
-  takeLine k s line = takeRead s (readRequest k line)
+  takeLine k s line = takeRead s (readRequest (c .limits) k line)
 
   -- "takes lines until one is refused": the lines of a run, where so many were taken before them
   unfoldable pub runLines : Spelling → ℕ → S → List (List ℕ) → Ran S
@@ -84,12 +85,13 @@ abbrev pub ranOf : RunAnswer → State → Ran State
 ranOf (Allowed lines) h = record { refusal = 0; number = lines; state = h }
 ranOf (Refused r line) h = record { refusal = number r; number = line; state = h }
 
--- Card 7: one sheet is "kept throughout".
-module _ (sheet : Sheet) where
+-- Card 7: one sheet is "kept throughout"; and so is the sheet of limits of card 10, which is judged once, before the first line.
+module _ (sheet : Sheet) (limits : Limits) where
   -- what the caller lends, by a conflict sheet: "Refusals 2 to 10 of .. a line in a run add one to the refused count and change no more"
   abbrev pub lent : Checker State
   lent = record {
-    ordered = λ h. not (unfit (view h));
+    limits = limits;
+    ordered = λ h. not (unfit limits (view h));
     answer = Step.answer;
     after = Step.after sheet;
     misspelt = λ h. record { memory = h .memory; tally = countRefused (h .tally) };
@@ -109,8 +111,8 @@ module _ (sheet : Sheet) where
 
   -- a line that is no event, on them: its refusal, and the state after it
   pub record TakesGroup (ws : List (List ℕ)) (bs : List ℕ) (t : Tally) (line : List ℕ) (ws′ : List (List ℕ)) (bs′ : List ℕ) (r : Outcome) : Type 0 where
-    pub refusal : verdictOf (r .answer) .refusal ≡ takeRead lent (lends (rowsIn ws) bs t) (groupOf (readGroup line)) .refusal
-    pub state : lends (rowsIn ws′) bs′ (r .tally) ≡ takeRead lent (lends (rowsIn ws) bs t) (groupOf (readGroup line)) .state
+    pub refusal : verdictOf (r .answer) .refusal ≡ takeRead lent (lends (rowsIn ws) bs t) (groupOf limits (readGroup line)) .refusal
+    pub state : lends (rowsIn ws′) bs′ (r .tally) ≡ takeRead lent (lends (rowsIn ws) bs t) (groupOf limits (readGroup line)) .state
 
   -- any line on them
   pub record Takes (k : Spelling) (ws : List (List ℕ)) (bs : List ℕ) (t : Tally) (line : List ℕ) (ws′ : List (List ℕ)) (bs′ : List ℕ) (r : Outcome) : Type 0 where

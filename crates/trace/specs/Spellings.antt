@@ -6,10 +6,11 @@ use mathlib.Core.Path.{_≡_}
 use mathlib.Core.Bool.{true, false}
 use mathlib.Core.List.{List, [], _∷_, _++_, map}
 use lib.ListN.{length}
-use Rattle.model.specs.Requests.{Request, Single, Group, isGroup}
+use Rattle.model.specs.Requests.{Limits, Unlimited, Request, Single, Group, callerOf, isGroup}
 use Rattle.model.specs.declared.Sheet.{Sheet}
 use Rattle.model.specs.Sheet6.{sheet6}
 use Rattle.model.specs.Step.{State, initial}
+use Rattle.model.specs.Table.{isDomain}
 use Rattle.model.specs.Named.{unnamed, allRightlyNamed}
 use Rattle.text.specs.Event.{spell, hasSpelling, Below32, InRange}
 use Rattle.text.specs.Group.{spellGroup}
@@ -24,8 +25,8 @@ use Rattle.trace.specs.Check.{answerLine, listingOf, report, noCounts, c
 
 -- the line of an event, or of names dropped together, and the lines of several
 unfoldable pub spellRequest : Request → List ℕ
-spellRequest (Single e) = spell e
-spellRequest (Group names) = spellGroup names
+spellRequest (Single by e) = spell (by .actor) e
+spellRequest (Group by names) = spellGroup (by .actor) names
 
 unfoldable pub textOf : List Request → List ℕ
 textOf [] = []
@@ -40,15 +41,16 @@ namedText issued qs = header ++ textOf (allRightlyNamed issued qs)
 
 -- a request has a line in one of the two spellings; names dropped together are two or more, since one name is an event
 abbrev pub HasLine : Spelling → Request → Type 0
-HasLine k (Single e) = (hasSpelling k e ≡ true) × InRange e
-HasLine k (Group names) = (2 ≤ length names) × (isGroup names ≡ true) × Below32 names
+HasLine k (Single by e) = (hasSpelling k (by .actor) e ≡ true) × InRange e
+HasLine k (Group by names) = (2 ≤ length names) × (isDomain (by .actor) ≡ true) × (isGroup names ≡ true) × Below32 names
 
-abbrev pub Spellable : Request → Type 0
-Spellable q = HasLine Plain (unnamed q)
+-- and it comes with the limits that are lent with the run
+abbrev pub Spellable : Limits → Request → Type 0
+Spellable limits q = (callerOf q .limits ≡ limits) × HasLine Plain (unnamed q)
 
-abbrev pub Spelled : List Request → Type 0
-Spelled [] = Unit {0}
-Spelled (q ∷ qs) = Spellable q × Spelled qs
+abbrev pub Spelled : Limits → List Request → Type 0
+Spelled limits [] = Unit {0}
+Spelled limits (q ∷ qs) = Spellable limits q × Spelled limits qs
 
 -- one higher: the lines allowed, and a line number unless it is 0
 abbrev pub oneHigher : ℕ → ℕ → ℕ
@@ -60,8 +62,8 @@ oneHigher (suc refusal) (suc line) = suc (suc line)
 -- so anything may follow it, in each of the two another text.
 pub data Rests : List ℕ → List ℕ → Type 0 where
   none : Rests [] []
-  misspelt : {rest rest′ : List ℕ} → 0 < length rest → nextLine rest ≡ nextLine rest′ → readRequest Plain (nextLine rest) ≡ refused 2
-      → readRequest Named (nextLine rest) ≡ refused 2 → Rests rest rest′
+  misspelt : {rest rest′ : List ℕ} → 0 < length rest → nextLine rest ≡ nextLine rest′ → ((limits : Limits) → readRequest limits Plain (nextLine rest) ≡ refused 2)
+      → ((limits : Limits) → readRequest limits Named (nextLine rest) ≡ refused 2) → Rests rest rest′
 
 -- A trace of document 01: its first line is not the header. One that begins with a request always is (`request-first` of
 -- proofs/Laws/Spellings); where there is none, what stands behind could begin with the header.
@@ -69,14 +71,14 @@ abbrev pub OldTrace : List ℕ → Type 0
 OldTrace text = same (nextLine text) header ≡ false
 
 -- the verdicts of the two traces, by any sheet on whatever is lent
-pub record SameVerdicts (sheet : Sheet) (h : State) (plain named : List ℕ) : Type 0 where
-  pub same-refusal : run sheet h named .refusal ≡ run sheet h plain .refusal
-  pub one-higher : run sheet h named .number ≡ oneHigher (run sheet h plain .refusal) (run sheet h plain .number)
-  pub same-state : run sheet h named .state ≡ run sheet h plain .state
+pub record SameVerdicts (sheet : Sheet) (limits : Limits) (h : State) (plain named : List ℕ) : Type 0 where
+  pub same-refusal : run sheet limits h named .refusal ≡ run sheet limits h plain .refusal
+  pub one-higher : run sheet limits h named .number ≡ oneHigher (run sheet limits h plain .refusal) (run sheet limits h plain .number)
+  pub same-state : run sheet limits h named .state ≡ run sheet limits h plain .state
 
 -- the run that `capcheck` prints
 abbrev pub checked : List ℕ → Ran State
-checked = run sheet6 (initial 1024 noCounts)
+checked = run sheet6 Unlimited (initial 1024 noCounts)
 
 -- what `capcheck` prints of the two, neither `(long)`: the new one's answer with its number one higher, and the same listing
 pub record SameChecks (plain named : List ℕ) : Type 0 where

@@ -109,7 +109,8 @@ pub fn check(input: &[u8], out: &mut [u8]) -> Written
     let mut table = [[0u32; WIDTH]; 1024];
     let mut bits = [0u8; 8192];
     let sheet = card6();
-    let ran = run::run_lent(&mut table, &mut bits, none, &sheet, input);
+    let unlimited: [u32; 0] = [];
+    let ran = run::run_lent(&mut table, &mut bits, none, &sheet, &unlimited, input);
     let answer = ran.answer;
     let issued = ran.tally.issued;
     match answer {
@@ -126,16 +127,16 @@ pub fn check(input: &[u8], out: &mut [u8]) -> Written
 
 // What `capcheck` prints: its length, and an array that begins with it.
 pub struct Printed {
-    pub bytes: [u8; 39968],
+    pub bytes: [u8; 60448],
     pub length: usize,
 }
 
 // Runs an input on 1,024 empty rows, and answers with what `capcheck` prints of it. No input has more to print than the array holds, so
 // this refuses none.
 pub fn check_text(input: &[u8]) -> Printed
-    ensures { λ r. ⌜ (take (r .length) (r .bytes) ≡ checkText (now (input .entry))) × (r .length ≤ 39968) × (length (r .bytes) ≡ 39968) ⌝ }
+    ensures { λ r. ⌜ (take (r .length) (r .bytes) ≡ checkText (now (input .entry))) × (r .length ≤ 60448) × (length (r .bytes) ≡ 60448) ⌝ }
 {
-    let mut bytes = [0u8; 39968];
+    let mut bytes = [0u8; 60448];
     let written = check(input, &mut bytes);
     match written {
         Written::Length(length) => Printed { bytes, length },

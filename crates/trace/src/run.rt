@@ -9,9 +9,9 @@ use rules::count;
 use rules::steps;
 use table::Row;
 use table::SheetBytes;
+use table::lent::look;
 use table::lent::set_tally;
 use table::lent::tally_at;
-use table::ordered;
 use table::ordered::Look;
 use text::group;
 use text::group::GroupRead;
@@ -24,7 +24,8 @@ ghost use Prim.Native.Nat.{_≤_};
 ghost use Rattle.text.specs.Line.{nextLine};
 ghost use Rattle.text.specs.Read.{same};
 ghost use Rattle.table.specs.Lent;
-ghost use Rattle.table.specs.Known.{Known, Sized};
+ghost use Rattle.table.specs.Known.{Fit};
+ghost use Rattle.table.specs.Limits.{limitsIn};
 ghost use Rattle.table.specs.Sheets.{sheetIn};
 ghost use Rattle.model.specs.declared.Refusal.the-variants.{Disordered};
 ghost use Rattle.trace.specs.Run;
@@ -43,7 +44,7 @@ pub struct RunOutcome {
     pub answer: RunAnswer,
 }
 
-// A line that is no event, on a table in order: the names that it drops together, or refusal 2.
+// A line that is no event, on what is fit: the names that it drops together, or refusal 2.
 fn take_group(
     table: &mut [Row],
     live: usize,
@@ -51,16 +52,17 @@ fn take_group(
     bits: &mut [u8],
     tally: Tally,
     sheet: &SheetBytes,
+    limits: &[u32],
     line: &[u8],
 ) -> Progress
-    requires { ⌜ Known (now table) live (tally .issued) (now places) × Sized (now bits) ⌝ }
-    ensures { λ r. ⌜ TakesGroup (sheetIn (now (sheet .entry))) (now (table .entry)) (now (bits .entry)) tally (now (line .entry)) (now (table .exit)) (now (bits .exit)) (r .outcome)
-        × Known (now (table .exit)) (r .live) (r .outcome .tally .issued) (now (places .exit)) × Sized (now (bits .exit)) ⌝ }
+    requires { ⌜ Fit (now table) (now bits) live (tally .issued) (now limits) (now places) ⌝ }
+    ensures { λ r. ⌜ TakesGroup (sheetIn (now (sheet .entry))) (limitsIn (now (limits .entry))) (now (table .entry)) (now (bits .entry)) tally (now (line .entry)) (now (table .exit)) (now (bits .exit)) (r .outcome)
+        × Fit (now (table .exit)) (now (bits .exit)) (r .live) (r .outcome .tally .issued) (now (limits .entry)) (now (places .exit)) ⌝ }
 {
     let mut names = [0u32; 64];
     let found = group::read_group(line, &mut names);
     match found {
-        GroupRead::Count(count) => {
+        GroupRead::Count(actor, count) => {
             steps::take(
                 table,
                 live,
@@ -68,7 +70,8 @@ fn take_group(
                 bits,
                 tally,
                 sheet,
-                Asked::Group,
+                limits,
+                Asked::Group(actor),
                 &names[..count],
             )
         }
@@ -83,7 +86,7 @@ fn take_group(
     }
 }
 
-// A line on a table in order: the event that it spells, or names dropped together, or refusal 2.
+// A line on what is fit: the event that it spells, or names dropped together, or refusal 2.
 fn take_line(
     table: &mut [Row],
     live: usize,
@@ -91,16 +94,17 @@ fn take_line(
     bits: &mut [u8],
     tally: Tally,
     sheet: &SheetBytes,
+    limits: &[u32],
     spelling: Spelling,
     line: &[u8],
 ) -> Progress
-    requires { ⌜ Known (now table) live (tally .issued) (now places) × Sized (now bits) ⌝ }
-    ensures { λ r. ⌜ Takes (sheetIn (now (sheet .entry))) spelling (now (table .entry)) (now (bits .entry)) tally (now (line .entry)) (now (table .exit)) (now (bits .exit)) (r .outcome)
-        × Known (now (table .exit)) (r .live) (r .outcome .tally .issued) (now (places .exit)) × Sized (now (bits .exit)) ⌝ }
+    requires { ⌜ Fit (now table) (now bits) live (tally .issued) (now limits) (now places) ⌝ }
+    ensures { λ r. ⌜ Takes (sheetIn (now (sheet .entry))) (limitsIn (now (limits .entry))) spelling (now (table .entry)) (now (bits .entry)) tally (now (line .entry)) (now (table .exit)) (now (bits .exit)) (r .outcome)
+        × Fit (now (table .exit)) (now (bits .exit)) (r .live) (r .outcome .tally .issued) (now (limits .entry)) (now (places .exit)) ⌝ }
 {
     let found = read::read_event(spelling, line);
     match found {
-        EventRead::Event(event) => {
+        EventRead::Event(actor, event) => {
             // An event has no use for names beside it.
             let none = [0u32];
             steps::take(
@@ -110,16 +114,19 @@ fn take_line(
                 bits,
                 tally,
                 sheet,
-                Asked::Single(event),
+                limits,
+                Asked::Single(actor, event),
                 &none,
             )
         }
-        EventRead::Refused(_) => take_group(table, live, places, bits, tally, sheet, line),
+        EventRead::Refused(_) => {
+            take_group(table, live, places, bits, tally, sheet, limits, line)
+        }
     }
 }
 
-// The lines of a text on a table in order, where so many lines were taken before them. An event keeps the order, and what is known of
-// the table, so neither is looked for again.
+// The lines of a text on what is fit, where so many lines were taken before them. An event keeps it so, and what is known of the table, so
+// neither is looked for again.
 fn run_ordered(
     table: &mut [Row],
     live: usize,
@@ -127,12 +134,13 @@ fn run_ordered(
     bits: &mut [u8],
     tally: Tally,
     sheet: &SheetBytes,
+    limits: &[u32],
     spelling: Spelling,
     before: usize,
     text: &[u8],
 ) -> RunOutcome
-    requires { ⌜ Known (now table) live (tally .issued) (now places) × Sized (now bits) × (before ≤ 1) ⌝ }
-    ensures { λ r. ⌜ RunsLines (sheetIn (now (sheet .entry))) spelling before (now (table .entry)) (now (bits .entry)) tally (now (text .entry)) (now (table .exit)) (now (bits .exit)) r ⌝ }
+    requires { ⌜ Fit (now table) (now bits) live (tally .issued) (now limits) (now places) × (before ≤ 1) ⌝ }
+    ensures { λ r. ⌜ RunsLines (sheetIn (now (sheet .entry))) (limitsIn (now (limits .entry))) spelling before (now (table .entry)) (now (bits .entry)) tally (now (text .entry)) (now (table .exit)) (now (bits .exit)) r ⌝ }
 {
     let mut left = tally;
     let mut alive = live;
@@ -140,7 +148,17 @@ fn run_ordered(
     let mut count = before;
     while at < text.len() {
         let line = lines::next_line(&text[at..]);
-        let taken = take_line(table, alive, places, bits, left, sheet, spelling, line);
+        let taken = take_line(
+            table,
+            alive,
+            places,
+            bits,
+            left,
+            sheet,
+            limits,
+            spelling,
+            line,
+        );
         let outcome = taken.outcome;
         alive = taken.live;
         left = outcome.tally;
@@ -168,7 +186,7 @@ fn is_named(text: &[u8]) -> bool
     check::same(first, b"(trace 2)\n")
 }
 
-// A text on a table in order. Its first line may say that new names are written out; that line is counted, and is no event.
+// A text on what is fit. Its first line may say that new names are written out; that line is counted, and is no event.
 fn run_text(
     table: &mut [Row],
     live: usize,
@@ -176,10 +194,11 @@ fn run_text(
     bits: &mut [u8],
     tally: Tally,
     sheet: &SheetBytes,
+    limits: &[u32],
     text: &[u8],
 ) -> RunOutcome
-    requires { ⌜ Known (now table) live (tally .issued) (now places) × Sized (now bits) ⌝ }
-    ensures { λ r. ⌜ Runs (sheetIn (now (sheet .entry))) (now (table .entry)) (now (bits .entry)) tally (now (text .entry)) (now (table .exit)) (now (bits .exit)) r ⌝ }
+    requires { ⌜ Fit (now table) (now bits) live (tally .issued) (now limits) (now places) ⌝ }
+    ensures { λ r. ⌜ Runs (sheetIn (now (sheet .entry))) (limitsIn (now (limits .entry))) (now (table .entry)) (now (bits .entry)) tally (now (text .entry)) (now (table .exit)) (now (bits .exit)) r ⌝ }
 {
     if is_named(text) {
         run_ordered(
@@ -189,6 +208,7 @@ fn run_text(
             bits,
             tally,
             sheet,
+            limits,
             Spelling::Named,
             1,
             &text[10..],
@@ -201,6 +221,7 @@ fn run_text(
             bits,
             tally,
             sheet,
+            limits,
             Spelling::Plain,
             0,
             text,
@@ -218,40 +239,42 @@ fn disordered(tally: Tally) -> RunOutcome
     }
 }
 
-// A run on any table and bits, and a tally by value: a table that is not in order, as above 1,024 rows, is refusal 1, and so is another number
-// of bytes than 8,192.
+// A run on any table, bits and limits, and a tally by value: a table that is not in order, as above 1,024 rows, is refusal 1, and so are another
+// number of bytes than 8,192, and limits that are refused.
 pub fn run_lent(
     table: &mut [Row],
     bits: &mut [u8],
     tally: Tally,
     sheet: &SheetBytes,
+    limits: &[u32],
     text: &[u8],
 ) -> RunOutcome
-    ensures { λ r. ⌜ Runs (sheetIn (now (sheet .entry))) (now (table .entry)) (now (bits .entry)) tally (now (text .entry)) (now (table .exit)) (now (bits .exit)) r ⌝ }
+    ensures { λ r. ⌜ Runs (sheetIn (now (sheet .entry))) (limitsIn (now (limits .entry))) (now (table .entry)) (now (bits .entry)) tally (now (text .entry)) (now (table .exit)) (now (bits .exit)) r ⌝ }
 {
-    if bits.len() != 8192 {
-        return disordered(tally);
-    }
     let mut places = [0u16; 1024];
-    let found = ordered::look_at(table, tally.issued, &mut places);
+    let found = look(table, bits, tally.issued, limits, &mut places);
     match found {
-        Look::InOrder(live) => run_text(table, live, &mut places, bits, tally, sheet, text),
+        Look::InOrder(live) => {
+            run_text(table, live, &mut places, bits, tally, sheet, limits, text)
+        }
         Look::Disordered => disordered(tally),
     }
 }
 
-// A run of a text on the table, the bits and the tally that are lent, by a sheet: the number of lines allowed, or the refusal and its line.
+// A run of a text on the table, the bits and the tally that are lent, by a sheet and with limits where some are lent: the number of lines
+// allowed, or the refusal and its line.
 pub fn run(
     table: &mut [Row],
     bits: &mut [u8],
     tally: &mut [u32; 7],
     sheet: &SheetBytes,
+    limits: &[u32],
     text: &[u8],
 ) -> RunAnswer
-    ensures { λ r. ⌜ ranOf r (Lent.lent (now (table .exit)) (now (bits .exit)) (now (tally .exit))) ≡ Run.run (sheetIn (now (sheet .entry))) (Lent.lent (now (table .entry)) (now (bits .entry)) (now (tally .entry))) (now (text .entry)) ⌝ }
+    ensures { λ r. ⌜ ranOf r (Lent.lent (now (table .exit)) (now (bits .exit)) (now (tally .exit))) ≡ Run.run (sheetIn (now (sheet .entry))) (limitsIn (now (limits .entry))) (Lent.lent (now (table .entry)) (now (bits .entry)) (now (tally .entry))) (now (text .entry)) ⌝ }
 {
     let t = tally_at(tally);
-    let out = run_lent(table, bits, t, sheet, text);
+    let out = run_lent(table, bits, t, sheet, limits, text);
     let after = out.tally;
     set_tally(tally, after);
     let answer = out.answer;

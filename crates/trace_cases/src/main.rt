@@ -1,4 +1,4 @@
-// Document 01's traces and examples of refusals, and those of cards 1, 7 and 9, run and printed. The file `stdout` beside src/ has what the papers
+// Document 01's traces and examples of refusals, and those of cards 1, 7, 9 and 10, run and printed. The file `stdout` beside src/ has what the papers
 // say of them.
 use libc::STDOUT_FILENO;
 use listing::reading;
@@ -43,17 +43,18 @@ fn print_answer(answer: RunAnswer) {
 }
 
 // Runs a trace on a table and bits, and prints the refusal, 0 where every line is allowed, and the number of lines or the line.
-fn run_with(table: &mut [Row], bits: &mut [u8], issued: u32, input: &[u8]) {
+fn run_with(table: &mut [Row], bits: &mut [u8], issued: u32, limits: &[u32], input: &[u8]) {
     let sheet = card6();
-    let ran = run::run_lent(table, bits, issued_so_far(issued), &sheet, input);
+    let ran = run::run_lent(table, bits, issued_so_far(issued), &sheet, limits, input);
     let answer = ran.answer;
     print_answer(answer);
 }
 
-// The same with nothing written.
+// The same with nothing written, and with no limits.
 fn run_on(table: &mut [Row], issued: u32, input: &[u8]) {
     let mut bits = [0u8; 8192];
-    run_with(table, &mut bits, issued, input);
+    let unlimited: [u32; 0] = [];
+    run_with(table, &mut bits, issued, &unlimited, input);
 }
 
 // The same on the first rows of a table, or on all where it has no more.
@@ -74,8 +75,8 @@ fn run_on_empty(rows: usize, issued: u32, input: &[u8]) {
 // The table of refusal 1: rows both named 3.
 fn run_on_disordered(input: &[u8]) {
     let mut table = [[0u32; WIDTH]; 2];
-    table[0] = [3, 0, 0, 0, 0, 0, 0, 0];
-    table[1] = [3, 0, 0, 0, 0, 0, 0, 0];
+    table[0] = [3, 0, 0, 0, 0, 0, 0, 0, 0, 0, 0];
+    table[1] = [3, 0, 0, 0, 0, 0, 0, 0, 0, 0, 0];
     run_on(&mut table, 3, input);
 }
 
@@ -86,11 +87,13 @@ fn last_name() {
     let mut tally = [0u32; 7];
     reading::read_listing(b"(issued 999999)\n", &mut table, &mut tally);
     let sheet = card6();
+    let unlimited: [u32; 0] = [];
     let answer = run::run(
         &mut table,
         &mut bits,
         &mut tally,
         &sheet,
+        &unlimited,
         b"(create 0 8 rw)\n(create 0 8 rw)\n",
     );
     print_answer(answer);
@@ -106,7 +109,15 @@ fn run_by(text: &[u8], input: &[u8]) {
     }
     let mut table = [[0u32; WIDTH]; 1024];
     let mut bits = [0u8; 8192];
-    let ran = run::run_lent(&mut table, &mut bits, issued_so_far(0), &sheet, input);
+    let unlimited: [u32; 0] = [];
+    let ran = run::run_lent(
+        &mut table,
+        &mut bits,
+        issued_so_far(0),
+        &sheet,
+        &unlimited,
+        input,
+    );
     let answer = ran.answer;
     print_answer(answer);
 }
@@ -217,7 +228,55 @@ fn written_first() {
 fn few_bits() {
     let mut table = [[0u32; WIDTH]; 2];
     let mut bits = [0u8; 8191];
-    run_with(&mut table, &mut bits, 0, b"(create 0 8 rw)\n");
+    let unlimited: [u32; 0] = [];
+    run_with(&mut table, &mut bits, 0, &unlimited, b"(create 0 8 rw)\n");
+}
+
+// Card 10: who acts, and who holds: a domain that is no holder; one that borrows from what is lent to it; a group that is asked for by no
+// holder of its second name; and spellings that are none.
+fn domains() {
+    console::print_check(b"(as 3 (create 0 8 rw))\n(read 1 0 8)\n");
+    console::print_check(
+        b"(create 0 8 rw 0000000000000009)\n(as 3 (borrow 1 0 8 rw))\n(as 3 (write 2 0 8))\n(write 2 0 8)\n",
+    );
+    console::print_check(
+        b"(as 63 (create 0 8 ro 8000000000000001))\n(as 63 (create 8 8 rw))\n(as 63 (drop 1 2))\n",
+    );
+    console::print_check(b"(create 0 8 rw 0000000000000003)\n(create 8 8 rw)\n(as 1 (drop 1 2))\n");
+    console::print_check(b"(as 0 (create 0 8 rw))\n");
+    console::print_check(b"(as 64 (create 0 8 rw))\n");
+    console::print_check(b"(create 0 8 rw 0000000000000001)\n");
+    console::print_check(b"(as 3 (create 0 8 rw 0000000000000001))\n");
+    console::print_check(b"(create 0 8 rw 000000000000000F)\n");
+}
+
+// The same on 64 rows with limits: so many for domain 0, and so many for domain 63.
+fn run_limited(zero: u32, last: u32, input: &[u8]) {
+    let mut table = [[0u32; WIDTH]; 64];
+    let mut bits = [0u8; 8192];
+    let mut limits = [0u32; 64];
+    limits[0] = zero;
+    limits[63] = last;
+    run_with(&mut table, &mut bits, 0, &limits, input);
+}
+
+// Card 10: a limit that is reached, and a row of another domain; a drop that gives back; a domain that may make none; a sum that is the
+// rows, one above, and one that would wrap in 32 bits; and a sheet of another length.
+fn limited() {
+    run_limited(
+        1,
+        1,
+        b"(create 0 8 rw)\n(as 63 (create 8 8 rw))\n(create 16 8 rw)\n",
+    );
+    run_limited(1, 0, b"(create 0 8 rw)\n(drop 1)\n(create 0 8 rw)\n");
+    run_limited(1, 0, b"(as 63 (create 0 8 rw))\n");
+    run_limited(63, 1, b"");
+    run_limited(64, 1, b"");
+    run_limited(4294967295, 2, b"(create 0 8 rw)\n");
+    let mut table = [[0u32; WIDTH]; 64];
+    let mut bits = [0u8; 8192];
+    let short = [0u32; 63];
+    run_with(&mut table, &mut bits, 0, &short, b"(create 0 8 rw)\n");
 }
 
 fn main() {
@@ -229,4 +288,6 @@ fn main() {
     sheets();
     written_first();
     few_bits();
+    domains();
+    limited();
 }

@@ -3,10 +3,12 @@
 use std::fmt::Debug;
 
 use interface::{
-    AnswerWords, Cap, DROP_ALL, Event, Interface, MAX_GROUP, Memory, SHEET_PLACES, Words,
+    AnswerWords, Cap, DROP_ALL, Event, Interface, MAX_GROUP, Memory, SHEET_PLACES, ShareWords,
+    Words,
 };
-use oracle::{Refused, Row, Sheet, Span, Spelling, Tally, Written};
+use oracle::{Act, Charge, Fields, Refused, Row, Sheet, Span, Spelling, Tally, Written};
 
+use crate::domains;
 use crate::report::{Checked, Met, MetAnswers, check_few};
 use crate::sheets;
 use crate::strikes;
@@ -24,13 +26,19 @@ pub struct Lent {
     pub rows: Vec<Row>,
     pub bits: Bits,
     pub tally: Tally,
+    /// Numbers of limits, none where no limits are lent.
+    pub limits: Vec<u32>,
 }
 
 impl Lent {
-    /// These rows and this tally, with nothing written.
+    /// These rows and this tally, with nothing written and without limits.
     pub fn of(rows: Vec<Row>, tally: Tally) -> Lent {
-        let bits = Bits::Of(Written::default());
-        Lent { rows, bits, tally }
+        Lent {
+            rows,
+            bits: Bits::Of(Written::default()),
+            tally,
+            limits: Vec::new(),
+        }
     }
 
     /// So many empty rows, nothing written, and a tally of zeros.
@@ -125,53 +133,74 @@ pub fn span_of(event: Event) -> Span {
     }
 }
 
-pub fn oracle_event(event: Event) -> oracle::Event {
+/// What happens, and who acts.
+pub fn oracle_act(event: Event) -> Act {
     let Event {
         kind,
         written,
         name,
         right,
-        cap_kind,
-        fresh,
+        actor,
+        holders,
         ..
     } = event;
-    let (cap_kind, fresh) = (cap_kind.into(), fresh.into());
-    oracle::Event::from_fields(kind, written, name, span_of(event), right, cap_kind, fresh)
+    let event = oracle::Event::of(Fields {
+        event: kind,
+        written,
+        name,
+        span: span_of(event),
+        right,
+        kind: event.cap_kind.into(),
+        fresh: event.fresh.into(),
+        holders,
+    });
+    Act { actor, event }
 }
 
-/// What words ask for: an event, or names to drop together.
+/// What words ask for: an event, or names that a domain drops together.
 pub enum Asked<'a> {
-    Event(oracle::Event),
-    Names(&'a [u32]),
+    Act(Act),
+    Names(u32, &'a [u32]),
 }
 
 /// Names that reach past the end of their list are none; kinds and rights above a byte are as unknown
 /// as 0 is; any number but 0 says that a name is written.
 pub fn asked<'a>(words: &Words, names: &'a [u32]) -> Asked<'a> {
+    let actor = words.actor;
     if words.kind == DROP_ALL {
         let start = u64::from(words.start);
         let end = start + u64::from(words.length);
-        return Asked::Names(match end <= names.len() as u64 {
+        let names = match end <= names.len() as u64 {
             true => &names[start as usize..end as usize],
             false => &[],
-        });
+        };
+        return Asked::Names(actor, names);
     }
     let byte = |number: u32| u8::try_from(number).unwrap_or(0);
-    let (kind, right) = (byte(words.kind), byte(words.right));
-    let written = (words.named != 0).then_some(words.written);
-    let span = Span {
-        start: words.start,
-        length: words.length,
-    };
-    Asked::Event(oracle::Event::from_fields(
-        kind,
-        written,
-        words.name,
-        span,
-        right,
-        words.cap_kind,
-        words.fresh,
-    ))
+    let event = oracle::Event::of(Fields {
+        event: byte(words.kind),
+        written: (words.named != 0).then_some(words.written),
+        name: words.name,
+        span: Span {
+            start: words.start,
+            length: words.length,
+        },
+        right: byte(words.right),
+        kind: words.cap_kind,
+        fresh: words.fresh,
+        holders: mask(words.holders_low, words.holders_high),
+    });
+    Asked::Act(Act { actor, event })
+}
+
+/// A mask of its lower half and its higher.
+pub fn mask(low: u32, high: u32) -> u64 {
+    u64::from(low) + (1 << 32) * u64::from(high)
+}
+
+/// The lower half of a mask, and the higher.
+pub fn halves(mask: u64) -> (u32, u32) {
+    ((mask % (1 << 32)) as u32, (mask / (1 << 32)) as u32)
 }
 
 /// The spelling in which the interface writes the event.
@@ -194,20 +223,22 @@ pub fn same_answer(expected: u64, found: u64) -> Agreed {
     same("answer (number, value)", parts(expected), parts(found))
 }
 
-/// The table, written bits and tally that a call left.
+/// The table, written bits and tally that a call left, and the limits, which no call can change.
 pub struct Found {
     table: Vec<Cap>,
     written: Vec<u8>,
     tally: interface::Tally,
+    limits: Vec<u32>,
 }
 
 impl Found {
     /// The same as the oracle has it.
-    pub fn lent(&self) -> Lent {
+    pub fn lent(self) -> Lent {
         Lent {
             rows: self.table.iter().map(row_of).collect(),
             bits: Bits::lent(&self.written),
             tally: oracle_tally(self.tally),
+            limits: self.limits,
         }
     }
 }
@@ -241,9 +272,13 @@ const GUARD_ROW: Cap = Cap {
     depth: 5,
     kind: 6,
     fresh: 7,
+    maker: 8,
+    holders_low: 9,
+    holders_high: 10,
 };
 
 pub fn cap_of(row: &Row) -> Cap {
+    let (holders_low, holders_high) = halves(row.holders);
     Cap {
         name: row.name,
         parent: row.parent,
@@ -253,6 +288,9 @@ pub fn cap_of(row: &Row) -> Cap {
         depth: row.depth,
         kind: row.kind,
         fresh: row.fresh,
+        maker: row.maker,
+        holders_low,
+        holders_high,
     }
 }
 
@@ -266,6 +304,8 @@ fn row_of(cap: &Cap) -> Row {
         depth: cap.depth,
         kind: cap.kind,
         fresh: cap.fresh,
+        maker: cap.maker,
+        holders: mask(cap.holders_low, cap.holders_high),
     }
 }
 
@@ -305,6 +345,7 @@ pub fn lend(lent: &Lent, call: impl FnOnce(Memory) -> u64) -> Result<(u64, Found
         table: &mut table[..lent.rows.len()],
         written: &mut written[..bytes],
         tally: &mut tally,
+        limits: &lent.limits,
     });
     same("the row after the table", Some(GUARD_ROW), table.pop())?;
     let behind = written.split_off(bytes);
@@ -317,6 +358,7 @@ pub fn lend(lent: &Lent, call: impl FnOnce(Memory) -> u64) -> Result<(u64, Found
         table,
         written,
         tally,
+        limits: lent.limits.clone(),
     };
     Ok((answer, found))
 }
@@ -375,18 +417,21 @@ pub fn oracle_apply(lent: &mut Lent, event: Event) -> Result<u32, Refused> {
 
 /// The same by a sheet.
 pub fn oracle_apply_by(by: By, lent: &mut Lent, event: Event) -> Result<u32, Refused> {
-    oracle_take(by, lent, oracle_event(event))
+    oracle_take(by, lent, oracle_act(event))
 }
 
-fn oracle_take(by: By, lent: &mut Lent, event: oracle::Event) -> Result<u32, Refused> {
+/// What is lent besides what events change.
+fn besides<'a>(by: By<'a>, limits: &'a [u32]) -> oracle::By<'a> {
+    oracle::By {
+        sheet: sheet_of(by),
+        limits,
+    }
+}
+
+pub fn oracle_take(by: By, lent: &mut Lent, act: Act) -> Result<u32, Refused> {
+    let by = besides(by, &lent.limits);
     let written = lent.bits.written_mut();
-    oracle::apply_by(
-        sheet_of(by),
-        &mut lent.rows,
-        written,
-        &mut lent.tally,
-        event,
-    )
+    oracle::apply(by, &mut lent.rows, written, &mut lent.tally, act)
 }
 
 /// One event on what is lent, which is then as the event leaves it.
@@ -412,6 +457,7 @@ pub fn apply_by(subject: Subject, by: By, lent: &mut Lent, event: Event) -> Resu
         Some(sheet) => sheets::count(sheet, &before, lent, event, verdict),
     }
     written::count(&before, event, verdict);
+    domains::count(&before, event, verdict);
     MET.count_answer(verdict);
     same_answer(packed(verdict), answer)?;
     same_lent(lent, &found)?;
@@ -429,8 +475,8 @@ pub fn apply_each(subject: Subject, mut lent: Lent, events: &[Event]) -> Agreed 
 /// What words ask for, by the oracle alone.
 fn oracle_ask(by: By, lent: &mut Lent, words: &Words, names: &[u32]) -> Result<u32, Refused> {
     match asked(words, names) {
-        Asked::Event(event) => oracle_take(by, lent, event),
-        Asked::Names(names) => oracle_drop_all(lent, names),
+        Asked::Act(act) => oracle_take(by, lent, act),
+        Asked::Names(actor, names) => oracle_drop_all(lent, actor, names),
     }
 }
 
@@ -520,20 +566,31 @@ pub fn check_rows(lent: &Lent, check: impl Fn(Lent) -> Agreed) -> Agreed {
         })
     };
     check_few(&lent.rows, with_rows).map_err(|(why, rows)| {
-        let Lent { bits, tally, .. } = lent;
-        format!("{why}\n  rows {rows:?}\n  bits {bits:?}\n  tally {tally:?}")
+        let Lent {
+            bits,
+            tally,
+            limits,
+            ..
+        } = lent;
+        format!("{why}\n  rows {rows:?}\n  bits {bits:?}\n  tally {tally:?}\n  limits {limits:?}")
     })
 }
 
-/// Names dropped together by the oracle alone.
-pub fn oracle_drop_all(lent: &mut Lent, names: &[u32]) -> Result<u32, Refused> {
+/// Names that a domain drops together, by the oracle alone.
+pub fn oracle_drop_all(lent: &mut Lent, actor: u32, names: &[u32]) -> Result<u32, Refused> {
+    let by = besides(None, &lent.limits);
     let written = lent.bits.written();
-    oracle::drop_all(&mut lent.rows, written, &mut lent.tally, names)
+    oracle::drop_all(by, &mut lent.rows, written, &mut lent.tally, actor, names)
 }
 
-/// Names dropped together on what is lent, which is then as the call leaves it.
-pub fn drop_all(subject: Subject, lent: &mut Lent, names: &[u32]) -> Result<u64, String> {
-    drop_all_by(subject, None, lent, names)
+/// Names that a domain drops together on what is lent, which is then as the call leaves it.
+pub fn drop_all(
+    subject: Subject,
+    lent: &mut Lent,
+    actor: u32,
+    names: &[u32],
+) -> Result<u64, String> {
+    drop_all_by(subject, None, lent, actor, names)
 }
 
 /// The same with a sheet lent.
@@ -541,17 +598,29 @@ pub fn drop_all_by(
     subject: Subject,
     by: By,
     lent: &mut Lent,
+    actor: u32,
     names: &[u32],
 ) -> Result<u64, String> {
-    let (answer, found) = lend(lent, |memory| match by {
-        None => subject.drop_all(memory, names),
-        Some(sheet) => subject.drop_all_by(&sheet.bytes, memory, names),
+    let words = dropped(actor, names);
+    let (answer, found) = lend(lent, |memory| match (by, actor) {
+        (None, 0) => subject.drop_all(memory, names),
+        _ => subject.apply_words_by(bytes_of(by), memory, &words, names),
     })?;
-    let verdict = oracle_drop_all(lent, names);
+    let before = lent.clone();
+    let verdict = oracle_drop_all(lent, actor, names);
+    domains::count_drop(&before, actor, names, verdict);
     MET.count_answer(verdict);
     same_answer(packed(verdict), answer)?;
     same_lent(lent, &found)?;
     Ok(answer)
+}
+
+/// The words by which a domain drops all names of a list.
+pub fn dropped(actor: u32, names: &[u32]) -> Words {
+    Words {
+        actor,
+        ..Words::drop_all(0, names.len() as u32)
+    }
 }
 
 /// A run on what is lent, which is then as the run leaves it.
@@ -562,8 +631,9 @@ pub fn run(subject: Subject, lent: &mut Lent, text: &[u8]) -> Result<u64, String
 /// The same by a sheet.
 pub fn run_by(subject: Subject, by: By, lent: &mut Lent, text: &[u8]) -> Result<u64, String> {
     let (answer, found) = lend(lent, |memory| subject.run_by(bytes_of(by), memory, text))?;
+    let by = besides(by, &lent.limits);
     let written = lent.bits.written_mut();
-    let verdict = oracle::run_by(sheet_of(by), &mut lent.rows, written, &mut lent.tally, text);
+    let verdict = oracle::run(by, &mut lent.rows, written, &mut lent.tally, text);
     same_answer(packed_run(verdict), answer)?;
     same_lent(lent, &found)?;
     Ok(answer)
@@ -572,9 +642,9 @@ pub fn run_by(subject: Subject, by: By, lent: &mut Lent, text: &[u8]) -> Result<
 /// What words and names hold before a line is read into them, and after a refusal.
 const UNTOUCHED: u32 = 0xA5A5_A5A5;
 
-const UNTOUCHED_WORDS: Words = words_of([UNTOUCHED; 9]);
+const UNTOUCHED_WORDS: Words = words_of([UNTOUCHED; 12]);
 
-const fn words_of(words: [u32; 9]) -> Words {
+pub const fn words_of(words: [u32; 12]) -> Words {
     let [
         kind,
         name,
@@ -585,6 +655,9 @@ const fn words_of(words: [u32; 9]) -> Words {
         written,
         cap_kind,
         fresh,
+        actor,
+        holders_low,
+        holders_high,
     ] = words;
     Words {
         kind,
@@ -596,6 +669,9 @@ const fn words_of(words: [u32; 9]) -> Words {
         written,
         cap_kind,
         fresh,
+        actor,
+        holders_low,
+        holders_high,
     }
 }
 
@@ -631,40 +707,43 @@ fn expected_line(line: &[u8], named: u32) -> Option<(Words, Vec<u32>)> {
         0 => Spelling::Plain,
         _ => Spelling::Named,
     };
-    if let Some(event) = oracle::read_event_line(line, spelling) {
-        return Some((words_of(event.words()), Vec::new()));
+    if let Some(act) = oracle::read_event_line(line, spelling) {
+        return Some((words_of(act.words()), Vec::new()));
     }
-    let names = oracle::read_drop_line(line)?;
-    let count = names.len() as u32;
-    Some((words_of([DROP_ALL, 0, 0, count, 0, 0, 0, 0, 0]), names))
+    let (actor, names) = oracle::read_drop_line(line)?;
+    Some((dropped(actor, &names), names))
 }
 
 /// The line of what words ask for.
 pub fn write_words(subject: Subject, words: &Words, names: &[u32]) -> Agreed {
     let expected = |size: usize| match asked(words, names) {
-        Asked::Event(event) => {
+        Asked::Act(act) => {
             let spelling = match words.named {
                 0 => Spelling::Plain,
                 _ => Spelling::Named,
             };
-            oracle::write_event(event, spelling, size)
+            oracle::write_event(act, spelling, size)
         }
-        Asked::Names(names) => oracle::write_drop(names, size),
+        Asked::Names(actor, names) => oracle::write_drop(actor, names, size),
     };
     into_buffers(expected, |out| subject.write_words(words, names, out))
 }
 
-pub fn write_drop(subject: Subject, names: &[u32]) -> Agreed {
+pub fn write_drop(subject: Subject, actor: u32, names: &[u32]) -> Agreed {
+    let words = dropped(actor, names);
     into_buffers(
-        |size| oracle::write_drop(names, size),
-        |out| subject.write_drop(names, out),
+        |size| oracle::write_drop(actor, names, size),
+        |out| match actor {
+            0 => subject.write_drop(names, out),
+            _ => subject.write_words(&words, names, out),
+        },
     )
 }
 
 pub fn write_event(subject: Subject, event: Event) -> Agreed {
     let spelling = spelling_of(event);
     into_buffers(
-        |size| oracle::write_event(oracle_event(event), spelling, size),
+        |size| oracle::write_event(oracle_act(event), spelling, size),
         |out| subject.write_event(event, out),
     )
 }
@@ -697,14 +776,31 @@ pub fn read_listing(subject: Subject, text: &[u8], lent: &Lent) -> Agreed {
                 ..lent.tally
             };
             same_answer(packed(Ok(0)), answer)?;
-            let bits = lent.bits.clone();
-            same_lent(&Lent { rows, bits, tally }, &found)
+            let read = Lent {
+                rows,
+                tally,
+                ..lent.clone()
+            };
+            same_lent(&read, &found)
         }
         Err(number) => {
             same_answer(packed(Err(number)), answer)?;
             same_lent(lent, &found)
         }
     }
+}
+
+/// What a name is charged, on what is lent, which stays.
+pub fn charge(subject: Subject, lent: &Lent, name: u32) -> Result<ShareWords, String> {
+    let table: Vec<Cap> = lent.rows.iter().map(cap_of).collect();
+    let issued = lent.tally.issued;
+    let found = subject.charge(&table, issued, name);
+    let expected = match oracle::charge(&lent.rows, issued, name) {
+        Ok(Charge { share, left }) => [0, share, left],
+        Err(number) => [number.into(), 0, 0],
+    };
+    same("charge (number, share, left over)", expected, found)?;
+    Ok(found)
 }
 
 /// What a sheet holds before a text is read into it, and after a refusal.

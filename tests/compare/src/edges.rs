@@ -79,7 +79,7 @@ fn for_pairs(places: &[u64], check: impl Fn(Span, Span) -> Checked) -> Checked {
     Ok(cases)
 }
 
-/// An event over a span, with both rights where it gives one.
+/// An event of domain 0 over a span, with both rights and for itself alone where it makes something.
 pub fn event(kind: u8, name: u32, span: Span) -> Event {
     Event {
         kind,
@@ -87,6 +87,7 @@ pub fn event(kind: u8, name: u32, span: Span) -> Event {
         start: span.start,
         length: span.length,
         right: 2,
+        holders: 1,
         ..Event::default()
     }
 }

@@ -1,11 +1,11 @@
 //! Random events on lent tables.
 
 use interface::Event;
+use oracle::random::Random;
 use oracle::{MAX_DEPTH, MAX_NAME, MAX_ROWS, Row, Spelling};
 
 use crate::agree::{self, Lent, Subject, same_answer};
 use crate::generate::{self, Shape};
-use crate::random::Random;
 use crate::report::{Checked, Report, check_few};
 
 /// Tables of one sort: how many of them, how many events on each, and how one is made.
@@ -147,7 +147,7 @@ fn noise(random: &mut Random) -> Lent {
     Lent::of(rows, tally)
 }
 
-/// A root and a chain of borrows below it, named from a number on.
+/// A root and a chain of borrows below it, named from a number on, of domain 0 alone.
 pub fn chain(first_name: u32, rows: usize) -> Vec<Row> {
     let row = |depth: u32| Row {
         name: first_name + depth - 1,
@@ -162,6 +162,8 @@ pub fn chain(first_name: u32, rows: usize) -> Vec<Row> {
         depth,
         kind: 0,
         fresh: 0,
+        maker: 0,
+        holders: 1,
     };
     (1..=rows as u32).map(row).collect()
 }
@@ -272,6 +274,8 @@ fn create_as_write(subject: Subject, lent: &Lent, create: Event) -> Checked {
         start: create.start,
         length: create.length,
         fresh: create.fresh.into(),
+        maker: create.actor,
+        holders: create.holders,
         ..chain(1, 1)[0]
     };
     let kind = 4;

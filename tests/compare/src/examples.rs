@@ -1,7 +1,10 @@
-//! Every trace and example of document 01 and of cards 1, 2, 4, 6 and 9, with the answers written out.
+//! Every trace and example of document 01 and of cards 1, 2, 4, 6 and 9, with the answers written out. Listings
+//! leave out that every row is of domain 0 alone; `whole` puts that in.
 
 use interface::{Event, Words};
 use oracle::{MAX_DEPTH, MAX_GROUP, MAX_NAME, MAX_ROWS, Spelling, Tally, traces};
+
+use oracle::traces::whole;
 
 use crate::agree::{self, Agreed, Lent, Subject, packed, same_answer};
 use crate::generate::{self, Request};
@@ -10,14 +13,15 @@ use crate::kinds;
 use crate::report::{Checked, Report};
 
 /// A line and its answer.
-type Step<'a> = (&'a str, Result<u32, u8>);
+pub type Step<'a> = (&'a str, Result<u32, u8>);
 
-/// Lines on a table, with their answers and the listing after them.
-struct Trace<'a> {
-    rows: usize,
-    issued: u32,
-    steps: &'a [Step<'a>],
-    listing: &'a str,
+/// Lines on a table, with their answers and the whole listing after them.
+pub struct Trace<'a> {
+    pub rows: usize,
+    pub issued: u32,
+    pub limits: &'a [u32],
+    pub steps: &'a [Step<'a>],
+    pub listing: &'a str,
 }
 
 const ROOT: Step = ("(create 0 64 rw)", Ok(1));
@@ -194,8 +198,8 @@ const REFUSALS: [(&str, &[Step], &str); 6] = [
     ),
 ];
 
-/// Tables with room for the traces of raw capabilities and cells.
-const KINDS_ROOM: &[usize] = &[6, 16, 64, MAX_ROWS];
+/// Tables with room for the traces of cards 6, 9 and 10.
+pub const ROOM_FOR_ALL: &[usize] = &[6, 16, 64, MAX_ROWS];
 
 /// Tables with room for the traces of reused memory.
 const ROOM: &[usize] = &[4, 16, MAX_ROWS];
@@ -340,7 +344,7 @@ const REUSED_INPUT: &str = "\
 const REUSED_OUTPUT: &str = "\
 (refused 5 4)
 (issued 3)
-(3 32 16 rw)
+(3 32 16 rw 0 0000000000000001)
 ";
 
 const CAPCHECK_INPUT: &str = "\
@@ -355,20 +359,20 @@ const CAPCHECK_INPUT: &str = "\
 const CAPCHECK_OUTPUT: &str = "\
 (refused 7 6)
 (issued 3)
-(1 0 64 rw (2 0 16 ro) (3 16 16 rw))
+(1 0 64 rw 0 0000000000000001 (2 0 16 ro 0 0000000000000001) (3 16 16 rw 0 0000000000000001))
 ";
 
 pub fn groups(report: &mut Report, subject: Subject) {
     for (name, steps, listing) in TRACES {
         let sizes = &[3, 4, 16, MAX_ROWS];
-        report.group(name, |_| in_sizes(subject, sizes, steps, listing));
+        report.group(name, |_| in_sizes(subject, sizes, steps, &whole(listing)));
     }
     report.group("trace 8", |_| check_trace(subject, &one_row()));
     report.group("trace 9", |_| check_trace(subject, &no_rows()));
     report.group("trace 11, depth, and refusal 8", |_| depth(subject));
     report.group("trace 11, names", |_| check_trace(subject, &last_name()));
     for (name, steps, listing) in REFUSALS {
-        report.group(name, |_| in_sizes(subject, &[2], steps, listing));
+        report.group(name, |_| in_sizes(subject, &[2], steps, &whole(listing)));
     }
     report.group("refusal 1", |_| disordered(subject));
     report.group("refusal 2", |_| misspelt(subject));
@@ -378,7 +382,7 @@ pub fn groups(report: &mut Report, subject: Subject) {
         capcheck(subject, CAPCHECK_INPUT, CAPCHECK_OUTPUT)
     });
     for (name, sizes, steps, listing) in REUSED {
-        report.group(name, |_| in_sizes(subject, sizes, steps, listing));
+        report.group(name, |_| in_sizes(subject, sizes, steps, &whole(listing)));
     }
     report.group("what reused memory adds to the tally", |_| {
         reused_tally(subject)
@@ -387,7 +391,8 @@ pub fn groups(report: &mut Report, subject: Subject) {
         capcheck(subject, REUSED_INPUT, REUSED_OUTPUT)
     });
     for (name, steps, listing) in traces::KINDS.into_iter().chain(traces::MARKS) {
-        report.group(name, |_| in_sizes(subject, KINDS_ROOM, steps, listing));
+        let listing = whole(listing);
+        report.group(name, |_| in_sizes(subject, ROOM_FOR_ALL, steps, &listing));
     }
     report.group("capcheck on raw capabilities and cells", |_| {
         capcheck(subject, kinds::INPUT, kinds::OUTPUT)
@@ -401,13 +406,14 @@ fn one_row() -> Trace<'static> {
     Trace {
         rows: 1,
         issued: 0,
+        limits: &[],
         steps: &[
             ("(create 0 64 rw)", Ok(1)),
             ("(borrow 1 0 64 rw)", Err(10)),
             ("(drop 1)", Ok(0)),
             ("(create 0 64 rw)", Ok(2)),
         ],
-        listing: "(issued 2)\n(2 0 64 rw)\n",
+        listing: "(issued 2)\n(2 0 64 rw 0 0000000000000001)\n",
     }
 }
 
@@ -415,6 +421,7 @@ fn no_rows() -> Trace<'static> {
     Trace {
         rows: 0,
         issued: 0,
+        limits: &[],
         steps: &[("(create 0 64 rw)", Err(10))],
         listing: "(issued 0)\n",
     }
@@ -424,12 +431,13 @@ fn last_name() -> Trace<'static> {
     Trace {
         rows: 4,
         issued: MAX_NAME - 1,
+        limits: &[],
         steps: &[
             ("(create 0 8 rw)", Ok(1_000_000)),
             ("(create 0 8 rw)", Err(9)),
             ("(borrow 1000000 0 8 rw)", Err(9)),
         ],
-        listing: "(issued 1000000)\n(1000000 0 8 rw)\n",
+        listing: "(issued 1000000)\n(1000000 0 8 rw 0 0000000000000001)\n",
     }
 }
 
@@ -437,13 +445,14 @@ fn names_spent() -> Trace<'static> {
     Trace {
         rows: 2,
         issued: MAX_NAME,
+        limits: &[],
         steps: &[("(create 0 8 rw)", Err(9))],
         listing: "(issued 1000000)\n",
     }
 }
 
 /// The trace on so many rows, for each of the sizes.
-fn in_sizes(subject: Subject, sizes: &[usize], steps: &[Step], listing: &str) -> Checked {
+pub fn in_sizes(subject: Subject, sizes: &[usize], steps: &[Step], listing: &str) -> Checked {
     let mut cases = 0;
     for rows in sizes {
         cases += check_trace(
@@ -451,6 +460,7 @@ fn in_sizes(subject: Subject, sizes: &[usize], steps: &[Step], listing: &str) ->
             &Trace {
                 rows: *rows,
                 issued: 0,
+                limits: &[],
                 steps,
                 listing,
             },
@@ -461,9 +471,11 @@ fn in_sizes(subject: Subject, sizes: &[usize], steps: &[Step], listing: &str) ->
 
 /// Takes the steps one by one as events, each as a run of its own, and all of them beside the history
 /// where the trace begins with no name issued.
-fn check_trace(subject: Subject, trace: &Trace) -> Checked {
+pub fn check_trace(subject: Subject, trace: &Trace) -> Checked {
     let mut lent = Lent::empty(trace.rows);
     lent.tally.issued = trace.issued;
+    lent.limits = trace.limits.to_vec();
+    let empty = lent.clone();
     let mut requests = Vec::new();
     for (line, expected) in trace.steps {
         let before = lent.clone();
@@ -475,7 +487,7 @@ fn check_trace(subject: Subject, trace: &Trace) -> Checked {
     }
     check_listing(subject, &lent, trace.listing)?;
     if trace.issued == 0 {
-        check_list(subject, &Lent::empty(trace.rows), &requests)?;
+        check_list(subject, &empty, &requests)?;
     }
     Ok(trace.steps.len() as u64)
 }
@@ -512,6 +524,8 @@ fn read(subject: Subject, line: &str) -> Result<Event, String> {
         right: words.right as u8,
         cap_kind: words.cap_kind as u8,
         fresh: words.fresh as u8,
+        actor: words.actor,
+        holders: agree::mask(words.holders_low, words.holders_high),
     })
 }
 
@@ -538,8 +552,9 @@ fn depth(subject: Subject) -> Checked {
     let trace = Trace {
         rows: MAX_ROWS,
         issued: 0,
+        limits: &[],
         steps: &steps,
-        listing: &format!("(issued 64)\n(1 0 64 rw{below}{closing}\n"),
+        listing: &whole(&format!("(issued 64)\n(1 0 64 rw{below}{closing}\n")),
     };
     check_trace(subject, &trace)
 }
@@ -553,6 +568,7 @@ fn disordered(subject: Subject) -> Checked {
         row.length = 64;
         row.right = 2;
         row.depth = 1;
+        row.holders = 1;
     }
     let lines = ["(create 0 8 rw)", "(borrow 3 0 8 rw)", "(read 3 0 8)"];
     for line in lines {
@@ -619,7 +635,7 @@ fn reused_tally(subject: Subject) -> Checked {
     Ok(1)
 }
 
-fn capcheck(subject: Subject, input: &str, output: &str) -> Checked {
+pub fn capcheck(subject: Subject, input: &str, output: &str) -> Checked {
     let mut out = [0; 256];
     let answer = subject.check(input.as_bytes(), &mut out);
     same_answer(output.len() as u64, answer)?;
@@ -634,7 +650,7 @@ fn capcheck(subject: Subject, input: &str, output: &str) -> Checked {
 const NAMED_CAPCHECK: [(&str, &str); 6] = [
     (
         "(trace 2)\n(create 1 0 64 rw)\n(borrow 2 1 0 8 rw)\n",
-        "(allowed 3)\n(issued 2)\n(1 0 64 rw (2 0 8 rw))\n",
+        "(allowed 3)\n(issued 2)\n(1 0 64 rw 0 0000000000000001 (2 0 8 rw 0 0000000000000001))\n",
     ),
     ("(trace 2)\n", "(allowed 1)\n(issued 0)\n"),
     ("(trace 2)", "(refused 2 1)\n(issued 0)\n"),
@@ -642,7 +658,7 @@ const NAMED_CAPCHECK: [(&str, &str); 6] = [
     ("(trace 2)\n(trace 2)\n", "(refused 2 2)\n(issued 0)\n"),
     (
         "(trace 2)\n(create 1 0 64 rw)\n(borrow 3 1 0 8 rw)\n",
-        "(refused 12 3)\n(issued 1)\n(1 0 64 rw)\n",
+        "(refused 12 3)\n(issued 1)\n(1 0 64 rw 0 0000000000000001)\n",
     ),
 ];
 
@@ -660,29 +676,36 @@ fn named_traces(subject: Subject) -> Checked {
     let in_two = REFUSALS.map(|(_, steps, listing)| (2, steps, listing));
     let reused = REUSED.map(|(_, sizes, steps, listing)| (sizes[0], steps, listing));
     let of_cards = traces::KINDS.into_iter().chain(traces::MARKS);
-    let of_cards = of_cards.map(|(_, steps, listing)| (KINDS_ROOM[0], steps, listing));
+    let of_cards = of_cards.map(|(_, steps, listing)| (ROOM_FOR_ALL[0], steps, listing));
     let traces = in_room.into_iter().chain(in_two).chain(reused);
     let traces = traces.chain(of_cards);
     let traces = traces.map(|(rows, steps, listing)| Trace {
         rows,
         issued: 0,
+        limits: &[],
         steps,
         listing,
     });
     let others = [one_row(), no_rows(), last_name(), names_spent()];
     let mut cases = 0;
     for trace in traces.chain(others) {
-        let mut lent = Lent::empty(trace.rows);
-        lent.tally.issued = trace.issued;
-        for (line, expected) in trace.steps {
-            let event = read(subject, line)?;
-            check_names(subject, &lent, event, *expected)
-                .map_err(|why| format!("{line}, named: {why}"))?;
-            agree::apply(subject, &mut lent, event)?;
-            cases += 12;
-        }
+        cases += check_named(subject, &trace)?;
     }
     Ok(cases)
+}
+
+/// A trace with right names and with wrong ones.
+pub fn check_named(subject: Subject, trace: &Trace) -> Checked {
+    let mut lent = Lent::empty(trace.rows);
+    lent.tally.issued = trace.issued;
+    lent.limits = trace.limits.to_vec();
+    for (line, expected) in trace.steps {
+        let event = read(subject, line)?;
+        check_names(subject, &lent, event, *expected)
+            .map_err(|why| format!("{line}, named: {why}"))?;
+        agree::apply(subject, &mut lent, event)?;
+    }
+    Ok(trace.steps.len() as u64 * 12)
 }
 
 /// An event with its right name has the answer that it has without. With a wrong one it is refused
@@ -691,7 +714,7 @@ fn check_names(subject: Subject, lent: &Lent, event: Event, expected: Result<u32
     let next = lent.tally.issued + 1;
     let makes = event.kind <= 2;
     let with_wrong = match expected {
-        Ok(_) | Err(10) if makes => Err(12),
+        Ok(_) | Err(10 | 18) if makes => Err(12),
         other => other,
     };
     check_name(subject, lent.clone(), event, next, expected)?;

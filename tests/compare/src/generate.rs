@@ -1,13 +1,17 @@
 //! Random tables, written bits, tallies, events and texts.
 
 use interface::Event;
+use oracle::random::Random;
 use oracle::{
     FRESH, HEADER, MAX_DEPTH, MAX_GROUP, MAX_NAME, Row, Span, Spelling, Tally, WRITABLE,
     WRITTEN_BYTES, Written,
 };
 
-use crate::agree::{self, Bits, Lent, oracle_event};
-use crate::random::Random;
+use crate::acting::{
+    self, NO_DOMAINS, actor, cast, disturb_holders, disturb_limits, dropper, form_of, holders,
+    holders_asked, some_limits,
+};
+use crate::agree::{self, Bits, Lent, oracle_act};
 
 /// The shape of a table in order.
 pub struct Shape {
@@ -113,7 +117,7 @@ pub fn tally(random: &mut Random) -> Tally {
 /// Written bits: none, all of an area's, or any pieces of it, and rarely any bits at all.
 pub fn bits(random: &mut Random, area: Span) -> Bits {
     if random.one_in(200) {
-        let bytes: Vec<u8> = (0..WRITTEN_BYTES).map(|_| random.next() as u8).collect();
+        let bytes: Vec<u8> = (0..WRITTEN_BYTES).map(|_| random.bits() as u8).collect();
         return Bits::lent(&bytes);
     }
     let mut written = Written::default();
@@ -149,9 +153,10 @@ pub fn other_bits(random: &mut Random) -> Bits {
     Bits::lent(&vec![random.pick(&[0, 1, 255]); length])
 }
 
-/// A table in order, with an issued number that fits it and bits of the same area.
+/// A table in order, with an issued number that fits it, bits of the same area, and at times limits.
 pub fn ordered(random: &mut Random, shape: &Shape) -> Lent {
     let area = area(random);
+    let cast = cast(random);
     let widest_gap = random.between(1, 4) as u32;
     let spare = MAX_NAME - widest_gap * shape.live as u32;
     let mut last_name = match random.below(4) {
@@ -163,7 +168,7 @@ pub fn ordered(random: &mut Random, shape: &Shape) -> Lent {
     for _ in 0..shape.live {
         last_name += 1 + random.below(widest_gap.into()) as u32;
         let parent = parent(random, &rows, shape.deep);
-        rows.push(row(random, last_name, parent, area));
+        rows.push(row(random, last_name, parent, area, &cast));
     }
     let last_name = rows.last().map_or(0, |row| row.name);
     rows.resize(shape.rows, Row::default());
@@ -172,7 +177,13 @@ pub fn ordered(random: &mut Random, shape: &Shape) -> Lent {
         ..tally(random)
     };
     let bits = bits(random, area);
-    Lent { rows, bits, tally }
+    let limits = some_limits(random, &rows, &cast);
+    Lent {
+        rows,
+        bits,
+        tally,
+        limits,
+    }
 }
 
 /// A table in order with one tree, whose capabilities have one span and most of them a kind: whatever
@@ -187,6 +198,8 @@ pub fn crowded(random: &mut Random, rows: usize, live: usize) -> Lent {
             parent: parent.name,
             depth: parent.depth + 1,
             kind: random.pick(&[0, 1, 1, 2, 2]),
+            maker: lent.rows[at].maker,
+            holders: lent.rows[at].holders,
             ..parent
         };
     }
@@ -205,7 +218,8 @@ fn parent(random: &mut Random, rows: &[Row], deep: bool) -> Option<Row> {
     (candidate.depth < MAX_DEPTH).then_some(candidate)
 }
 
-fn row(random: &mut Random, name: u32, parent: Option<Row>, area: Span) -> Row {
+fn row(random: &mut Random, name: u32, parent: Option<Row>, area: Span, cast: &[u32]) -> Row {
+    let maker = random.pick(cast);
     let outer = parent.map_or(area, |parent| parent.span());
     let span = inside(random, outer);
     let highest = parent.map_or(2, |parent| parent.right);
@@ -218,6 +232,8 @@ fn row(random: &mut Random, name: u32, parent: Option<Row>, area: Span) -> Row {
         depth: parent.map_or(0, |parent| parent.depth) + 1,
         kind: parent.map_or(0, |_| random.pick(&KINDS)),
         fresh: parent.map_or_else(|| root_mark(random, span), |parent| parent.fresh),
+        maker,
+        holders: holders(random, cast, maker),
     }
 }
 
@@ -256,11 +272,13 @@ pub fn noise_row(random: &mut Random) -> Row {
         depth: random.number(),
         kind: random.number(),
         fresh: random.number(),
+        maker: random.number(),
+        holders: random.bits(),
     }
 }
 
-/// Changes something of a lent table, of its issued number or of how many bits are lent. It may still be in
-/// order then.
+/// Changes something of a lent table, of its issued number, of how many bits are lent or of the limits. It may
+/// still be in order then.
 pub fn disturb(random: &mut Random, lent: &mut Lent) {
     if lent.rows.is_empty() || random.one_in(8) {
         let last_name = oracle::live_rows(&lent.rows)
@@ -277,7 +295,7 @@ pub fn disturb(random: &mut Random, lent: &mut Lent) {
         return;
     }
     let (one, other) = (random.index(lent.rows.len()), random.index(lent.rows.len()));
-    match random.below(20) {
+    match random.below(25) {
         0 => lent.rows.swap(one, other),
         1 => lent.rows[one] = lent.rows[other],
         2 => lent.rows[one] = Row::default(),
@@ -291,6 +309,10 @@ pub fn disturb(random: &mut Random, lent: &mut Lent) {
         8 => lent.rows[one].fresh ^= FRESH,
         9 | 10 => mark_tree(lent, one),
         11 => lent.bits = other_bits(random),
+        12 => lent.rows[one].maker = random.pick(&NO_DOMAINS),
+        13 => lent.rows[one].maker = random.below(64) as u32,
+        14 => disturb_holders(random, &mut lent.rows[one]),
+        15 | 16 => disturb_limits(random, lent),
         _ => disturb_field(random, &mut lent.rows[one]),
     }
 }
@@ -318,7 +340,7 @@ fn mark_tree(lent: &mut Lent, at: usize) {
 }
 
 fn disturb_field(random: &mut Random, row: &mut Row) {
-    let field = match random.below(8) {
+    let field = match random.below(10) {
         0 => &mut row.name,
         1 => &mut row.parent,
         2 => &mut row.start,
@@ -326,6 +348,8 @@ fn disturb_field(random: &mut Random, row: &mut Row) {
         4 => &mut row.right,
         5 => &mut row.kind,
         6 => &mut row.fresh,
+        7 => &mut row.maker,
+        8 => return disturb_holders(random, row),
         _ => &mut row.depth,
     };
     *field = near(random, *field);
@@ -376,6 +400,10 @@ fn event(random: &mut Random, lent: &Lent, area: Span, spelling: Spelling) -> Ev
         false => None,
     };
     let span = free.unwrap_or(span);
+    let actor = match kind {
+        1 => actor(random, live, None),
+        _ => actor(random, live, user.as_ref()),
+    };
     Event {
         kind,
         written: match spelling {
@@ -391,6 +419,8 @@ fn event(random: &mut Random, lent: &Lent, area: Span, spelling: Spelling) -> Ev
         },
         cap_kind: cap_kind(random, kind),
         fresh: mark(random, kind),
+        actor,
+        holders: holders_asked(random, live, actor, kind),
     }
 }
 
@@ -485,8 +515,8 @@ fn sample<T: Copy>(random: &mut Random, items: &[T], count: usize) -> Vec<T> {
     picked
 }
 
-/// Names to drop together: some of one subtree, some below one parent, or some anywhere, and at times
-/// names that have ended or were not issued. They rise strictly.
+/// Names to drop together: some of one subtree, some below one parent, or some anywhere, often such as one
+/// domain holds, and at times names that have ended or were not issued. They rise strictly.
 pub fn group(random: &mut Random, lent: &Lent) -> Vec<u32> {
     let live = oracle::live_rows(&lent.rows);
     let most = random.pick(&[2, 4, 4, 12, 12, MAX_GROUP]);
@@ -494,7 +524,10 @@ pub fn group(random: &mut Random, lent: &Lent) -> Vec<u32> {
         true => most,
         false => random.between(1, most),
     };
-    let related = related(random, live);
+    let mut related = related(random, live);
+    if random.one_in(2) {
+        acting::keep_held(random, live, &mut related);
+    }
     let mut names = sample(random, &related, count);
     if names.is_empty() || random.one_in(4) {
         let strays = random.between(1, 2);
@@ -550,11 +583,11 @@ pub fn bad_group(random: &mut Random, lent: &Lent) -> Vec<u32> {
     names
 }
 
-/// An event, or names that are dropped together.
+/// An event, or names that a domain drops together.
 #[derive(Clone, Debug)]
 pub enum Request {
     Single(Event),
-    Group(Vec<u32>),
+    Group(u32, Vec<u32>),
 }
 
 /// Requests made one after the other on what the last left, most of them allowed.
@@ -567,38 +600,63 @@ pub fn requests(
     let mut requests = Vec::with_capacity(count);
     for _ in 0..count {
         let request = match random.one_in(3) {
-            true => Request::Group(likely_group(random, &lent)),
+            true => likely_group(random, &lent),
             false => Request::Single(events(random, lent.clone(), 1, spelling)[0]),
         };
-        let _ = match &request {
-            Request::Single(event) => agree::oracle_apply(&mut lent, *event),
-            Request::Group(names) => agree::oracle_drop_all(&mut lent, names),
-        };
+        let _ = oracle_answer(&mut lent, &request);
         requests.push(request);
     }
     requests
 }
 
-fn likely_group(random: &mut Random, lent: &Lent) -> Vec<u32> {
-    if random.one_in(12) {
-        return bad_group(random, lent);
+/// The answer to a request by the oracle alone.
+pub fn oracle_answer(lent: &mut Lent, request: &Request) -> Result<u32, oracle::Refused> {
+    oracle_answer_by(None, lent, request)
+}
+
+/// The same by a sheet.
+pub fn oracle_answer_by(
+    by: agree::By,
+    lent: &mut Lent,
+    request: &Request,
+) -> Result<u32, oracle::Refused> {
+    match request {
+        Request::Single(event) => agree::oracle_apply_by(by, lent, *event),
+        Request::Group(actor, names) => agree::oracle_drop_all(lent, *actor, names),
     }
-    let mut names = group(random, lent);
+}
+
+/// Names with a domain that drops them, all or most of which it holds in most cases.
+pub fn with_dropper(random: &mut Random, lent: &Lent, names: Vec<u32>) -> Request {
+    let live = oracle::live_rows(&lent.rows);
+    Request::Group(dropper(random, live, &names), names)
+}
+
+fn likely_group(random: &mut Random, lent: &Lent) -> Request {
+    if random.one_in(12) {
+        let names = bad_group(random, lent);
+        return with_dropper(random, lent, names);
+    }
+    let next = |random: &mut Random| {
+        let names = group(random, lent);
+        with_dropper(random, lent, names)
+    };
+    let mut request = next(random);
     let mut tries = random.below(4);
-    while tries > 0 && agree::oracle_drop_all(&mut lent.clone(), &names).is_err() {
-        names = group(random, lent);
+    while tries > 0 && oracle_answer(&mut lent.clone(), &request).is_err() {
+        request = next(random);
         tries -= 1;
     }
-    names
+    request
 }
 
 /// The text of the requests, with lines also for names that are no group.
 pub fn requests_text(requests: &[Request], spelling: Spelling) -> Vec<u8> {
     let line = |request: &Request| match request {
         Request::Single(event) => line(*event, spelling).unwrap_or_default(),
-        Request::Group(names) => {
+        Request::Group(actor, names) => {
             let words: String = names.iter().map(|name| format!(" {name}")).collect();
-            format!("(drop{words})\n")
+            form_of(*actor, format!("(drop{words})"))
         }
     };
     let lines: String = requests.iter().map(line).collect();
@@ -615,7 +673,7 @@ fn header(spelling: Spelling) -> &'static [u8] {
 
 /// The event's line, if it has one.
 pub fn line(event: Event, spelling: Spelling) -> Option<String> {
-    oracle::event_line(oracle_event(event), spelling)
+    oracle::event_line(oracle_act(event), spelling)
 }
 
 /// The lines of the events that have a spelling of this sort.
@@ -630,10 +688,15 @@ pub fn trace(events: &[Event], spelling: Spelling) -> Vec<u8> {
 }
 
 /// Bytes that mean something somewhere in a text, and some that mean nothing.
-const BYTES: &[u8] = b"0123456789abcdefhloprstuw ()\n\t\r-+.,\0\x7f\x80\xffRWA";
+const BYTES: &[u8] = b"0123456789abcdefhloprstuw ()\n\t\r-+.,\0\x7f\x80\xffRWAF";
 
-/// Words that are kinds or marks somewhere, and some that are none anywhere.
-const WORDS: [&[u8]; 8] = [
+/// Words that are kinds, marks, masks or domains somewhere, and some that are none anywhere.
+const WORDS: [&[u8]; 13] = [
+    b" 0000000000000001",
+    b" 0000000000000003",
+    b" ffffffffffffffff",
+    b" 0",
+    b"(as 3 ",
     b" raw",
     b" cell",
     b" raw",
@@ -709,7 +772,8 @@ fn put_forms(text: &mut String, rows: &[Row], names: &[u32], parents: &[u32], pa
             length,
             ..
         } = row;
-        *text += &format!("{opening}{name} {start} {length} {right}{kind}{mark}");
+        let domains = acting::listed(row);
+        *text += &format!("{opening}{name} {start} {length} {right}{kind}{mark}{domains}");
         put_forms(text, rows, names, parents, names[at]);
         *text += if parent == 0 { ")\n" } else { ")" };
     }

@@ -1,12 +1,14 @@
 //! Lines of names that are dropped together, written, read, and in both spellings of traces.
 
 use interface::{DROP_ALL, Words};
+use oracle::random::Random;
+use oracle::traces::whole;
 use oracle::{HEADER, MAX_GROUP, MAX_INPUT, MAX_ROWS, Spelling, Tally};
 
+use crate::acting::any_actor;
 use crate::agree::{self, Agreed, Lent, Subject, packed, packed_run, same, same_answer};
 use crate::generate::{self, Request, Shape};
 use crate::lines::{NUMBERS, check_text, each_byte};
-use crate::random::Random;
 use crate::report::{Checked, Report, check_few};
 use crate::spellings::{rightly_named, same_verdicts, with_header};
 
@@ -67,7 +69,8 @@ const FRAME: [Step; 5] = [
 
 const ALL: &str = "(issued 5)\n(1 0 8 rw)\n(2 8 8 rw (4 8 4 rw (5 8 2 ro)))\n(3 16 8 rw)\n";
 
-/// Card 5: rows, lines after those of `FRAME`, and the listing after them.
+/// Card 5: rows, lines after those of `FRAME`, and the listing after them, in which each row is of domain 0
+/// alone.
 const EXAMPLES: [(&str, usize, &[Step], &str); 11] = [
     (
         "roots, with subtrees",
@@ -177,7 +180,7 @@ fn example(subject: Subject, rows: usize, steps: &[Step], listing: &str) -> Chec
         }
     }
     let printed = oracle::listing(&lent.rows, lent.tally.issued);
-    same("listing", listing, printed.as_str())?;
+    same("listing", whole(listing), printed)?;
     Ok(steps.len() as u64)
 }
 
@@ -215,10 +218,10 @@ fn as_call(
     let mut lent = before.clone();
     same_answer(
         packed(expected),
-        agree::drop_all(subject, &mut lent, names)?,
+        agree::drop_all(subject, &mut lent, 0, names)?,
     )?;
     same("what is lent", after, &lent)?;
-    agree::write_drop(subject, names)
+    agree::write_drop(subject, 0, names)
 }
 
 /// However many are dropped, one drop is counted; however many are refused, one refusal.
@@ -227,7 +230,7 @@ fn counted_once(subject: Subject) -> Checked {
     let lines: String = FRAME.iter().map(|(line, _)| format!("{line}\n")).collect();
     agree::run(subject, &mut lent, lines.as_bytes())?;
     for names in [&[1, 4][..], &[1, 4], &[2, 7, 8], &[], &[3, 2], &[2, 3]] {
-        agree::drop_all(subject, &mut lent, names)?;
+        agree::drop_all(subject, &mut lent, 0, names)?;
     }
     let expected = Tally {
         issued: 5,
@@ -240,7 +243,7 @@ fn counted_once(subject: Subject) -> Checked {
     same("tally", expected, lent.tally)?;
     lent.tally.drops = u32::MAX;
     lent.tally.refused = u32::MAX;
-    agree::drop_all(subject, &mut lent, &[0, 1])?;
+    agree::drop_all(subject, &mut lent, 0, &[0, 1])?;
     agree::run(
         subject,
         &mut lent,
@@ -259,16 +262,20 @@ fn misgrouped(subject: Subject) -> Checked {
     disordered.rows.swap(0, 1);
     let too_many: Vec<u32> = (1..=65).collect();
     for names in [&[][..], &[1, 1], &[2, 1], &[9, 0], &[1, 2, 2], &too_many] {
-        let call = |lent: &Lent| agree::drop_all(subject, &mut lent.clone(), names);
-        same_answer(13 << 32, call(&lent)?)?;
-        same_answer(1 << 32, call(&disordered)?)?;
-        for size in [0, 8, 800] {
-            let mut out = vec![b'?'; size];
-            same_answer(13 << 32, subject.write_drop(names, &mut out))?;
-            same("buffer", vec![b'?'; size], out)?;
+        // 13 stands before 2, which is given to what is no domain.
+        for actor in [0, 63, 64] {
+            let call = |lent: &Lent| agree::drop_all(subject, &mut lent.clone(), actor, names);
+            same_answer(13 << 32, call(&lent)?)?;
+            same_answer(1 << 32, call(&disordered)?)?;
+            let words = agree::dropped(actor, names);
+            for size in [0, 8, 800] {
+                let mut out = vec![b'?'; size];
+                same_answer(13 << 32, subject.write_words(&words, names, &mut out))?;
+                same("buffer", vec![b'?'; size], out)?;
+            }
         }
     }
-    Ok(30)
+    Ok(90)
 }
 
 /// Names of any numbers that rise strictly.
@@ -294,7 +301,9 @@ fn written(random: &mut Random, subject: Subject) -> Checked {
             true => generate::bad_group(random, &Lent::empty(0)),
             false => any_group(random),
         };
-        agree::write_drop(subject, &names).map_err(|why| format!("{why}\n  {names:?}"))?;
+        let actor = any_actor(random);
+        agree::write_drop(subject, actor, &names)
+            .map_err(|why| format!("{why}\n  {actor}, {names:?}"))?;
     }
     Ok(lists)
 }
@@ -307,7 +316,8 @@ fn read(random: &mut Random, subject: Subject, damages: usize) -> Checked {
             true => generate::bad_group(random, &Lent::empty(0)),
             false => any_group(random),
         };
-        let mut line = generate::requests_text(&[Request::Group(names)], Spelling::Plain);
+        let request = Request::Group(any_actor(random), names);
+        let mut line = generate::requests_text(&[request], Spelling::Plain);
         for _ in 0..damages.min(random.between(1, 2)) {
             generate::damage(random, &mut line);
         }
@@ -344,8 +354,8 @@ fn limits(subject: Subject) -> Checked {
     for count in [1_u32, 2, 62, 63, 64, 65, 66, 127, 128, 129, 5_000] {
         for first in [0, 1, 2, 7, u32::MAX - count + 1] {
             let names: Vec<u32> = (first..=u32::MAX).take(count as usize).collect();
-            agree::write_drop(subject, &names)?;
-            let line = generate::requests_text(&[Request::Group(names)], Spelling::Plain);
+            agree::write_drop(subject, 0, &names)?;
+            let line = generate::requests_text(&[Request::Group(0, names)], Spelling::Plain);
             agree::read_both(subject, &line)?;
             let text = [creates.as_bytes(), &line].concat();
             agree::run(subject, &mut Lent::empty(MAX_ROWS), &text)?;
@@ -354,12 +364,18 @@ fn limits(subject: Subject) -> Checked {
         }
     }
     let longest: Vec<u32> = (u32::MAX - 63..=u32::MAX).collect();
-    let mut out = [0; 711];
-    same_answer(711, subject.write_drop(&longest, &mut out))?;
-    let mut words = Words::default();
-    let answer = subject.read_line(0, &out, &mut words, &mut [0; MAX_GROUP]);
-    same_answer(0, answer)?;
-    same("words", Words::drop_all(0, 64), words)?;
+    for (actor, length) in [(0, 711), (9, 718), (63, 719)] {
+        let dropped = agree::dropped(actor, &longest);
+        let mut out = vec![0; length];
+        same_answer(
+            length as u64,
+            subject.write_words(&dropped, &longest, &mut out),
+        )?;
+        let mut words = Words::default();
+        let answer = subject.read_line(0, &out, &mut words, &mut [0; MAX_GROUP]);
+        same_answer(0, answer)?;
+        same("words", dropped, words)?;
+    }
     for length in [MAX_INPUT, MAX_INPUT + 1] {
         for filling in [" 1", " ", "1", "0"] {
             let mut text = format!("(drop 1{}", filling.repeat(MAX_INPUT)).into_bytes();
@@ -400,8 +416,8 @@ fn rightly_named_requests(lent: &Lent, requests: &[Request]) -> Vec<Request> {
             let _ = agree::oracle_apply(&mut lent, *event);
             Request::Single(named)
         }
-        Request::Group(names) => {
-            let _ = agree::oracle_drop_all(&mut lent, names);
+        Request::Group(actor, names) => {
+            let _ = agree::oracle_drop_all(&mut lent, *actor, names);
             request.clone()
         }
     };

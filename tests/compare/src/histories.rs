@@ -3,13 +3,14 @@
 use std::collections::BTreeSet;
 
 use interface::Event;
-use oracle::{History, MAX_ROWS, Span, Spelling};
+use oracle::random::Random;
+use oracle::{Act, History, MAX_ROWS, Span, Spelling};
 
+use crate::acting;
 use crate::agree::{
-    self, Agreed, By, Lent, Subject, oracle_event, packed, same, same_answer, span_of,
+    self, Agreed, By, Lent, Subject, oracle_act, packed, same, same_answer, span_of,
 };
 use crate::generate::{self, Request};
-use crate::random::Random;
 use crate::report::{Checked, Met, MetAnswers, Report, check_few};
 use crate::sheets;
 use crate::together;
@@ -130,7 +131,17 @@ pub fn check_list(subject: Subject, lent: &Lent, requests: &[Request]) -> Agreed
 
 /// The same by a sheet.
 pub fn check_list_by(subject: Subject, by: By, lent: &Lent, requests: &[Request]) -> Agreed {
-    let check = |requests: &[Request]| follow(subject, by, lent.clone(), requests);
+    let limited = |request: &Request| (lent.limits.clone(), request.clone());
+    let requests: Vec<Limited> = requests.iter().map(limited).collect();
+    check_limited(subject, by, lent, &requests)
+}
+
+/// A request, and the limits that are lent with it.
+pub type Limited = (Vec<u32>, Request);
+
+/// The same with limits that may change from request to request.
+pub fn check_limited(subject: Subject, by: By, lent: &Lent, requests: &[Limited]) -> Agreed {
+    let check = |requests: &[Limited]| follow(subject, by, lent.clone(), requests);
     check_few(requests, check).map_err(|(why, requests)| {
         let rows = lent.rows.len();
         let tally = lent.tally;
@@ -138,7 +149,7 @@ pub fn check_list_by(subject: Subject, by: By, lent: &Lent, requests: &[Request]
     })
 }
 
-fn follow(subject: Subject, by: By, mut lent: Lent, requests: &[Request]) -> Agreed {
+fn follow(subject: Subject, by: By, mut lent: Lent, requests: &[Limited]) -> Agreed {
     let rows = lent.rows.len();
     let mut history = match by {
         None => History::new(rows),
@@ -146,27 +157,18 @@ fn follow(subject: Subject, by: By, mut lent: Lent, requests: &[Request]) -> Agr
     };
     let mut lost = Lost::default();
     let mut spans = Vec::new();
-    for request in requests {
-        let (expected, answer) = match request {
-            Request::Single(event) => {
-                spans.push(span_of(*event));
-                let expected = history.answer(oracle_event(*event));
-                (expected, agree::apply_by(subject, by, &mut lent, *event)?)
-            }
-            Request::Group(names) => {
-                let expected = answer_all(&mut history, names)?;
-                let answer = match by {
-                    None => together::drop_all(subject, &mut lent, names)?,
-                    Some(_) => agree::drop_all_by(subject, by, &mut lent, names)?,
-                };
-                (expected, answer)
-            }
-        };
+    for (limits, request) in requests {
+        lent.limits.clone_from(limits);
+        if let Request::Single(event) = request {
+            spans.push(span_of(*event));
+        }
+        let expected = answer(&mut history, limits, request)?;
+        let found = ask(subject, by, &mut lent, request)?;
         match by {
             None => MET.count_answer(expected),
             Some(_) => sheets::ANSWERS_MET.count_answer(expected),
         }
-        same_answer(packed(expected), answer).map_err(|why| format!("history: {why}"))?;
+        same_answer(packed(expected), found).map_err(|why| format!("history: {why}"))?;
         if history.table() != lent.rows || history.count() != lent.tally.issued {
             return Err(format!("history: another table, {:?}", history.table()));
         }
@@ -183,14 +185,41 @@ fn follow(subject: Subject, by: By, mut lent: Lent, requests: &[Request]) -> Agr
     demand_three(subject, by, &lent, &history, spans)
 }
 
+/// A request on what is lent.
+fn ask(subject: Subject, by: By, lent: &mut Lent, request: &Request) -> Result<u64, String> {
+    match (request, by) {
+        (Request::Single(event), _) => agree::apply_by(subject, by, lent, *event),
+        (Request::Group(actor, names), None) => together::drop_all(subject, lent, *actor, names),
+        (Request::Group(actor, names), _) => agree::drop_all_by(subject, by, lent, *actor, names),
+    }
+}
+
+/// The history's answer.
+fn answer(
+    history: &mut History,
+    limits: &[u32],
+    request: &Request,
+) -> Result<Result<u32, u8>, String> {
+    match request {
+        Request::Single(event) => Ok(history.answer(limits, oracle_act(*event))),
+        Request::Group(actor, names) => answer_all(history, limits, *actor, names),
+    }
+}
+
 /// The history's answer to a group. Where that is allowed so are single drops in falling order, and
 /// they leave the same notes.
-fn answer_all(history: &mut History, names: &[u32]) -> Result<Result<u32, u8>, String> {
+fn answer_all(
+    history: &mut History,
+    limits: &[u32],
+    actor: u32,
+    names: &[u32],
+) -> Result<Result<u32, u8>, String> {
     let mut singly = history.clone();
-    let expected = history.answer_all(names);
+    let expected = history.answer_all(limits, actor, names);
     if expected.is_ok() {
         for name in names.iter().rev() {
-            let answer = singly.answer(oracle::Event::Drop { name: *name });
+            let event = oracle::Event::Drop { name: *name };
+            let answer = singly.answer(limits, Act { actor, event });
             same("history, singly", Ok(0), answer)?;
         }
     }
@@ -236,25 +265,43 @@ fn demand_three(
 ) -> Agreed {
     for span in spans {
         for name in 0..=history.count() + 1 {
-            let may_read = history.may_read(name, span);
-            let may_write = history.may_write(name, span);
-            for (kind, expected) in [(3, may_read), (4, may_write)] {
-                let event = Event {
-                    kind,
-                    written: None,
-                    name,
-                    start: span.start,
-                    length: span.length,
-                    right: 0,
-                    cap_kind: u8::MAX,
-                    fresh: u8::MAX,
-                };
-                let answer = agree::apply_by(subject, by, &mut lent.clone(), event)?;
-                if (answer >> 32 == 0) != expected {
-                    return Err(format!("demand 3 on {event:?}: allowed is {expected}"));
+            for actor in users(lent, name) {
+                let may_read = history.may_read(&lent.limits, actor, name, span);
+                let may_write = history.may_write(&lent.limits, actor, name, span);
+                for (kind, expected) in [(3, may_read), (4, may_write)] {
+                    let event = used(kind, name, span, actor);
+                    let answer = agree::apply_by(subject, by, &mut lent.clone(), event)?;
+                    if (answer >> 32 == 0) != expected {
+                        return Err(format!("demand 3 on {event:?}: allowed is {expected}"));
+                    }
                 }
             }
         }
     }
     Ok(())
+}
+
+/// Who uses a name: the last of its holders and its maker, and one that may be none of them.
+fn users(lent: &Lent, name: u32) -> BTreeSet<u32> {
+    let row = lent.rows.iter().find(|row| row.name == name && name != 0);
+    let last = row.and_then(|row| oracle::holders_of(row.holders).pop_last());
+    let maker = row.map(|row| row.maker);
+    let all = [last, maker, Some(name % 3)];
+    all.into_iter().flatten().collect()
+}
+
+/// A read or write, with anything in what it lacks.
+fn used(kind: u8, name: u32, span: Span, actor: u32) -> Event {
+    Event {
+        kind,
+        written: None,
+        name,
+        start: span.start,
+        length: span.length,
+        right: 0,
+        cap_kind: u8::MAX,
+        fresh: u8::MAX,
+        actor,
+        holders: acting::mask_of(name % 64),
+    }
 }

@@ -2,6 +2,7 @@
 //! lines and listings.
 
 use interface::{Event, Words};
+use oracle::traces::whole;
 use oracle::{CELL, MAX_ROWS, RAW, REFERENCE, Row};
 
 use crate::agree::{self, Agreed, Lent, Subject, same, same_answer};
@@ -26,7 +27,7 @@ pub const INPUT: &str = "\
 pub const OUTPUT: &str = "\
 (refused 5 7)
 (issued 3)
-(1 0 64 rw (2 0 8 rw raw))
+(1 0 64 rw 0 0000000000000001 (2 0 8 rw raw 0 0000000000000001))
 ";
 
 pub fn groups(report: &mut Report, subject: Subject) {
@@ -84,6 +85,7 @@ fn event(kind: u8, name: u32) -> Event {
         name,
         length: LENGTH,
         right: 2,
+        holders: 1,
         ..Event::default()
     }
 }
@@ -210,7 +212,7 @@ fn every_call(subject: Subject, lent: &Lent) -> Checked {
     for kind in 1..=5 {
         agree::apply(subject, &mut lent.clone(), event(kind, 2))?;
     }
-    agree::drop_all(subject, &mut lent.clone(), &[2, 3])?;
+    agree::drop_all(subject, &mut lent.clone(), 0, &[2, 3])?;
     agree::run(subject, &mut lent.clone(), b"(write 2 0 8)\n")?;
     agree::write_listing(subject, lent)?;
     Ok(8)
@@ -231,6 +233,7 @@ fn in_words(subject: Subject) -> Checked {
                     named,
                     written: 3,
                     cap_kind,
+                    holders_low: 1,
                     ..Words::default()
                 };
                 check_words(subject, &lent, &words, &[2])?;
@@ -311,16 +314,17 @@ fn in_lines(subject: Subject) -> Checked {
 }
 
 /// Every word in every place.
-fn in_places(texts: &[&str], check: impl Fn(&[u8]) -> Agreed) -> Checked {
+fn in_places(texts: &[impl AsRef<str>], check: impl Fn(&[u8]) -> Agreed) -> Checked {
     for text in texts {
         for word in WORDS {
-            check_text(text.replace("{}", word).as_bytes(), &check)?;
+            check_text(text.as_ref().replace("{}", word).as_bytes(), &check)?;
         }
     }
     Ok((texts.len() * WORDS.len()) as u64)
 }
 
-/// The same for listings. In the last ones every place has the same word.
+/// The same for listings, in which each row is of domain 0 alone. In the last ones every place has the same
+/// word.
 const LISTINGS: [&str; 16] = [
     "(issued 2)\n(1 0 64 rw (2 0 8 rw{}))\n",
     "(issued 2)\n(1 0 64 rw (2 0 8 ro{}))\n",
@@ -341,18 +345,19 @@ const LISTINGS: [&str; 16] = [
 ];
 
 fn in_listings(subject: Subject) -> Checked {
-    in_places(&LISTINGS, |text| {
+    in_places(&LISTINGS.map(whole), |text| {
         agree::read_listing(subject, text, &Lent::empty(3))?;
         agree::read_listing(subject, text, &Lent::empty(1))
     })
 }
 
 /// The lengths that the C header gives for buffers that are always long enough.
-const LONGEST_LINE: usize = 50;
-const LONGEST_NAMED_LINE: usize = 61;
-const LONGEST_LISTING: usize = 39_949;
+const LONGEST_LINE: usize = 75;
+const LONGEST_NAMED_LINE: usize = 86;
+const LONGEST_LISTING: usize = 60_429;
 
-/// A borrow of the longest numbers, and a table of the longest: one root, and cells below it.
+/// A borrow of the longest numbers and for all domains, and a table of the longest: one root, and cells below
+/// it.
 fn longest(subject: Subject) -> Checked {
     let borrow = Event {
         kind: 2,
@@ -363,6 +368,8 @@ fn longest(subject: Subject) -> Checked {
         right: 2,
         cap_kind: CELL as u8,
         fresh: 0,
+        actor: 63,
+        holders: u64::MAX,
     };
     let written = Some(u32::MAX);
     let lines = [
@@ -376,7 +383,7 @@ fn longest(subject: Subject) -> Checked {
         let spelling = agree::spelling_of(event);
         agree::read_line(subject, &line, spelling)?;
         let read = oracle::read_event_line(&line, spelling);
-        same("event", Some(agree::oracle_event(event)), read)?;
+        same("event", Some(agree::oracle_act(event)), read)?;
     }
     let lent = longest_table();
     let text = oracle::listing(&lent.rows, lent.tally.issued);
@@ -398,6 +405,8 @@ fn longest_table() -> Lent {
         depth: if name == first { 1 } else { 2 },
         kind: if name == first { REFERENCE } else { CELL },
         fresh: 0,
+        maker: 63,
+        holders: u64::MAX,
     };
     let mut lent = Lent::empty(0);
     lent.rows = (first..=last).map(row).collect();

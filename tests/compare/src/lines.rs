@@ -2,10 +2,11 @@
 
 use interface::Event;
 use oracle::Spelling;
+use oracle::random::Random;
 
+use crate::acting;
 use crate::agree::{self, Agreed, Subject};
 use crate::generate;
-use crate::random::Random;
 use crate::report::{Checked, Report, check_few};
 
 /// One line of each kind and some that are nearly lines.
@@ -118,13 +119,15 @@ fn random_event(random: &mut Random, spelling: Spelling) -> Event {
     };
     let cap_kind = generate::cap_kind(random, kind);
     let fresh = generate::mark(random, kind);
+    let actor = acting::any_actor(random);
+    let holders = acting::holders_asked(random, &[], actor, kind);
     Event {
         kind,
         name: random.number(),
         start: random.number(),
         length: random.number(),
         right: match random.one_in(20) {
-            true => random.next() as u8,
+            true => random.bits() as u8,
             false => random.between(1, 2) as u8,
         },
         written: match spelling {
@@ -133,6 +136,8 @@ fn random_event(random: &mut Random, spelling: Spelling) -> Event {
         },
         cap_kind,
         fresh,
+        actor,
+        holders,
     }
 }
 
@@ -146,7 +151,7 @@ fn written(random: &mut Random, subject: Subject, spelling: Spelling) -> Checked
 }
 
 /// The lines of a few random events, at least one of which has a spelling.
-fn random_lines(random: &mut Random, most: usize, spelling: Spelling) -> Vec<u8> {
+pub fn random_lines(random: &mut Random, most: usize, spelling: Spelling) -> Vec<u8> {
     let count = random.between(1, most);
     let events = (0..count).map(|_| random_event(random, spelling));
     let mut events: Vec<Event> = events.collect();
@@ -187,14 +192,14 @@ fn damaged(random: &mut Random, subject: Subject, spelling: Spelling) -> Checked
 
 /// Each text with each byte left out, each byte changed to every other, and every byte put in at
 /// each place.
-pub fn each_byte(texts: &[&str], check: impl Fn(&[u8]) -> Agreed) -> Checked {
+pub fn each_byte(texts: &[impl AsRef<str>], check: impl Fn(&[u8]) -> Agreed) -> Checked {
     let mut cases = 0;
     let mut one = |text: Vec<u8>| {
         cases += 1;
         check_text(&text, &check)
     };
     for text in texts {
-        let text = text.as_bytes();
+        let text = text.as_ref().as_bytes();
         for at in 0..=text.len() {
             for byte in 0..=u8::MAX {
                 one([&text[..at], &[byte], &text[at..]].concat())?;

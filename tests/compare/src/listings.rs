@@ -1,13 +1,15 @@
 //! Listings, written and read.
 
+use oracle::random::Random;
+use oracle::traces::{OF_DOMAIN_0, whole};
 use oracle::{MAX_DEPTH, MAX_NAME, MAX_ROWS};
 
 use crate::agree::{self, Agreed, Lent, Subject};
 use crate::generate::{self, Shape};
 use crate::lines::{check_text, each_byte};
-use crate::random::Random;
 use crate::report::{Checked, Report};
 
+/// Listings in which each row is of domain 0 alone.
 const SAMPLES: [&str; 7] = [
     "(issued 0)\n",
     "(issued 3)\n(1 0 64 rw (2 0 16 ro) (3 16 16 rw))\n",
@@ -30,7 +32,7 @@ pub fn groups(report: &mut Report, subject: Subject) {
         other_values(random, subject)
     });
     report.group("every change of one byte of a listing", |_| {
-        each_byte(&SAMPLES, |text| {
+        each_byte(&SAMPLES.map(whole), |text| {
             agree::read_listing(subject, text, &Lent::empty(4))
         })
     });
@@ -100,6 +102,7 @@ fn lent_for(random: &mut Random, listed: &Lent) -> Lent {
         rows: vec![old_row; rows],
         bits,
         tally,
+        limits: listed.limits.clone(),
     }
 }
 
@@ -150,7 +153,7 @@ fn tall_or_wide(count: usize, deep: bool) -> Vec<u8> {
     for name in 1..=count {
         let opening = if deep && name > 1 { " " } else { "" };
         let closing = if deep { "" } else { ")\n" };
-        text += &format!("{opening}({name} 0 8 rw{closing}");
+        text += &format!("{opening}({name} 0 8 rw{OF_DOMAIN_0}{closing}");
     }
     if deep {
         text += &(")".repeat(count) + "\n");
@@ -182,11 +185,11 @@ fn limits(subject: Subject) -> Checked {
     for issued in MAX_NAME - 1..=MAX_NAME + 1 {
         one(format!("(issued {issued})\n").as_bytes(), 1)?;
         one(
-            format!("(issued {issued})\n({issued} 0 8 rw)\n").as_bytes(),
+            whole(&format!("(issued {issued})\n({issued} 0 8 rw)\n")).as_bytes(),
             1,
         )?;
         one(
-            format!("(issued {issued})\n(1000000 0 8 rw)\n").as_bytes(),
+            whole(&format!("(issued {issued})\n(1000000 0 8 rw)\n")).as_bytes(),
             0,
         )?;
     }

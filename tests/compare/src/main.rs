@@ -4,7 +4,12 @@
 //! built with `KELZOUD_LIB` set, else the baseline. With WORD only the groups that have it in their
 //! names are run. The exit status is 0 when every group passed.
 
+mod acting;
 mod agree;
+mod charges;
+mod domain_runs;
+mod domain_texts;
+mod domains;
 mod edges;
 mod events;
 mod examples;
@@ -12,10 +17,10 @@ mod generate;
 mod grouped_text;
 mod histories;
 mod kinds;
+mod limits;
 mod lines;
 mod listings;
 mod many;
-mod random;
 mod report;
 mod runs;
 mod sheet_texts;
@@ -92,6 +97,12 @@ fn main() -> ExitCode {
     sheet_texts::groups(&mut report, subject);
     thinned::groups(&mut report, subject);
     written::groups(&mut report, subject);
+    domains::groups(&mut report, subject);
+    limits::groups(&mut report, subject);
+    domain_texts::groups(&mut report, subject);
+    domain_runs::groups(&mut report, subject);
+    charges::groups(&mut report, subject);
+    domains::met(&mut report);
     report.met("every answer of an event was met", agree::every_answer_met);
     report.met(
         "every answer of the history was met",

@@ -2,13 +2,13 @@
 //! names in a list.
 
 use interface::{AnswerWords, DROP_ALL, Words};
+use oracle::random::Random;
 use oracle::{MAX_GROUP, MAX_ROWS, Spelling};
 
 use crate::agree::{self, Agreed, Asked, Lent, Subject, asked};
 use crate::events::{TABLES, Tables, chain};
 use crate::generate::{self, Request, Shape};
 use crate::lines::check_text;
-use crate::random::Random;
 use crate::report::{Checked, Met, Report, check_few};
 
 pub fn groups(report: &mut Report, subject: Subject) {
@@ -228,7 +228,7 @@ fn words_of_event(random: &mut Random, event: interface::Event) -> Words {
     if words.kind != 1 && random.one_in(2) {
         words.fresh = random.number();
     }
-    match random.below(60) {
+    match random.below(64) {
         0 | 1 => words.kind = random.pick(&KINDS),
         2 => words.kind |= 1 << random.between(8, 31),
         3 | 4 => words.right = random.pick(&RIGHTS),
@@ -238,6 +238,10 @@ fn words_of_event(random: &mut Random, event: interface::Event) -> Words {
         12 => words.cap_kind |= 1 << random.between(8, 31),
         13 | 14 => words.fresh = random.pick(&generate::NO_MARKS),
         15 | 16 => words.fresh |= 1 << random.between(8, 31),
+        17 => words.actor |= 1 << random.between(6, 31),
+        18 => words.holders_low ^= 1 << random.below(32),
+        19 => words.holders_high ^= 1 << random.below(32),
+        20 => (words.holders_low, words.holders_high) = (words.holders_high, words.holders_low),
         _ => {}
     }
     words
@@ -264,6 +268,8 @@ fn place(random: &mut Random, list: &mut Vec<u32>, names: &[u32]) -> Words {
         written: random.number(),
         cap_kind: random.number(),
         fresh: random.number(),
+        holders_low: random.number(),
+        holders_high: random.number(),
         ..Words::drop_all(start as u32, names.len() as u32)
     }
 }
@@ -307,7 +313,10 @@ fn many(random: &mut Random, lent: &Lent, count: usize) -> Many {
                 let written = event.written.filter(|_| !random.one_in(5));
                 words_of_event(random, interface::Event { written, ..event })
             }
-            Request::Group(group) => place(random, &mut names, &group),
+            Request::Group(actor, group) => Words {
+                actor,
+                ..place(random, &mut names, &group)
+            },
         });
     }
     for _ in 0..random.below(3) {
@@ -472,6 +481,7 @@ fn edges(subject: Subject) -> Checked {
                         right,
                         named,
                         written,
+                        holders_low: 1,
                         ..Words::default()
                     };
                     check_words(subject, &lent, &words, &[1, 2])?;
@@ -509,13 +519,13 @@ fn written(random: &mut Random, subject: Subject) -> Checked {
 /// The line of words, if they have one.
 fn line_of(words: &Words, names: &[u32]) -> Option<String> {
     match asked(words, names) {
-        Asked::Names(names) => oracle::drop_line(names),
-        Asked::Event(event) => {
+        Asked::Names(actor, names) => oracle::drop_line(actor, names),
+        Asked::Act(act) => {
             let spelling = match words.named {
                 0 => Spelling::Plain,
                 _ => Spelling::Named,
             };
-            oracle::event_line(event, spelling)
+            oracle::event_line(act, spelling)
         }
     }
 }

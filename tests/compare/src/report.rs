@@ -4,8 +4,7 @@ use std::array;
 use std::sync::atomic::{AtomicU64, Ordering};
 
 use oracle::Refused;
-
-use crate::random::Random;
+use oracle::random::Random;
 
 /// How many cases a group went through, or what failed.
 pub type Checked = Result<u64, String>;
@@ -88,7 +87,7 @@ impl<const SORTS: usize> Met<SORTS> {
         }
     }
 
-    fn counts(&self) -> [u64; SORTS] {
+    pub fn counts(&self) -> [u64; SORTS] {
         self.0.each_ref().map(|met| met.load(Ordering::Relaxed))
     }
 
@@ -106,7 +105,7 @@ impl<const SORTS: usize> Met<SORTS> {
 }
 
 /// How often requests were allowed, and refused by each number.
-pub type MetAnswers = Met<17>;
+pub type MetAnswers = Met<19>;
 
 impl MetAnswers {
     pub fn count_answer(&self, answer: Result<u32, Refused>) {
@@ -120,7 +119,7 @@ impl MetAnswers {
         let as_due = |number: usize| (met[number] > 0) != never.contains(&number);
         match (0..met.len()).all(as_due) {
             true => Ok(met.iter().sum()),
-            false => Err(format!("allowed and refusals 1 to 16: {met:?}")),
+            false => Err(format!("allowed and refusals 1 to 18: {met:?}")),
         }
     }
 }

@@ -1,11 +1,11 @@
 //! Runs of lines, and what `capcheck` prints.
 
+use oracle::random::Random;
 use oracle::{HEADER, MAX_INPUT, MAX_ROWS, Spelling};
 
 use crate::agree::{self, Agreed, Lent, Subject};
 use crate::generate::{self, Shape};
 use crate::lines::check_text;
-use crate::random::Random;
 use crate::report::{Checked, Report};
 
 /// Runs of one sort: their name, that of their texts, their spelling, and how a text is made.

@@ -1,12 +1,12 @@
 //! Card 7: texts of conflict sheets, in many spellings and damaged, and the text that is written.
 
 use interface::SHEET_PLACES;
+use oracle::random::Random;
 use oracle::{Refused, Sheet};
 
 use crate::agree::{self, Agreed, Subject, same, same_answer};
 use crate::generate;
 use crate::lines::{check_text, each_byte};
-use crate::random::Random;
 use crate::report::{Checked, Met, Report};
 
 pub fn groups(report: &mut Report, subject: Subject) {
@@ -564,7 +564,7 @@ fn bytes(random: &mut Random) -> Vec<u8> {
     };
     let any = random.one_in(3);
     let byte = |_| match any {
-        true => random.next() as u8,
+        true => random.bits() as u8,
         false => random.below(4) as u8,
     };
     (0..count).map(byte).collect()

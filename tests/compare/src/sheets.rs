@@ -4,18 +4,19 @@
 use std::array;
 
 use interface::{Event, SHEET_PLACES, Words};
+use oracle::random::Random;
 use oracle::{
     CELL, Combination, MAX_ROWS, Outcome, RAW, REFERENCE, Refused, Row, Span, Spelling,
     combinations, traces,
 };
 
-use crate::agree::{self, Agreed, Lent, LentSheet, Subject, oracle_event, same};
+use crate::acting;
+use crate::agree::{self, Agreed, Lent, LentSheet, Subject, oracle_act, same};
 use crate::events::{TABLES, Tables};
 use crate::generate::{self, Request, Shape};
 use crate::histories::check_list_by;
 use crate::kinds::{self, Node, for_trees};
 use crate::lines::check_text;
-use crate::random::Random;
 use crate::report::{Checked, Met, MetAnswers, Report, check_few};
 
 /// How many sheets there are, each with a list of its own.
@@ -117,7 +118,7 @@ pub fn count(
         return;
     }
     let live = oracle::live_rows(&before.rows);
-    for (name, combination) in oracle::strikes(live, oracle_event(event)) {
+    for (name, combination) in oracle::strikes(live, oracle_act(event).event) {
         let outcome = by.sheet.outcome(combination);
         if let Some(row) = find(before, name)
             && shows(row, outcome, after)
@@ -214,10 +215,11 @@ pub fn area(random: &mut Random) -> Span {
 pub fn request(random: &mut Random, lent: &Lent, area: Span, spelling: Spelling) -> Request {
     let live = oracle::live_rows(&lent.rows);
     if random.one_in(24) {
-        return Request::Group(match random.one_in(4) {
+        let names = match random.one_in(4) {
             true => generate::bad_group(random, lent),
             false => generate::group(random, lent),
-        });
+        };
+        return generate::with_dropper(random, lent, names);
     }
     let user = live.get(random.index(live.len().max(1))).copied();
     let kind = match live.len() {
@@ -240,6 +242,7 @@ pub fn request(random: &mut Random, lent: &Lent, area: Span, spelling: Spelling)
         (_, true) => Some(generate::wrong_name(random, issued)),
         (_, false) => Some(issued.wrapping_add(1)),
     };
+    let actor = acting::actor(random, live, user.as_ref().filter(|_| kind != 1));
     let event = Event {
         kind,
         written,
@@ -249,6 +252,8 @@ pub fn request(random: &mut Random, lent: &Lent, area: Span, spelling: Spelling)
         right: if random.one_in(8) { 1 } else { 2 },
         cap_kind: random.pick(&[REFERENCE, REFERENCE, RAW, CELL]) as u8,
         fresh: random.pick(&[0, 0, 0, 1]),
+        actor,
+        holders: acting::holders_asked(random, live, actor, kind),
     };
     Request::Single(match random.one_in(16) {
         true => spoilt(random, event, issued),
@@ -291,10 +296,7 @@ fn spoilt(random: &mut Random, event: Event, issued: u32) -> Event {
 }
 
 fn oracle_answer(by: &LentSheet, lent: &mut Lent, request: &Request) -> Result<u32, Refused> {
-    match request {
-        Request::Single(event) => agree::oracle_apply_by(Some(by), lent, *event),
-        Request::Group(names) => agree::oracle_drop_all(lent, names),
-    }
+    generate::oracle_answer_by(Some(by), lent, request)
 }
 
 /// Requests made one after the other on what the last left by the sheet, most of them allowed.
@@ -407,10 +409,13 @@ pub fn words_of(requests: &[Request]) -> (Vec<Words>, Vec<u32>) {
     for request in requests {
         events.push(match request {
             Request::Single(event) => Words::from(*event),
-            Request::Group(group) => {
+            Request::Group(actor, group) => {
                 names.extend(group);
                 let start = names.len() - group.len();
-                Words::drop_all(start as u32, group.len() as u32)
+                Words {
+                    actor: *actor,
+                    ..Words::drop_all(start as u32, group.len() as u32)
+                }
             }
         });
     }
@@ -509,8 +514,8 @@ fn by_hand(subject: Subject, text: &str, steps: &[traces::Step], listing: &str) 
         }
         same(
             "listing",
-            listing,
-            &oracle::listing(&lent.rows, lent.tally.issued),
+            traces::whole(listing),
+            oracle::listing(&lent.rows, lent.tally.issued),
         )?;
         if rows < MAX_ROWS {
             check_list_by(subject, Some(&by), &Lent::empty(rows), &requests)?;
@@ -558,10 +563,7 @@ fn card_6_lists(random: &mut Random, subject: Subject) -> Checked {
 fn same_by_sentences(by: &LentSheet, lent: &Lent, requests: &[Request]) -> Agreed {
     let (mut one, mut other) = (lent.clone(), lent.clone());
     for request in requests {
-        let expected = match request {
-            Request::Single(event) => agree::oracle_apply(&mut one, *event),
-            Request::Group(names) => agree::oracle_drop_all(&mut one, names),
-        };
+        let expected = generate::oracle_answer(&mut one, request);
         same(
             "answer by the sheet",
             expected,

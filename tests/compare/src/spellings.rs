@@ -2,12 +2,13 @@
 //! refused, and the header is one only as the first line.
 
 use interface::Event;
+use oracle::random::Random;
+use oracle::traces::whole;
 use oracle::{HEADER, MAX_INPUT, MAX_ROWS, Spelling};
 
 use crate::agree::{self, Agreed, Lent, Subject, packed_run, same, same_answer};
 use crate::generate::{self, Shape};
 use crate::lines::{check_text, each_byte};
-use crate::random::Random;
 use crate::report::{Checked, Report, check_few};
 
 pub fn groups(report: &mut Report, subject: Subject) {
@@ -171,7 +172,7 @@ fn both_printed(random: &mut Random, subject: Subject, inputs: u64) -> Checked {
 /// What `capcheck` prints, after a comparison with the oracle.
 fn printed(subject: Subject, input: &[u8]) -> Result<String, String> {
     agree::check(subject, input)?;
-    let mut out = vec![0; 40_000];
+    let mut out = vec![0; 61_000];
     let length = subject.check(input, &mut out);
     out.truncate(length as usize);
     String::from_utf8(out).map_err(|why| why.to_string())
@@ -192,7 +193,7 @@ fn named_above(subject: Subject) -> Checked {
     let plain = format!("(create 0 1 rw)\n{reads}");
     let named = format!("(trace 2)\n(create 1 0 1 rw)\n{reads}");
     assert!(plain.len() <= MAX_INPUT && MAX_INPUT < named.len());
-    let allowed = "(allowed 5041)\n(issued 1)\n(1 0 1 rw)\n".to_string();
+    let allowed = whole("(allowed 5041)\n(issued 1)\n(1 0 1 rw)\n");
     same("plain", allowed, printed(subject, plain.as_bytes())?)?;
     let long = "(long)\n".to_string();
     same("named", long, printed(subject, named.as_bytes())?)?;

@@ -3,6 +3,7 @@
 use interface::Event;
 use oracle::{CELL, RAW, REFERENCE, Refused, Row};
 
+use crate::acting::is_known;
 use crate::agree::{Lent, span_of};
 use crate::report::{Met, Report};
 
@@ -70,7 +71,10 @@ pub fn count(before: &Lent, after: &Lent, event: Event, verdict: Result<u32, Ref
     match (verdict, event.kind) {
         (Ok(_), 1 | 3 | 4) => count_strikes(before, after, event),
         (Err(1), _) => count_disorder(before),
-        (Err(2), 2) => REFUSED_MET.count([matches!(event.right, 1 | 2), false, false, false]),
+        (Err(2), 2) => {
+            let is_kind_alone = matches!(event.right, 1 | 2) && is_known(event);
+            REFUSED_MET.count([is_kind_alone, false, false, false]);
+        }
         _ => {}
     }
 }

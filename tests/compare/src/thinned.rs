@@ -6,11 +6,11 @@ use std::fmt::{self, Display, Formatter};
 use std::slice;
 
 use interface::{AnswerWords, Cap, Event, SHEET_PLACES};
+use oracle::random::Random;
 use oracle::{READ_ONLY, READ_WRITE, Row, Span, Spelling, Tally};
 
 use crate::agree::{self, Agreed, By, Lent, LentSheet, Subject, same, same_answer};
 use crate::generate::{self, Request, Shape};
-use crate::random::Random;
 use crate::report::{Met, Report, check_few};
 use crate::sheets;
 use crate::strikes::path;
@@ -159,10 +159,11 @@ impl Start<'_> {
         same("what is printed", &expected[..], &out[..expected.len()])
     }
 
-    /// Whether `kz_check` begins on the same: no live row, nothing written, no name issued, and card 6's
-    /// sheet. It has all the rows that a list may need, and prints no other count.
+    /// Whether `kz_check` begins on the same: no live row, nothing written, no name issued, no limits, and card
+    /// 6's sheet. It has all the rows that a list may need, and prints no other count.
     fn is_checks_own(self) -> bool {
         self.by.is_none()
+            && self.lent.limits.is_empty()
             && self.lent.tally.issued == 0
             && self.lent.bits == Lent::empty(0).bits
             && oracle::live_rows(&self.lent.rows).is_empty()
@@ -175,7 +176,7 @@ const LONGEST_CHECK: usize = 4_096;
 /// The listing of what was left.
 fn listing(subject: Subject, lent: &Lent) -> Result<Vec<u8>, String> {
     let table: Vec<Cap> = lent.rows.iter().map(agree::cap_of).collect();
-    let mut out = vec![0; 64 + 40 * table.len()];
+    let mut out = vec![0; 64 + 80 * table.len()];
     let length = subject.write_listing(&table, lent.tally.issued, &mut out);
     same("refusal of a listing", 0, length >> 32)?;
     out.truncate(length as usize);

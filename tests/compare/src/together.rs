@@ -1,12 +1,13 @@
-//! Names dropped together: on lent tables, and beside single drops.
+//! Names dropped together: on lent tables, by domains that hold them and others, and beside single drops.
 
 use interface::Event;
+use oracle::random::Random;
 use oracle::{MAX_GROUP, MAX_ROWS, Row};
 
+use crate::acting::dropper;
 use crate::agree::{self, Agreed, Lent, Subject, same, same_answer};
 use crate::events::{TABLES, Tables, chain, roots};
 use crate::generate::{self, Shape};
-use crate::random::Random;
 use crate::report::{Checked, Met, Report, check_few};
 
 pub fn groups(report: &mut Report, subject: Subject) {
@@ -81,25 +82,31 @@ fn count_sorts(lent: &Lent, names: &[u32], answer: u64) {
 }
 
 /// Names dropped together, as [`agree::drop_all`], and counted for what they meet.
-pub fn drop_all(subject: Subject, lent: &mut Lent, names: &[u32]) -> Result<u64, String> {
+pub fn drop_all(
+    subject: Subject,
+    lent: &mut Lent,
+    actor: u32,
+    names: &[u32],
+) -> Result<u64, String> {
     let before = lent.clone();
-    let answer = agree::drop_all(subject, lent, names)?;
+    let answer = agree::drop_all(subject, lent, actor, names)?;
     count_sorts(&before, names, answer);
     Ok(answer)
 }
 
 /// The same; on failure gives few names and few rows that still fail.
-fn check_names(subject: Subject, lent: &mut Lent, names: &[u32]) -> Agreed {
+fn check_names(subject: Subject, lent: &mut Lent, actor: u32, names: &[u32]) -> Agreed {
     let before = lent.clone();
-    let Err(why) = drop_all(subject, lent, names) else {
+    let Err(why) = drop_all(subject, lent, actor, names) else {
         return Ok(());
     };
     let again = |names: &[u32]| {
         agree::check_rows(&before, |mut lent| {
-            agree::drop_all(subject, &mut lent, names).map(|_| ())
+            agree::drop_all(subject, &mut lent, actor, names).map(|_| ())
         })
     };
-    check_few(names, again).map_err(|(why, names)| format!("{why}\n  names {names:?}"))?;
+    check_few(names, again)
+        .map_err(|(why, names)| format!("{why}\n  domain {actor}, names {names:?}"))?;
     Err(why)
 }
 
@@ -113,7 +120,8 @@ fn on_tables(random: &mut Random, subject: Subject, tables: &Tables) -> Checked 
                 true => generate::bad_group(random, &lent),
                 false => generate::group(random, &lent),
             };
-            check_names(subject, &mut lent, &names)?;
+            let actor = dropper(random, oracle::live_rows(&lent.rows), &names);
+            check_names(subject, &mut lent, actor, &names)?;
             cases += 1;
         }
     }
@@ -129,11 +137,31 @@ fn at_every_place(random: &mut Random, subject: Subject) -> Checked {
             let lent = with_gaps(random, rows);
             let live = oracle::live_rows(&lent.rows);
             let whole: Vec<u32> = live.iter().map(|row| row.name).take(count).collect();
-            check_names(subject, &mut lent.clone(), &whole)?;
+            check_names(subject, &mut lent.clone(), 0, &whole)?;
             cases += 1 + with_one_changed(random, subject, &lent, &whole)?;
+            cases += by_other_domains(subject, &lent, &whole)?;
         }
     }
     Ok(cases)
+}
+
+/// The same names made and held by other domains, dropped by one of them and by another.
+fn by_other_domains(subject: Subject, lent: &Lent, names: &[u32]) -> Checked {
+    let cases = [
+        (5, u64::MAX, 63),
+        (63, 1 << 63, 63),
+        (63, 1 << 63, 62),
+        (0, 1 << 32 | 1, 32),
+    ];
+    for (maker, holders, actor) in cases {
+        let mut lent = lent.clone();
+        for row in &mut lent.rows {
+            row.maker = maker;
+            row.holders = holders;
+        }
+        check_names(subject, &mut lent, actor, names)?;
+    }
+    Ok(cases.len() as u64)
 }
 
 fn with_one_changed(random: &mut Random, subject: Subject, lent: &Lent, whole: &[u32]) -> Checked {
@@ -157,7 +185,7 @@ fn with_one_changed(random: &mut Random, subject: Subject, lent: &Lent, whole: &
         ] {
             let mut names = whole.to_vec();
             names[*at] = other;
-            check_names(subject, &mut lent.clone(), &names)?;
+            check_names(subject, &mut lent.clone(), 0, &names)?;
         }
     }
     Ok(places.len() as u64 * 7)
@@ -202,31 +230,33 @@ fn beside_single_drops(random: &mut Random, subject: Subject) -> Checked {
         };
         let lent = generate::ordered(random, &shape);
         let names = generate::group(random, &lent);
-        let same = as_single_drops(subject, &lent, &names);
-        cases += same.map_err(|why| format!("{why}\n  {lent:?}\n  names {names:?}"))?;
+        let actor = dropper(random, oracle::live_rows(&lent.rows), &names);
+        let same = as_single_drops(subject, &lent, actor, &names);
+        cases += same.map_err(|why| format!("{why}\n  {lent:?}\n  {actor}, names {names:?}"))?;
     }
     Ok(cases)
 }
 
-fn drop_of(name: u32) -> Event {
+fn drop_of(actor: u32, name: u32) -> Event {
     let kind = 5;
     Event {
         kind,
         name,
+        actor,
         ..Event::default()
     }
 }
 
 /// A group leaves what single drops in falling order leave, but for the count of drops.
-fn as_single_drops(subject: Subject, lent: &Lent, names: &[u32]) -> Checked {
+fn as_single_drops(subject: Subject, lent: &Lent, actor: u32, names: &[u32]) -> Checked {
     let mut together = lent.clone();
-    let answer = drop_all(subject, &mut together, names)?;
+    let answer = drop_all(subject, &mut together, actor, names)?;
     if names.len() == 1 {
         // One name is the drop, refused ones included.
         let mut singly = lent.clone();
         same_answer(
             answer,
-            agree::apply(subject, &mut singly, drop_of(names[0]))?,
+            agree::apply(subject, &mut singly, drop_of(actor, names[0]))?,
         )?;
         same("what is lent", &together, &singly)?;
     }
@@ -235,7 +265,8 @@ fn as_single_drops(subject: Subject, lent: &Lent, names: &[u32]) -> Checked {
     }
     let mut singly = lent.clone();
     for name in names.iter().rev() {
-        same_answer(0, agree::apply(subject, &mut singly, drop_of(*name))?)?;
+        let drop = drop_of(actor, *name);
+        same_answer(0, agree::apply(subject, &mut singly, drop)?)?;
     }
     let once = lent.tally.drops.saturating_add(1);
     same("drops", once, together.tally.drops)?;

@@ -5,18 +5,20 @@
 use std::fmt::{self, Display, Formatter};
 
 use interface::{Event, Words};
+use oracle::random::Random;
+use oracle::traces::whole;
 use oracle::{
     FRESH, MAX_DEPTH, MAX_ROWS, Refused, Row, Span, Spelling, WRITABLE, WRITTEN_BYTES, Written,
 };
 
+use crate::acting::{self, is_known};
 use crate::agree::{self, Agreed, Bits, By, Lent, LentSheet, Subject, same, same_answer};
 use crate::edges::event;
 use crate::events::chain;
-use crate::generate::{self, NO_MARKS, OTHER_LENGTHS, Request, Shape};
+use crate::generate::{self, NO_MARKS, OTHER_LENGTHS, Request, Shape, oracle_answer_by};
 use crate::histories::check_list_by;
 use crate::lines::check_text;
 use crate::many::{self, check_words};
-use crate::random::Random;
 use crate::report::{Checked, Met, MetAnswers, Report, check_few};
 use crate::sheets;
 
@@ -120,7 +122,7 @@ pub fn count(before: &Lent, event: Event, verdict: Result<u32, Refused>) {
     };
     match (event.kind, verdict) {
         (_, Err(1)) => count_disorder(before),
-        (1, Err(2)) => count_refused(0, matches!(event.right, 1 | 2)),
+        (1, Err(2)) => count_refused(0, matches!(event.right, 1 | 2) && is_known(event)),
         (1, Err(3)) => count_refused(1, agree::span_of(event).is_legal()),
         (1 | 3 | 4, Ok(_)) | (3, Err(16)) => count_bits(before, written, event, verdict),
         _ => {}
@@ -192,7 +194,7 @@ fn count_bits(before: &Lent, written: &Written, event: Event, verdict: Result<u3
     let any = any_written(written, span);
     // Of one address the first is the last.
     let several = refused && length > 1;
-    let over_bytes = length > 0 && start / 8 != (span.end() as u32 - 1) / 8;
+    let over_bytes = length > 0 && u64::from(start) / 8 != (span.end() - 1) / 8;
     SORTS_MET.count([
         read && marked && length > 0,
         read && marked && over_bytes,
@@ -536,7 +538,7 @@ fn every_call(subject: Subject, lent: &Lent, is_right: bool) -> Checked {
         cases += 2;
     }
     for names in [&[][..], &[2, 1], &[1, 2], &[9]] {
-        is_as_due(agree::drop_all(subject, &mut lent.clone(), names)?)?;
+        is_as_due(agree::drop_all(subject, &mut lent.clone(), 0, names)?)?;
         cases += 1;
     }
     for text in TEXTS {
@@ -544,7 +546,8 @@ fn every_call(subject: Subject, lent: &Lent, is_right: bool) -> Checked {
         cases += 1;
     }
     agree::write_listing(subject, lent)?;
-    agree::read_listing(subject, b"(issued 1)\n(1 0 8 rw fresh)\n", lent)?;
+    let listing = whole("(issued 1)\n(1 0 8 rw fresh)\n");
+    agree::read_listing(subject, listing.as_bytes(), lent)?;
     Ok(cases + 2)
 }
 
@@ -588,10 +591,11 @@ fn inside(random: &mut Random, outer: Span) -> Span {
 fn request(random: &mut Random, lent: &Lent, area: Span, spelling: Spelling) -> Request {
     let live = oracle::live_rows(&lent.rows);
     if random.one_in(30) {
-        return Request::Group(match random.one_in(4) {
+        let names = match random.one_in(4) {
             true => generate::bad_group(random, lent),
             false => generate::group(random, lent),
-        });
+        };
+        return generate::with_dropper(random, lent, names);
     }
     let user = live.get(random.index(live.len().max(1))).copied();
     let kind = match user {
@@ -608,11 +612,14 @@ fn request(random: &mut Random, lent: &Lent, area: Span, spelling: Spelling) -> 
         (_, true) => Some(generate::wrong_name(random, issued)),
         (_, false) => Some(issued.wrapping_add(1)),
     };
+    let actor = acting::actor(random, live, user.as_ref().filter(|_| kind != 1));
     let event = Event {
         written,
         right: if random.one_in(8) { 1 } else { 2 },
         cap_kind: random.pick(&[0, 0, 1, 2]),
         fresh: random.pick(&[0, 1, 1]),
+        actor,
+        holders: acting::holders_asked(random, live, actor, kind),
         ..event(
             kind,
             user.map_or(0, |user| user.name),
@@ -655,13 +662,6 @@ fn read_back(random: &mut Random, write: Event) -> Event {
     read
 }
 
-fn oracle_answer(by: By, lent: &mut Lent, request: &Request) -> Result<u32, Refused> {
-    match request {
-        Request::Single(event) => agree::oracle_apply_by(by, lent, *event),
-        Request::Group(names) => agree::oracle_drop_all(lent, names),
-    }
-}
-
 /// What requests are made for: the sheet, the addresses, and how names are written.
 #[derive(Clone, Copy)]
 struct Setting<'a> {
@@ -682,7 +682,7 @@ fn requests(random: &mut Random, setting: Setting, mut lent: Lent, count: usize)
             _ => request(random, &lent, area, spelling),
         };
         let mut after = lent.clone();
-        let is_allowed = oracle_answer(by, &mut after, &next).is_ok();
+        let is_allowed = oracle_answer_by(by, &mut after, &next).is_ok();
         if is_allowed || random.one_in(2) {
             lent = after;
             requests.push(next);
@@ -755,7 +755,7 @@ fn one_request(
 ) -> Result<u64, String> {
     let take = |lent: &mut Lent| match request {
         Request::Single(event) => agree::apply_by(subject, by, lent, *event),
-        Request::Group(names) => agree::drop_all_by(subject, by, lent, names),
+        Request::Group(actor, names) => agree::drop_all_by(subject, by, lent, *actor, names),
     };
     let before = lent.clone();
     take(lent).map_err(|why| {
@@ -836,7 +836,7 @@ fn text(random: &mut Random, setting: Setting, lent: &Lent, count: usize) -> Vec
     let keeps_refused = random.one_in(2);
     for request in requests(random, setting, lent.clone(), count) {
         let mut after = lent.clone();
-        let is_allowed = oracle_answer(setting.by, &mut after, &request).is_ok();
+        let is_allowed = oracle_answer_by(setting.by, &mut after, &request).is_ok();
         if is_allowed || (keeps_refused && random.one_in(4)) {
             lent = after;
             lines.push(request);
@@ -879,7 +879,7 @@ fn in_lists(random: &mut Random, subject: Subject, lists: &Lists) -> Result<Stri
         check_list_by(subject, setting.by, &lent, &requests)
             .map_err(|why| format!("{why}\n  sheet {:?}", agree::bytes_of(setting.by)))?;
         for request in &requests {
-            let answer = oracle_answer(setting.by, &mut lent, request);
+            let answer = oracle_answer_by(setting.by, &mut lent, request);
             counts.count(answer.err().unwrap_or(0).into());
         }
     }
@@ -927,7 +927,7 @@ fn on_rows(subject: Subject, lent: &Lent) -> Checked {
     for kind in 1..=5 {
         check_event(subject, lent, event(kind, 2, span(0, 8)))?;
     }
-    agree::drop_all(subject, &mut lent.clone(), &[2, 3])?;
+    agree::drop_all(subject, &mut lent.clone(), 0, &[2, 3])?;
     agree::run(subject, &mut lent.clone(), b"(write 2 0 8)\n(read 3 0 8)\n")?;
     agree::write_listing(subject, lent)?;
     Ok(8)
@@ -950,6 +950,7 @@ fn in_words(subject: Subject) -> Checked {
                     named,
                     written: 3,
                     fresh,
+                    holders_low: 1,
                     ..Words::default()
                 };
                 check_words(subject, &lent, &words, &[1, 2, 3])?;
@@ -1016,10 +1017,10 @@ const LINES: [&str; 18] = [
 ];
 
 /// Every word in every place.
-fn in_places(texts: &[&str], check: impl Fn(&[u8]) -> Agreed) -> Checked {
+fn in_places(texts: &[impl AsRef<str>], check: impl Fn(&[u8]) -> Agreed) -> Checked {
     for text in texts {
         for word in WORDS {
-            check_text(text.replace("{}", word).as_bytes(), &check)?;
+            check_text(text.as_ref().replace("{}", word).as_bytes(), &check)?;
         }
     }
     Ok((texts.len() * WORDS.len()) as u64)
@@ -1042,7 +1043,8 @@ fn in_lines(subject: Subject) -> Checked {
     })
 }
 
-/// The same for listings. In the last ones every place has the same word.
+/// The same for listings, in which each row is of domain 0 alone. In the last ones every place has the same
+/// word.
 const LISTINGS: [&str; 17] = [
     "(issued 1)\n(1 0 64 rw{})\n",
     "(issued 1)\n(1 0 64 ro{})\n",
@@ -1065,7 +1067,7 @@ const LISTINGS: [&str; 17] = [
 
 /// Listings are read into rows beside bits that are not theirs, which stay.
 fn in_listings(subject: Subject) -> Checked {
-    in_places(&LISTINGS, |text| {
+    in_places(&LISTINGS.map(whole), |text| {
         for bits in [0, 255].map(|byte| Bits::lent(&[byte; WRITTEN_BYTES])) {
             let mut lent = Lent::empty(3);
             lent.bits = bits;
@@ -1078,9 +1080,13 @@ fn in_listings(subject: Subject) -> Checked {
 /// The longest lines of marked creates, and a marked table of the longest listing: each is shorter than
 /// without marks.
 fn longest(subject: Subject) -> Checked {
-    let create = create(span(u32::MAX, u32::MAX), FRESH);
+    let create = Event {
+        actor: 63,
+        holders: u64::MAX,
+        ..create(span(u32::MAX, u32::MAX), FRESH)
+    };
     let written = Some(u32::MAX);
-    for (length, event) in [(40, create), (51, Event { written, ..create })] {
+    for (length, event) in [(65, create), (76, Event { written, ..create })] {
         agree::write_event(subject, event)?;
         let mut line = vec![0; length];
         same_answer(length as u64, subject.write_event(event, &mut line))?;
@@ -1097,6 +1103,8 @@ fn longest(subject: Subject) -> Checked {
         depth: if name == first { 1 } else { 2 },
         kind: if name == first { 0 } else { 2 },
         fresh: FRESH,
+        maker: 10,
+        holders: u64::MAX,
     };
     let mut lent = Lent::of((first..=last).map(row).collect(), Lent::empty(0).tally);
     lent.tally.issued = last;

@@ -2,9 +2,9 @@
 //! measures the one can test or measure the other.
 
 pub use baseline::{
-    CELL, Cap, Event, FRESH, MAX_GROUP, RAW, REFERENCE, SHEET_PLACES, Tally, WRITTEN_BYTES,
+    CELL, Cap, DOMAINS, Event, FRESH, MAX_GROUP, RAW, REFERENCE, SHEET_PLACES, Tally, WRITTEN_BYTES,
 };
-pub use words::{AnswerWords, DROP_ALL, Words};
+pub use words::{AnswerWords, DROP_ALL, ShareWords, Words};
 
 #[cfg(library)]
 #[allow(unsafe_code)]
@@ -15,16 +15,18 @@ mod library;
 mod plain;
 mod words;
 
-/// What a caller lends for events. Written bits are bytes of any number, of which but one is right.
+/// What a caller lends for events. Written bits are bytes of any number, of which but one is right. Limits are
+/// numbers, as many as one likes; none of them means that none are lent.
 pub struct Memory<'a> {
     pub table: &'a mut [Cap],
     pub written: &'a mut [u8],
     pub tally: &'a mut Tally,
+    pub limits: &'a [u32],
 }
 
 /// The functions of the C interface, and below them the same in the shapes that a caller has at hand.
-/// Each but the two for many events answers the refusal's number times 2^32 plus a value. A sheet is its
-/// bytes, none of them for the default one.
+/// Each but those for many events and for a charge answers the refusal's number times 2^32 plus a value. A
+/// sheet is its bytes, none of them for the default one.
 pub trait Interface {
     fn name(&self) -> &'static str;
 
@@ -40,6 +42,9 @@ pub trait Interface {
         names: &[u32],
         answers: &mut [AnswerWords],
     ) -> usize;
+
+    /// `kz_abi_charge`: the refusal, the share and the rest.
+    fn charge(&self, table: &[Cap], issued: u32, name: u32) -> ShareWords;
 
     fn run_by(&self, sheet: &[u8], memory: Memory, text: &[u8]) -> u64;
 
@@ -96,13 +101,13 @@ pub trait Interface {
         self.apply_by(&[], memory, event)
     }
 
-    /// Names dropped together, with a sheet lent.
+    /// Names that domain 0 drops together, with a sheet lent.
     fn drop_all_by(&self, sheet: &[u8], memory: Memory, names: &[u32]) -> u64 {
         let words = Words::drop_all(0, names.len() as u32);
         self.apply_words_by(sheet, memory, &words, names)
     }
 
-    /// Names dropped together.
+    /// Names that domain 0 drops together.
     fn drop_all(&self, memory: Memory, names: &[u32]) -> u64 {
         self.drop_all_by(&[], memory, names)
     }
@@ -112,7 +117,7 @@ pub trait Interface {
         self.write_words(&event.into(), &[], out)
     }
 
-    /// The line of names dropped together.
+    /// The line of names that domain 0 drops together.
     fn write_drop(&self, names: &[u32], out: &mut [u8]) -> u64 {
         self.write_words(&Words::drop_all(0, names.len() as u32), names, out)
     }

@@ -3,7 +3,9 @@
 
 use std::ptr;
 
-use crate::{AnswerWords, Cap, Interface, MAX_GROUP, Memory, SHEET_PLACES, Tally, Words, ffi};
+use crate::{
+    AnswerWords, Cap, Interface, MAX_GROUP, Memory, SHEET_PLACES, ShareWords, Tally, Words, ffi,
+};
 
 pub struct Library;
 
@@ -28,6 +30,8 @@ impl Interface for Library {
                 memory.tally,
                 sheet.as_ptr(),
                 sheet.len(),
+                memory.limits.as_ptr(),
+                memory.limits.len(),
                 ptr::from_ref(words).cast(),
                 names.as_ptr(),
                 names.len(),
@@ -52,6 +56,8 @@ impl Interface for Library {
                 memory.tally,
                 sheet.as_ptr(),
                 sheet.len(),
+                memory.limits.as_ptr(),
+                memory.limits.len(),
                 events.as_ptr().cast(),
                 events.len(),
                 names.as_ptr(),
@@ -60,6 +66,13 @@ impl Interface for Library {
                 answers.len(),
             )
         }
+    }
+
+    fn charge(&self, table: &[Cap], issued: u32, name: u32) -> ShareWords {
+        // What a call leaves as it is shows.
+        let mut words = [u32::MAX; 3];
+        unsafe { ffi::kz_abi_charge(table.as_ptr(), table.len(), issued, name, &mut words) };
+        words
     }
 
     fn run_by(&self, sheet: &[u8], memory: Memory, text: &[u8]) -> u64 {
@@ -72,6 +85,8 @@ impl Interface for Library {
                 memory.tally,
                 sheet.as_ptr(),
                 sheet.len(),
+                memory.limits.as_ptr(),
+                memory.limits.len(),
                 text.as_ptr(),
                 text.len(),
             )

@@ -1,8 +1,8 @@
 //! The baseline behind the C interface.
 
-use baseline::{Cap, Event, MAX_GROUP, Refusal, SHEET_PLACES, Spelling, Tally};
+use baseline::{Cap, Event, Lent, MAX_GROUP, Refusal, SHEET_PLACES, Spelling, Tally};
 
-use crate::{AnswerWords, DROP_ALL, Interface, Memory, Words};
+use crate::{AnswerWords, DROP_ALL, Interface, Memory, ShareWords, Words};
 
 pub struct Baseline;
 
@@ -20,14 +20,15 @@ fn group<'a>(words: &Words, names: &'a [u32]) -> Option<&'a [u32]> {
     (words.kind == DROP_ALL).then(|| names.get(start..end).unwrap_or(&[]))
 }
 
-/// One event. Words are turned into it where it is carried out.
-fn apply(memory: Memory, sheet: &[u8], event: impl Into<Event>) -> Result<u32, Refusal> {
-    let Memory {
-        table,
-        written,
-        tally,
-    } = memory;
-    baseline::apply(table, written, tally, sheet, event)
+/// What is lent, with a sheet.
+fn lend<'a>(memory: Memory<'a>, sheet: &'a [u8]) -> Lent<'a> {
+    Lent {
+        table: memory.table,
+        written: memory.written,
+        tally: memory.tally,
+        sheet,
+        limits: memory.limits,
+    }
 }
 
 impl Interface for Baseline {
@@ -36,10 +37,12 @@ impl Interface for Baseline {
     }
 
     fn apply_words_by(&self, sheet: &[u8], memory: Memory, words: &Words, names: &[u32]) -> u64 {
-        match group(words, names) {
-            Some(names) => self.drop_all(memory, names),
-            None => packed(apply(memory, sheet, *words)),
-        }
+        let lent = lend(memory, sheet);
+        // Words are turned into an event where it is carried out.
+        packed(match group(words, names) {
+            Some(names) => baseline::drop_all(lent, words.actor, names).map(|()| 0),
+            None => baseline::apply(lent, *words),
+        })
     }
 
     fn apply_all_by(
@@ -50,21 +53,18 @@ impl Interface for Baseline {
         names: &[u32],
         answers: &mut [AnswerWords],
     ) -> usize {
-        let Memory {
-            table,
-            written,
-            tally,
-        } = memory;
-        baseline::apply_all(table, written, tally, sheet, events, names, answers)
+        baseline::apply_all(lend(memory, sheet), events, names, answers)
+    }
+
+    fn charge(&self, table: &[Cap], issued: u32, name: u32) -> ShareWords {
+        match baseline::charge(table, issued, name) {
+            Ok((share, rest)) => [0, share, rest],
+            Err(refusal) => [refusal as u32, 0, 0],
+        }
     }
 
     fn run_by(&self, sheet: &[u8], memory: Memory, text: &[u8]) -> u64 {
-        let Memory {
-            table,
-            written,
-            tally,
-        } = memory;
-        match baseline::run(table, written, tally, sheet, text) {
+        match baseline::run(lend(memory, sheet), text) {
             Ok(lines) => u64::from(lines),
             Err((refusal, line)) => packed(Err(refusal)) + u64::from(line),
         }
@@ -72,7 +72,7 @@ impl Interface for Baseline {
 
     fn write_words(&self, words: &Words, names: &[u32], out: &mut [u8]) -> u64 {
         match group(words, names) {
-            Some(names) => self.write_drop(names, out),
+            Some(names) => packed(baseline::write_drop(words.actor, names, out)),
             None => self.write_event((*words).into(), out),
         }
     }
@@ -92,8 +92,8 @@ impl Interface for Baseline {
             *words = event.into();
             return 0;
         }
-        packed(baseline::read_drop(line, names).map(|count| {
-            *words = Words::drop_all(0, count);
+        packed(baseline::read_drop(line, names).map(|(actor, count)| {
+            *words = Words::drop_all(0, count).by(actor, 0);
             0
         }))
     }
@@ -119,16 +119,7 @@ impl Interface for Baseline {
     }
 
     fn apply_by(&self, sheet: &[u8], memory: Memory, event: Event) -> u64 {
-        packed(apply(memory, sheet, event))
-    }
-
-    fn drop_all(&self, memory: Memory, names: &[u32]) -> u64 {
-        let Memory {
-            table,
-            written,
-            tally,
-        } = memory;
-        packed(baseline::drop_all(table, written, tally, names).map(|()| 0))
+        packed(baseline::apply(lend(memory, sheet), event))
     }
 
     fn write_event(&self, event: Event, out: &mut [u8]) -> u64 {
@@ -137,9 +128,5 @@ impl Interface for Baseline {
             None => Spelling::Plain,
         };
         packed(baseline::write_event(event, spelling, out))
-    }
-
-    fn write_drop(&self, names: &[u32], out: &mut [u8]) -> u64 {
-        packed(baseline::write_drop(names, out))
     }
 }

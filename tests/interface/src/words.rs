@@ -19,10 +19,28 @@ pub struct Words {
     pub written: u32,
     pub cap_kind: u32,
     pub fresh: u32,
+    pub actor: u32,
+    pub holders_low: u32,
+    pub holders_high: u32,
 }
 
 impl Words {
-    /// So many names dropped together, from a place of a list on.
+    /// The same by this domain, and for these holders of what is made.
+    pub fn by(self, actor: u32, holders: u64) -> Words {
+        Words {
+            actor,
+            holders_low: holders as u32,
+            holders_high: (holders >> 32) as u32,
+            ..self
+        }
+    }
+
+    /// The holders of what is made.
+    pub fn holders(&self) -> u64 {
+        u64::from(self.holders_high) << 32 | u64::from(self.holders_low)
+    }
+
+    /// So many names that domain 0 drops together, from a place of a list on.
     pub fn drop_all(start: u32, length: u32) -> Words {
         Words {
             kind: DROP_ALL,
@@ -45,7 +63,9 @@ impl From<Event> for Words {
             written: event.written.unwrap_or(0),
             cap_kind: event.cap_kind.into(),
             fresh: event.fresh.into(),
+            ..Words::default()
         }
+        .by(event.actor, event.holders)
     }
 }
 
@@ -62,9 +82,14 @@ impl From<Words> for Event {
             right: words.right.try_into().unwrap_or(0),
             cap_kind: words.cap_kind.try_into().unwrap_or(u8::MAX),
             fresh: words.fresh.try_into().unwrap_or(u8::MAX),
+            actor: words.actor,
+            holders: words.holders(),
         }
     }
 }
 
 /// The refusal and the value of an event, as `kz_answer` has them.
 pub type AnswerWords = [u32; 2];
+
+/// The refusal, the share and the rest of a charge, as `kz_shares` has them.
+pub type ShareWords = [u32; 3];

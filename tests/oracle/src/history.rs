@@ -4,18 +4,21 @@
 
 use std::collections::BTreeSet;
 
+use crate::domains::{DOMAINS, holders_of};
 use crate::sheet::{Access, Outcome, Sheet, Source};
 use crate::span::{ADDRESSES, Span};
 use crate::values::{
-    CELL, Event, FRESH, MAX_DEPTH, MAX_GROUP, MAX_NAME, MAX_ROWS, RAW, READ_ONLY, READ_WRITE,
+    Act, CELL, Event, FRESH, MAX_DEPTH, MAX_GROUP, MAX_NAME, MAX_ROWS, RAW, READ_ONLY, READ_WRITE,
     REFERENCE, Refused, Row,
 };
 use crate::written::{WRITABLE, Written};
 
-/// An allowed event. A create or borrow is noted with the name that it made, the others with 0.
+/// An allowed event, and who acted. A create or borrow is noted with the name that it made, the others
+/// with 0.
 #[derive(Clone, Copy, Debug, PartialEq)]
 struct Note {
     made: u32,
+    actor: u32,
     event: Event,
 }
 
@@ -27,6 +30,8 @@ struct Made {
     span: Span,
     right: u8,
     kind: u32,
+    maker: u32,
+    holders: u64,
 }
 
 /// Nothing, or the refusal.
@@ -51,6 +56,16 @@ fn judge_kind(kind: u32) -> Judged {
 /// Card 9: marks are 0 and 1.
 fn judge_mark(fresh: u32) -> Judged {
     refuse(2, fresh > FRESH)
+}
+
+/// Card 10: 'a domain above 63 .. is 2 in an event'.
+fn judge_actor(actor: u32) -> Judged {
+    refuse(2, actor >= DOMAINS)
+}
+
+/// Card 10: 'a mask without its maker, is 2 in an event'.
+fn judge_holders(maker: u32, mask: u64) -> Judged {
+    refuse(2, !holders_of(mask).contains(&maker))
 }
 
 /// Card 9: 'a `fresh` create ending above 65,536 is refusal 3'.
@@ -95,45 +110,58 @@ impl History {
         self.count
     }
 
-    /// The answer to the next event: the new name (0 where none is made), or the refusal.
-    pub fn answer(&mut self, event: Event) -> Result<u32, Refused> {
-        self.judge(event)?;
+    /// The answer to the next event, with which these limits are lent: the new name (0 where none is made),
+    /// or the refusal.
+    pub fn answer(&mut self, limits: &[u32], act: Act) -> Result<u32, Refused> {
+        self.judge(limits, act)?;
+        let Act { actor, event } = act;
         let made = match event.makes() {
             true => self.count + 1,
             false => 0,
         };
         self.count = self.count.max(made);
-        self.notes.push(Note { made, event });
+        self.notes.push(Note { made, actor, event });
         Ok(made)
     }
 
     /// Card 5, the answer to names that are dropped together: 0, or the refusal. Allowed, each is noted
     /// as dropped, in falling order.
-    pub fn answer_all(&mut self, names: &[u32]) -> Result<u32, Refused> {
-        self.judge_all(names)?;
+    pub fn answer_all(
+        &mut self,
+        limits: &[u32],
+        actor: u32,
+        names: &[u32],
+    ) -> Result<u32, Refused> {
+        self.judge_all(limits, actor, names)?;
         let drops = names.iter().rev().map(|name| Note {
             made: 0,
+            actor,
             event: Event::Drop { name: *name },
         });
         self.notes.extend(drops);
         Ok(0)
     }
 
-    /// What refuses each kind of event, the lowest number first, with 12 between 9 and 10 (card 1) and 16
-    /// after 7 (card 9).
-    fn judge(&self, event: Event) -> Judged {
-        self.judge_rows()?;
+    /// What refuses each kind of event, the lowest number first, with 12 between 9 and 10 (card 1), 16 after
+    /// 7 (card 9), 17 after 5 and 18 in the place of 10 (card 10).
+    fn judge(&self, limits: &[u32], act: Act) -> Judged {
+        self.judge_lent(limits)?;
+        let Act { actor, event } = act;
+        judge_actor(actor)?;
         match event {
             Event::Create {
                 written,
                 span,
                 right,
                 fresh,
+                holders,
             } => {
                 judge_right(right)?;
                 judge_mark(fresh)?;
+                judge_holders(actor, holders)?;
                 judge_place(span, fresh)?;
-                self.judge_new_name(written)
+                self.judge_new_name(written)?;
+                self.judge_room(limits, actor)
             }
             Event::Borrow {
                 written,
@@ -141,57 +169,104 @@ impl History {
                 span,
                 right,
                 kind,
+                holders,
             } => {
                 judge_right(right)?;
                 judge_kind(kind)?;
-                self.judge_use(parent, span)?;
+                judge_holders(actor, holders)?;
+                self.judge_use(actor, parent, span)?;
                 refuse(7, right == READ_WRITE && !self.is_read_write(parent))?;
                 refuse(8, self.depth(parent) == MAX_DEPTH)?;
-                self.judge_new_name(written)
+                self.judge_new_name(written)?;
+                self.judge_room(limits, actor)
             }
             Event::Read { name, span } => {
-                self.judge_use(name, span)?;
+                self.judge_use(actor, name, span)?;
                 refuse(16, self.is_marked(name) && !self.is_written(span))
             }
             Event::Write { name, span } => {
-                self.judge_use(name, span)?;
+                self.judge_use(actor, name, span)?;
                 refuse(7, !self.is_read_write(name))
             }
-            Event::Drop { name } => self.judge_name(name),
+            Event::Drop { name } => self.judge_name(actor, name),
             Event::Unknown => Err(2),
         }
     }
 
     /// Card 5: the list itself is judged first, and then each name in the order written.
-    fn judge_all(&self, names: &[u32]) -> Judged {
-        self.judge_rows()?;
+    fn judge_all(&self, limits: &[u32], actor: u32, names: &[u32]) -> Judged {
+        self.judge_lent(limits)?;
         let is_too_few_or_many = !(1..=MAX_GROUP).contains(&names.len());
         let rises_strictly = names.is_sorted_by(|one, next| one < next);
         refuse(13, is_too_few_or_many || !rises_strictly)?;
-        names.iter().try_for_each(|name| self.judge_name(*name))
+        judge_actor(actor)?;
+        let mut names = names.iter();
+        names.try_for_each(|name| self.judge_name(actor, *name))
     }
 
-    /// Nobody else writes the table, so that it is out of order only if it is too large.
-    fn judge_rows(&self) -> Judged {
-        refuse(1, self.rows > MAX_ROWS)
+    /// Nobody else writes the table, so that it is out of order only if it is too large. The limits that are
+    /// lent with the event may be refused.
+    fn judge_lent(&self, limits: &[u32]) -> Judged {
+        refuse(1, self.rows > MAX_ROWS || self.is_refused(limits))
     }
 
-    fn judge_use(&self, name: u32, span: Span) -> Judged {
+    /// Card 10: limits 'of another length, or whose sum is above the rows, or which a lent table already
+    /// exceeds'. None at all are no limits.
+    fn is_refused(&self, limits: &[u32]) -> bool {
+        if limits.is_empty() {
+            return false;
+        }
+        let sum: u64 = limits.iter().copied().map(u64::from).sum();
+        if limits.len() != DOMAINS as usize || sum > self.rows as u64 {
+            return true;
+        }
+        let mut spare = limits.to_vec();
+        self.makers().into_iter().any(|maker| {
+            let left = &mut spare[maker as usize];
+            let is_exceeded = *left == 0;
+            *left = left.saturating_sub(1);
+            is_exceeded
+        })
+    }
+
+    /// The makers of what lives, one for each name.
+    fn makers(&self) -> Vec<u32> {
+        let made = self.living().filter_map(|name| self.made(name));
+        made.map(|made| made.maker).collect()
+    }
+
+    fn judge_use(&self, actor: u32, name: u32, span: Span) -> Judged {
         judge_span(span)?;
-        self.judge_name(name)?;
+        self.judge_name(actor, name)?;
         let within = |made: Made| span.is_inside(made.span);
         refuse(6, !self.made(name).is_some_and(within))
     }
 
-    fn judge_name(&self, name: u32) -> Judged {
+    fn judge_name(&self, actor: u32, name: u32) -> Judged {
         refuse(4, name == 0 || name > self.count)?;
-        refuse(5, !self.lives(name))
+        refuse(5, !self.lives(name))?;
+        refuse(17, !self.is_held(name, actor))
+    }
+
+    /// Card 10: whether the name was noted with this domain among its holders.
+    fn is_held(&self, name: u32, domain: u32) -> bool {
+        self.made(name)
+            .is_some_and(|made| holders_of(made.holders).contains(&domain))
     }
 
     fn judge_new_name(&self, written: Option<u32>) -> Judged {
         refuse(9, self.count == MAX_NAME)?;
-        refuse(12, written.is_some_and(|name| name != self.count + 1))?;
-        refuse(10, self.living().count() == self.rows)
+        refuse(12, written.is_some_and(|name| name != self.count + 1))
+    }
+
+    /// Without limits an empty row is needed, and with them one that the domain may still make.
+    fn judge_room(&self, limits: &[u32], actor: u32) -> Judged {
+        let makers = self.makers();
+        let Some(limit) = limits.get(actor as usize) else {
+            return refuse(10, makers.len() == self.rows);
+        };
+        let its = makers.iter().filter(|maker| **maker == actor);
+        refuse(18, its.count() as u64 >= u64::from(*limit))
     }
 
     /// The history's table: a row for each living name, rising, then zeros.
@@ -221,19 +296,23 @@ impl History {
             depth: self.depth(name),
             kind: made.kind,
             fresh: self.mark(name),
+            maker: made.maker,
+            holders: made.holders,
         })
     }
 
     fn made(&self, name: u32) -> Option<Made> {
         let made_it = |note: &Note| name != 0 && note.made == name;
         let at = self.notes.iter().position(made_it)?;
-        let event = self.notes[at].event;
+        let Note { actor, event, .. } = self.notes[at];
         Some(Made {
             at,
             parent: event.user().unwrap_or(0),
             span: event.span()?,
             right: event.right()?,
             kind: event.kind().unwrap_or(REFERENCE),
+            maker: actor,
+            holders: event.holders()?,
         })
     }
 
@@ -435,19 +514,23 @@ impl History {
 
     /// Demand 3 of a read: that of any use, and by card 9 each address is written where the capability is
     /// marked.
-    pub fn may_read(&self, name: u32, span: Span) -> bool {
-        self.may_use(name, span) && (!self.is_marked(name) || self.is_written(span))
+    pub fn may_read(&self, limits: &[u32], actor: u32, name: u32, span: Span) -> bool {
+        self.may_use(limits, actor, name, span) && (!self.is_marked(name) || self.is_written(span))
     }
 
-    /// The capability was made, the span is legal and within its own, and it lives.
-    fn may_use(&self, name: u32, span: Span) -> bool {
+    /// The capability was made, the span is legal and within its own, and it lives. By card 10 the actor is
+    /// a holder of it, and no refused limits are lent with the event.
+    fn may_use(&self, limits: &[u32], actor: u32, name: u32, span: Span) -> bool {
         let within = |made: Made| span.is_legal() && span.is_inside(made.span);
-        self.made(name).is_some_and(within) && self.lives(name)
+        self.made(name).is_some_and(within)
+            && self.lives(name)
+            && self.is_held(name, actor)
+            && !self.is_refused(limits)
     }
 
     /// Demand 3 of a write: that of any use, and the capability is still writable.
-    pub fn may_write(&self, name: u32, span: Span) -> bool {
-        self.may_use(name, span) && self.is_read_write(name)
+    pub fn may_write(&self, limits: &[u32], actor: u32, name: u32, span: Span) -> bool {
+        self.may_use(limits, actor, name, span) && self.is_read_write(name)
     }
 }
 
@@ -455,8 +538,8 @@ impl History {
 mod tests {
     use super::*;
 
-    fn create(written: Option<u32>) -> Event {
-        Event::Create {
+    fn create(written: Option<u32>) -> Act {
+        let event = Event::Create {
             written,
             span: Span {
                 start: 0,
@@ -464,7 +547,9 @@ mod tests {
             },
             right: READ_WRITE,
             fresh: 0,
-        }
+            holders: 1,
+        };
+        Act { actor: 0, event }
     }
 
     /// A list that gives out a million names is too long to be compared, so that this begins near
@@ -473,12 +558,16 @@ mod tests {
     fn the_last_name() {
         let mut history = History::new(1);
         history.count = MAX_NAME - 1;
-        assert_eq!(history.answer(create(Some(MAX_NAME - 1))), Err(12));
-        assert_eq!(history.answer(create(Some(MAX_NAME))), Ok(MAX_NAME));
-        // 9 stands before 12, and both before 10.
-        assert_eq!(history.answer(create(None)), Err(9));
-        assert_eq!(history.answer(create(Some(MAX_NAME + 1))), Err(9));
-        assert_eq!(history.answer(create(Some(7))), Err(9));
+        let mut answer = |written| history.answer(&[], create(written));
+        assert_eq!(answer(Some(MAX_NAME - 1)), Err(12));
+        assert_eq!(answer(Some(MAX_NAME)), Ok(MAX_NAME));
+        // 9 stands before 12, and both before 10 and 18.
+        assert_eq!(answer(None), Err(9));
+        assert_eq!(answer(Some(MAX_NAME + 1)), Err(9));
+        assert_eq!(answer(Some(7)), Err(9));
+        let mut limits = [0; 64];
+        limits[0] = 1;
+        assert_eq!(history.answer(&limits, create(None)), Err(9));
         assert_eq!(history.count(), MAX_NAME);
     }
 }

@@ -1,12 +1,13 @@
-//! The lent table, written addresses and tally: when a table is in order, what refuses an event, what an
-//! event does.
+//! The lent table, written addresses, tally and limits: when a table is in order, what refuses an event, what
+//! an event does.
 
 use std::collections::BTreeSet;
 
+use crate::domains::{Limits, holders_of, is_domain};
 use crate::sheet::{Access, Combination, Outcome, Sheet, Source};
 use crate::span::Span;
 use crate::values::{
-    CELL, Event, FRESH, MAX_DEPTH, MAX_NAME, MAX_ROWS, RAW, READ_ONLY, READ_WRITE, REFERENCE,
+    Act, CELL, Event, FRESH, MAX_DEPTH, MAX_NAME, MAX_ROWS, RAW, READ_ONLY, READ_WRITE, REFERENCE,
     Refused, Row, Tally,
 };
 use crate::written::{WRITABLE, Written};
@@ -17,8 +18,16 @@ pub fn live_rows(rows: &[Row]) -> &[Row] {
     &rows[..last.map_or(0, |last| last + 1)]
 }
 
-/// Document 01's sentence, 'A table is in order when', clause by clause, card 6 on kinds and card 9 on
-/// marks.
+/// What is lent besides, which no event changes: the sheet by which events strike, without which card 6's
+/// sentences say what is struck, and the numbers of limits, none where there are no limits.
+#[derive(Clone, Copy, Debug, Default)]
+pub struct By<'a> {
+    pub sheet: Option<&'a Sheet>,
+    pub limits: &'a [u32],
+}
+
+/// Document 01's sentence, 'A table is in order when', clause by clause, card 6 on kinds, card 9 on marks and
+/// card 10 on domains.
 pub fn in_order(rows: &[Row], issued: u32) -> bool {
     if rows.len() > MAX_ROWS || issued > MAX_NAME {
         return false;
@@ -35,6 +44,8 @@ fn row_is_in_order(row: &Row, earlier: &[Row]) -> bool {
         && is_kind(row.kind)
         && is_mark(row.fresh)
         && !(row.fresh == FRESH && ends_above_writable(row.span()))
+        && is_domain(row.maker)
+        && holds(row, row.maker)
         && if row.parent == 0 {
             row.depth == 1 && row.kind == REFERENCE
         } else {
@@ -62,6 +73,11 @@ fn ends_above_writable(span: Span) -> bool {
     span.end() > u64::from(WRITABLE)
 }
 
+/// Whether a domain is a holder of a row.
+pub fn holds(row: &Row, domain: u32) -> bool {
+    holders_of(row.holders).contains(&domain)
+}
+
 fn find(rows: &[Row], name: u32) -> Option<&Row> {
     rows.iter().find(|row| row.name == name && name != 0)
 }
@@ -78,13 +94,21 @@ fn ancestry<'a>(live: &'a [Row], row: &'a Row) -> Vec<&'a Row> {
 }
 
 /// The number that an event is refused with: the first, in the order of the papers, whose condition
-/// holds. Card 1 puts 12 between 9 and 10, card 9 puts 16 after 7.
-fn refusal(rows: &[Row], written: &Written, issued: u32, event: Event) -> Option<Refused> {
-    if !in_order(rows, issued) {
+/// holds. Card 1 puts 12 between 9 and 10, card 9 puts 16 after 7, and card 10 puts 17 after 5 and 18 in the
+/// place of 10.
+fn refusal(
+    limits: &Limits,
+    rows: &[Row],
+    written: &Written,
+    issued: u32,
+    act: Act,
+) -> Option<Refused> {
+    if !in_order(rows, issued) || limits.is_refused(rows) {
         return Some(1);
     }
+    let Act { actor, event } = act;
     let conditions = [
-        (2, is_unknown(event)),
+        (2, is_unknown(act)),
         (3, has_illegal_span(event)),
         (4, event.user().is_some_and(|name| !is_issued(name, issued))),
         (
@@ -93,27 +117,37 @@ fn refusal(rows: &[Row], written: &Written, issued: u32, event: Event) -> Option
                 .user()
                 .is_some_and(|name| has_ended(rows, name, issued)),
         ),
+        (
+            17,
+            user_row(rows, event).is_some_and(|user| !holds(user, actor)),
+        ),
         (6, is_outside_its_capability(rows, event)),
         (7, needs_more_than_read_only(rows, event)),
         (16, reads_what_is_not_written(rows, written, event)),
         (8, borrows_too_deep(rows, event)),
         (9, event.makes() && issued == MAX_NAME),
         (12, event.written().is_some_and(|name| name != issued + 1)),
+        (18, event.makes() && limits.is_reached(rows, actor)),
         (10, event.makes() && live_rows(rows).len() == rows.len()),
     ];
     let mut holding = conditions.into_iter().filter(|(_, holds)| *holds);
     holding.next().map(|(number, _)| number)
 }
 
-/// An unknown event, a right that is neither 1 nor 2, a kind that is none of the three, or a mark that is
-/// neither 0 nor 1.
-pub fn is_unknown(event: Event) -> bool {
+/// An unknown event, a right that is neither 1 nor 2, a kind that is none of the three, a mark that is neither
+/// 0 nor 1, an actor that is no domain, or a mask of holders without the maker.
+pub fn is_unknown(act: Act) -> bool {
+    let Act { actor, event } = act;
     event == Event::Unknown
+        || !is_domain(actor)
         || event
             .right()
             .is_some_and(|right| right != READ_ONLY && right != READ_WRITE)
         || event.kind().is_some_and(|kind| !is_kind(kind))
         || event.fresh().is_some_and(|fresh| !is_mark(fresh))
+        || event
+            .holders()
+            .is_some_and(|mask| !holders_of(mask).contains(&actor))
 }
 
 /// A span that is not legal, or of a create with the mark one that ends above the addresses that can be
@@ -173,41 +207,30 @@ fn borrows_too_deep(rows: &[Row], event: Event) -> bool {
 /// One event on a lent table, written addresses and tally: the new name (0 where none is made), or the
 /// refusal. Lent bytes of another length than there have to be are no written addresses, and refusal 1.
 pub fn apply(
+    by: By,
     rows: &mut [Row],
     written: Option<&mut Written>,
     tally: &mut Tally,
-    event: Event,
+    act: Act,
 ) -> Result<u32, Refused> {
-    apply_by(None, rows, written, tally, event)
-}
-
-/// The same by a sheet, or by card 6's sentences where there is none.
-pub fn apply_by(
-    sheet: Option<&Sheet>,
-    rows: &mut [Row],
-    written: Option<&mut Written>,
-    tally: &mut Tally,
-    event: Event,
-) -> Result<u32, Refused> {
-    let Some(written) = written else {
-        return Err(1);
-    };
-    if let Some(number) = refusal(rows, written, tally.issued, event) {
+    let written = written.ok_or(1)?;
+    let limits = Limits::lent(by.limits);
+    if let Some(number) = refusal(&limits, rows, written, tally.issued, act) {
         if number != 1 {
             tally.refused = tally.refused.saturating_add(1);
         }
         return Err(number);
     }
     let live = live_rows(rows);
-    let after = match sheet {
-        None => rows_after(live, event, tally.issued + 1),
-        Some(sheet) => rows_after_by(sheet, live, event, tally.issued + 1),
+    let after = match by.sheet {
+        None => rows_after(live, act, tally.issued + 1),
+        Some(sheet) => rows_after_by(sheet, live, act, tally.issued + 1),
     };
     rows.fill(Row::default());
     rows[..after.len()].copy_from_slice(&after);
-    write_addresses(written, event);
-    count_allowed(tally, event);
-    Ok(if event.makes() { tally.issued } else { 0 })
+    write_addresses(written, act.event);
+    count_allowed(tally, act.event);
+    Ok(if act.event.makes() { tally.issued } else { 0 })
 }
 
 /// 'Every allowed create clears its addresses, every allowed write sets its own.'
@@ -219,13 +242,13 @@ fn write_addresses(written: &mut Written, event: Event) {
     }
 }
 
-fn rows_after(live: &[Row], event: Event, new_name: u32) -> Vec<Row> {
-    match event {
+fn rows_after(live: &[Row], act: Act, new_name: u32) -> Vec<Row> {
+    match act.event {
         Event::Create { span, .. } => {
             let left = without(live, &reclaimed(live, span));
-            with_new(&left, event, new_name)
+            with_new(&left, act, new_name)
         }
-        Event::Borrow { .. } => with_new(live, event, new_name),
+        Event::Borrow { .. } => with_new(live, act, new_name),
         Event::Read { name, span } => {
             let lowered = below(live, &struck_by_read(live, name, span));
             let right_of = |row: &Row| match lowered.contains(&row.name) {
@@ -247,8 +270,9 @@ fn rows_after(live: &[Row], event: Event, new_name: u32) -> Vec<Row> {
 }
 
 /// The rows, and that of what a create or borrow makes. A create makes a reference, and a borrow carries
-/// its parent's mark.
-fn with_new(live: &[Row], event: Event, name: u32) -> Vec<Row> {
+/// its parent's mark. Who acts is the maker.
+fn with_new(live: &[Row], act: Act, name: u32) -> Vec<Row> {
+    let Act { actor, event } = act;
     let mut rows = live.to_vec();
     let parent = user_row(live, event);
     let [_, _, start, length, right] = event.fields();
@@ -261,6 +285,8 @@ fn with_new(live: &[Row], event: Event, name: u32) -> Vec<Row> {
         depth: parent.map_or(0, |parent| parent.depth) + 1,
         kind: event.kind().unwrap_or(REFERENCE),
         fresh: parent.map_or(event.fresh().unwrap_or(0), |parent| parent.fresh),
+        maker: actor,
+        holders: event.holders().unwrap_or(0),
     });
     rows
 }
@@ -338,14 +364,14 @@ fn reclaimed(live: &[Row], span: Span) -> Vec<u32> {
 }
 
 /// Card 7: the rows that an event leaves by a sheet. A create makes its row besides.
-fn rows_after_by(sheet: &Sheet, live: &[Row], event: Event, new_name: u32) -> Vec<Row> {
-    match event {
-        Event::Read { .. } | Event::Write { .. } => rows_struck(sheet, live, event),
+fn rows_after_by(sheet: &Sheet, live: &[Row], act: Act, new_name: u32) -> Vec<Row> {
+    match act.event {
+        Event::Read { .. } | Event::Write { .. } => rows_struck(sheet, live, act.event),
         Event::Create { .. } => {
-            let left = rows_struck(sheet, live, event);
-            with_new(&left, event, new_name)
+            let left = rows_struck(sheet, live, act.event);
+            with_new(&left, act, new_name)
         }
-        _ => rows_after(live, event, new_name),
+        _ => rows_after(live, act, new_name),
     }
 }
 

@@ -1,14 +1,14 @@
 //! Listings, runs, and what `capcheck` prints.
 
+use crate::domains::{Limits, holders_of, mask_of, mask_word, read_mask};
 use crate::lines::{
     Spelling, drop_line, event_line, kind_word, mark_word, number, read_drop_line, read_event_line,
     right, right_word,
 };
-use crate::sheet::Sheet;
-use crate::table::{apply_by, in_order, live_rows};
-use crate::together::drop_all;
+use crate::table::{By, apply, in_order, live_rows};
+use crate::together::{drop_all, is_group};
 use crate::values::{
-    CELL, Event, FRESH, MAX_DEPTH, MAX_INPUT, MAX_ROWS, RAW, REFERENCE, Refused, Row, Tally,
+    Act, CELL, Event, FRESH, MAX_DEPTH, MAX_INPUT, MAX_ROWS, RAW, REFERENCE, Refused, Row, Tally,
 };
 use crate::written::Written;
 
@@ -30,13 +30,15 @@ fn form(live: &[Row], row: &Row) -> String {
         .collect();
     let (right, kind) = (right_word(row.right), kind_word(row.kind));
     let mark = mark_word(row.fresh);
+    let holders = mask_word(&holders_of(row.holders));
     let Row {
         name,
         start,
         length,
+        maker,
         ..
     } = row;
-    format!("({name} {start} {length} {right}{kind}{mark}{inner})")
+    format!("({name} {start} {length} {right}{kind}{mark} {maker} {holders}{inner})")
 }
 
 /// The issued number and the rows of the one table in order that has this listing, if there is one.
@@ -99,6 +101,13 @@ impl Reader<'_> {
         }
     }
 
+    /// The mask of holders that stands next.
+    fn holders(&mut self) -> Option<u64> {
+        let (word, rest) = self.rest.split_at_checked(16)?;
+        self.rest = rest;
+        Some(mask_of(&read_mask(word)?))
+    }
+
     /// One capability with all below it. Its name, which must be above that of the sibling before
     /// it, is the answer.
     fn form(&mut self, parent: u32, depth: u32, previous: u32) -> Option<u32> {
@@ -112,6 +121,10 @@ impl Reader<'_> {
         let right = u32::from(self.right()?);
         let kind = self.kind();
         let fresh = self.mark();
+        self.skip(b" ")?;
+        let maker = self.number()?;
+        self.skip(b" ")?;
+        let holders = self.holders()?;
         if depth > MAX_DEPTH || name <= previous {
             return None;
         }
@@ -124,6 +137,8 @@ impl Reader<'_> {
             depth,
             kind,
             fresh,
+            maker,
+            holders,
         });
         let mut child = 0;
         while self.rest.starts_with(b" ") {
@@ -157,12 +172,16 @@ fn fitting(text: String, buffer: usize) -> Result<String, Refused> {
     }
 }
 
-pub fn write_event(event: Event, spelling: Spelling, buffer: usize) -> Result<String, Refused> {
-    fitting(event_line(event, spelling).ok_or(2)?, buffer)
+pub fn write_event(act: Act, spelling: Spelling, buffer: usize) -> Result<String, Refused> {
+    fitting(event_line(act, spelling).ok_or(2)?, buffer)
 }
 
-pub fn write_drop(names: &[u32], buffer: usize) -> Result<String, Refused> {
-    fitting(drop_line(names).ok_or(13)?, buffer)
+/// 13 stands before 2, which is given to a domain that is none.
+pub fn write_drop(actor: u32, names: &[u32], buffer: usize) -> Result<String, Refused> {
+    if !is_group(names) {
+        return Err(13);
+    }
+    fitting(drop_line(actor, names).ok_or(2)?, buffer)
 }
 
 pub fn write_listing(rows: &[Row], issued: u32, buffer: usize) -> Result<String, Refused> {
@@ -181,34 +200,33 @@ fn lines(text: &[u8]) -> impl Iterator<Item = &[u8]> {
 }
 
 /// Takes lines until one is refused. A first line that says so is no event, and is counted as a
-/// line; the others are then spelt with names.
-pub fn run(rows: &mut [Row], written: Option<&mut Written>, tally: &mut Tally, text: &[u8]) -> Run {
-    run_by(None, rows, written, tally, text)
-}
-
-/// The same by a sheet, or by card 6's sentences where there is none.
-pub fn run_by(
-    sheet: Option<&Sheet>,
+/// line; the others are then spelt with names. What is lent is judged before the first line.
+pub fn run(
+    by: By,
     rows: &mut [Row],
     written: Option<&mut Written>,
     tally: &mut Tally,
     text: &[u8],
 ) -> Run {
     let written = written.ok_or((1, 0))?;
-    if !in_order(rows, tally.issued) {
+    if !in_order(rows, tally.issued) || Limits::lent(by.limits).is_refused(rows) {
         return Err((1, 0));
     }
     let (spelling, mut allowed, rest) = match text.strip_prefix(HEADER) {
         Some(rest) => (Spelling::Named, 1, rest),
         None => (Spelling::Plain, 0, text),
     };
+    // An unknown event is refused and counted just as a misspelt line is.
+    let misspelt = Act {
+        actor: 0,
+        event: Event::Unknown,
+    };
     for line in lines(rest) {
         let answer = match read_drop_line(line) {
-            Some(names) => drop_all(rows, Some(written), tally, &names),
-            // An unknown kind is refused and counted just as a misspelt line is.
+            Some((actor, names)) => drop_all(by, rows, Some(written), tally, actor, &names),
             None => {
-                let event = read_event_line(line, spelling).unwrap_or(Event::Unknown);
-                apply_by(sheet, rows, Some(written), tally, event)
+                let act = read_event_line(line, spelling).unwrap_or(misspelt);
+                apply(by, rows, Some(written), tally, act)
             }
         };
         answer.map_err(|number| (number, allowed + 1))?;
@@ -225,7 +243,8 @@ pub fn check(input: &[u8], buffer: usize) -> Result<String, Refused> {
     let mut rows = vec![Row::default(); MAX_ROWS];
     let mut written = Written::default();
     let mut tally = Tally::default();
-    let verdict = match run(&mut rows, Some(&mut written), &mut tally, input) {
+    let by = By::default();
+    let verdict = match run(by, &mut rows, Some(&mut written), &mut tally, input) {
         Ok(lines) => format!("(allowed {lines})\n"),
         Err((number, line)) => format!("(refused {number} {line})\n"),
     };

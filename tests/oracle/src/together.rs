@@ -1,6 +1,7 @@
-//! Card 5: capabilities that are dropped together.
+//! Card 5: capabilities that are dropped together, by card 10 each by a holder.
 
-use crate::table::{has_ended, in_order, is_issued, live_rows, subtrees, without};
+use crate::domains::{Limits, is_domain};
+use crate::table::{By, has_ended, holds, in_order, is_issued, live_rows, subtrees, without};
 use crate::values::{MAX_GROUP, Refused, Row, Tally};
 use crate::written::Written;
 
@@ -9,41 +10,45 @@ pub fn is_group(names: &[u32]) -> bool {
     !names.is_empty() && names.len() <= MAX_GROUP && names.windows(2).all(|pair| pair[0] < pair[1])
 }
 
-/// The number that a group is refused with: 13 stands after 1, and then the first name that cannot be
-/// dropped from this table decides.
-fn group_refusal(rows: &[Row], issued: u32, names: &[u32]) -> Option<Refused> {
-    if !in_order(rows, issued) {
-        return Some(1);
-    }
+/// The number that a group is refused with: 13 stands after 1 and before 2, and then the first name that
+/// cannot be dropped from this table decides.
+fn group_refusal(rows: &[Row], issued: u32, actor: u32, names: &[u32]) -> Option<Refused> {
     if !is_group(names) {
         return Some(13);
     }
-    names.iter().find_map(|name| {
-        let unissued = !is_issued(*name, issued);
-        let ended = has_ended(rows, *name, issued);
-        match (unissued, ended) {
-            (true, _) => Some(4),
-            (_, true) => Some(5),
-            _ => None,
-        }
-    })
+    if !is_domain(actor) {
+        return Some(2);
+    }
+    let mut refusals = names.iter().map(|name| {
+        let row = rows.iter().find(|row| row.name == *name);
+        let conditions = [
+            (4, !is_issued(*name, issued)),
+            (5, has_ended(rows, *name, issued)),
+            (17, row.is_some_and(|row| !holds(row, actor))),
+        ];
+        let first = conditions.into_iter().find(|(_, holds)| *holds);
+        first.map(|(number, _)| number)
+    });
+    refusals.find_map(|refusal| refusal)
 }
 
 /// Names dropped together on a lent table and tally: 0, or the refusal. It is counted once. No address is
 /// looked at, but without the lent bytes it is refusal 1, as every event is.
 pub fn drop_all(
+    by: By,
     rows: &mut [Row],
     written: Option<&Written>,
     tally: &mut Tally,
+    actor: u32,
     names: &[u32],
 ) -> Result<u32, Refused> {
-    if written.is_none() {
+    let issued = tally.issued;
+    let limits = Limits::lent(by.limits);
+    if written.is_none() || !in_order(rows, issued) || limits.is_refused(rows) {
         return Err(1);
     }
-    if let Some(number) = group_refusal(rows, tally.issued, names) {
-        if number != 1 {
-            tally.refused = tally.refused.saturating_add(1);
-        }
+    if let Some(number) = group_refusal(rows, issued, actor, names) {
+        tally.refused = tally.refused.saturating_add(1);
         return Err(number);
     }
     let live = live_rows(rows);

@@ -1,10 +1,36 @@
-//! Traces of cards 6, 7 and 9, with their answers and listings worked out by hand from the cards' sentences.
+//! Traces of cards 6, 7, 9 and 10, with their answers and listings worked out by hand from the cards'
+//! sentences.
 
 /// A line and its answer.
 pub type Step = (&'static str, Result<u32, u8>);
 
-/// What a trace shows, its lines, and the listing that they leave.
+/// What a trace shows, its lines, and the listing that they leave. In those of the cards before card 10 every
+/// row is of domain 0 alone, and `whole` puts that in.
 pub type Trace = (&'static str, &'static [Step], &'static str);
+
+/// The maker and the mask of what domain 0 makes for itself alone, as they stand in a listing.
+pub const OF_DOMAIN_0: &str = " 0 0000000000000001";
+
+/// A listing in which every row is of domain 0 alone and that is not written: the same with it written,
+/// behind the words of each row.
+pub fn whole(listing: &str) -> String {
+    let mut whole = String::new();
+    let mut is_row = false;
+    for (at, byte) in listing.char_indices() {
+        let rest = &listing[at..];
+        let ends_words = rest.starts_with(" (") || rest.starts_with(')');
+        if is_row && ends_words {
+            whole += OF_DOMAIN_0;
+            is_row = false;
+        }
+        if byte == '(' {
+            // Other forms begin with a word.
+            is_row = !rest[1..].starts_with(|next: char| next.is_ascii_lowercase());
+        }
+        whole.push(byte);
+    }
+    whole
+}
 
 const ROOT: Step = ("(create 0 64 rw)", Ok(1));
 
@@ -472,7 +498,7 @@ pub const MARKS: [Trace; 14] = [
     ),
 ];
 
-/// What a trace shows, the text of its sheet, its lines, and the listing that they leave.
+/// What a trace shows, the text of its sheet, its lines, and the listing that they leave, as above.
 pub type SheetTrace = (&'static str, &'static str, &'static [Step], &'static str);
 
 const KEEP_ALL: &str =

@@ -1,4 +1,4 @@
-//! The values of document 01 and of cards 1, 5, 6, 7 and 9: limits, rights, kinds, marks, rows, tallies,
+//! The values of document 01 and of cards 1, 5, 6, 7, 9 and 10: bounds, rights, kinds, marks, rows, tallies,
 //! events and the numbers of refusals.
 
 use crate::span::Span;
@@ -22,7 +22,7 @@ pub const CELL: u32 = 2;
 /// Card 9: the mark of what has to be written before it is read.
 pub const FRESH: u32 = 1;
 
-/// The number of a refusal, 1 to 16.
+/// The number of a refusal, 1 to 18.
 pub type Refused = u8;
 
 /// A row of a table, or of the history's.
@@ -37,6 +37,10 @@ pub struct Row {
     pub kind: u32,
     /// The mark: 0 or `FRESH`.
     pub fresh: u32,
+    /// The domain that made it.
+    pub maker: u32,
+    /// The mask of the domains that hold it.
+    pub holders: u64,
 }
 
 impl Row {
@@ -68,6 +72,8 @@ pub enum Event {
         right: u8,
         /// The mark of what is made. A borrow has none: it carries its parent's.
         fresh: u32,
+        /// The mask of the domains that are to hold what is made.
+        holders: u64,
     },
     Borrow {
         written: Option<u32>,
@@ -76,6 +82,8 @@ pub enum Event {
         right: u8,
         /// The kind of what is made. A create has none: it makes a reference.
         kind: u32,
+        /// As a create's.
+        holders: u64,
     },
     Read {
         name: u32,
@@ -92,25 +100,70 @@ pub enum Event {
     Unknown,
 }
 
+/// Card 10: who acts, and what happens.
+#[derive(Clone, Copy, Debug, PartialEq, Eq)]
+pub struct Act {
+    /// Any number; those of domains are below 64.
+    pub actor: u32,
+    pub event: Event,
+}
+
+/// An event's values as the C interface has them. Those that the event lacks are not looked at.
+#[derive(Clone, Copy, Debug)]
+pub struct Fields {
+    /// Which event it is.
+    pub event: u8,
+    pub written: Option<u32>,
+    pub name: u32,
+    pub span: Span,
+    pub right: u8,
+    /// The kind of what a borrow makes.
+    pub kind: u32,
+    /// The mark of what a create makes.
+    pub fresh: u32,
+    pub holders: u64,
+}
+
+impl Act {
+    /// The event's values as the C interface has them: those of `Event::fields`, then whether a new name is
+    /// written and which, the kind of what a borrow makes, the mark of what a create makes, who acts, and
+    /// the lower and the higher half of the mask of holders.
+    pub fn words(self) -> [u32; 12] {
+        let Act { actor, event } = self;
+        let [number, name, start, length, right] = event.fields();
+        let named = u32::from(event.written().is_some());
+        let written = event.written().unwrap_or(0);
+        let kind = event.kind().unwrap_or(0);
+        let fresh = event.fresh().unwrap_or(0);
+        let holders = event.holders().unwrap_or(0);
+        let half = 1 << 32;
+        let (low, high) = ((holders % half) as u32, (holders / half) as u32);
+        [
+            number, name, start, length, right, named, written, kind, fresh, actor, low, high,
+        ]
+    }
+}
+
 impl Event {
-    /// The event of the C interface's values, with a written name or without; those that the event
-    /// lacks are not looked at. The first number says which event it is, the last two the kind of what a
-    /// borrow makes and the mark of what a create makes.
-    pub fn from_fields(
-        event: u8,
-        written: Option<u32>,
-        name: u32,
-        span: Span,
-        right: u8,
-        kind: u32,
-        fresh: u32,
-    ) -> Event {
+    /// The event of the C interface's values, with a written name or without.
+    pub fn of(fields: Fields) -> Event {
+        let Fields {
+            event,
+            written,
+            name,
+            span,
+            right,
+            kind,
+            fresh,
+            holders,
+        } = fields;
         match event {
             1 => Event::Create {
                 written,
                 span,
                 right,
                 fresh,
+                holders,
             },
             2 => Event::Borrow {
                 written,
@@ -118,6 +171,7 @@ impl Event {
                 span,
                 right,
                 kind,
+                holders,
             },
             3 => Event::Read { name, span },
             4 => Event::Write { name, span },
@@ -141,19 +195,6 @@ impl Event {
             Event::Drop { name } => [5, name, 0, 0, 0],
             Event::Unknown => [0; 5],
         }
-    }
-
-    /// The same, and after them whether a new name is written and which, the kind of what a borrow makes and
-    /// the mark of what a create makes, as the C interface has it.
-    pub fn words(self) -> [u32; 9] {
-        let [event, name, start, length, right] = self.fields();
-        let named = u32::from(self.written().is_some());
-        let written = self.written().unwrap_or(0);
-        let kind = self.kind().unwrap_or(0);
-        let fresh = self.fresh().unwrap_or(0);
-        [
-            event, name, start, length, right, named, written, kind, fresh,
-        ]
     }
 
     /// The name that the event carries for what it makes.
@@ -184,6 +225,14 @@ impl Event {
     pub fn fresh(self) -> Option<u32> {
         match self {
             Event::Create { fresh, .. } => Some(fresh),
+            _ => None,
+        }
+    }
+
+    /// The mask of holders that the event asks for, in the two kinds that have one.
+    pub fn holders(self) -> Option<u64> {
+        match self {
+            Event::Create { holders, .. } | Event::Borrow { holders, .. } => Some(holders),
             _ => None,
         }
     }

@@ -3,10 +3,10 @@
 
 mod both;
 
-use both::{Both, ROWS, after, event};
-use oracle::traces::{KINDS, Step};
+use both::{Both, ROWS, act, after};
+use oracle::traces::{KINDS, Step, whole};
 use oracle::{
-    CELL, Event, RAW, READ_WRITE, REFERENCE, Row, Span, Spelling, Tally, Written, apply,
+    Act, By, CELL, Event, RAW, READ_WRITE, REFERENCE, Row, Span, Spelling, Tally, Written, apply,
     event_line, in_order, listing, read_event_line, read_listing,
 };
 
@@ -15,8 +15,8 @@ fn listed(steps: &[Step]) -> String {
     listing(&rows, tally.issued)
 }
 
-fn borrow(written: Option<u32>, parent: u32, kind: u32) -> Event {
-    Event::Borrow {
+fn borrow(written: Option<u32>, parent: u32, kind: u32) -> Act {
+    let event = Event::Borrow {
         written,
         parent,
         span: Span {
@@ -25,7 +25,9 @@ fn borrow(written: Option<u32>, parent: u32, kind: u32) -> Event {
         },
         right: READ_WRITE,
         kind,
-    }
+        holders: 1,
+    };
+    Act { actor: 0, event }
 }
 
 const ROOT: Step = ("(create 0 64 rw)", Ok(1));
@@ -53,9 +55,9 @@ fn a_borrow_ends_in_its_kind() {
             (Some(2), Spelling::Named, "2 "),
         ] {
             let line = format!("(borrow {name}1 0 8 rw{word})\n");
-            let event = borrow(written, 1, kind);
-            assert_eq!(event_line(event, spelling), Some(line.clone()));
-            assert_eq!(read_event_line(line.as_bytes(), spelling), Some(event));
+            let act = borrow(written, 1, kind);
+            assert_eq!(event_line(act, spelling), Some(line.clone()));
+            assert_eq!(read_event_line(line.as_bytes(), spelling), Some(act));
         }
     }
 }
@@ -88,7 +90,7 @@ fn no_other_line_has_a_kind() {
 
 #[test]
 fn listings_have_it_after_the_right() {
-    let text = "(issued 4)\n(1 0 64 rw (2 0 8 rw raw (3 0 4 ro)) (4 8 8 ro cell))\n";
+    let text = whole("(issued 4)\n(1 0 64 rw (2 0 8 rw raw (3 0 4 ro)) (4 8 8 ro cell))\n");
     let written = listed(&[
         ROOT,
         ("(borrow 1 0 8 rw raw)", Ok(2)),
@@ -109,7 +111,7 @@ fn listings_have_it_after_the_right() {
         "(issued 2)\n(1 0 64 rw (2 0 8 rw raw ))\n",
         "(issued 2)\n(1 0 64 rw (2 0 8 rw rawcell))\n",
     ];
-    for text in others {
+    for text in others.map(whole) {
         assert_eq!(read_listing(text.as_bytes(), 4), Err(2), "{text}");
     }
 }
@@ -135,7 +137,8 @@ fn other_kinds_in_rows_are_refused() {
                 ..Tally::default()
             };
             let mut written = Written::default();
-            let answer = apply(&mut rows, Some(&mut written), &mut tally, event("(drop 1)"));
+            let (by, lent) = (By::default(), Some(&mut written));
+            let answer = apply(by, &mut rows, lent, &mut tally, act("(drop 1)"));
             assert_eq!(answer, Err(1));
         }
     }
@@ -148,9 +151,9 @@ fn other_kinds_in_rows_are_refused() {
 fn other_kinds_in_events_are_refused_and_have_no_spelling() {
     for kind in [3, 255, 256, 258, 1 << 31, u32::MAX] {
         let mut both = after(&[ROOT]);
-        assert_eq!(both.answer(borrow(None, 1, kind)), Err(2));
+        assert_eq!(both.answer(&[], borrow(None, 1, kind)), Err(2));
         // 2 stands before 4.
-        assert_eq!(both.answer(borrow(None, 9, kind)), Err(2));
+        assert_eq!(both.answer(&[], borrow(None, 9, kind)), Err(2));
         assert_eq!(both.tally.refused, 2);
         assert_eq!(event_line(borrow(None, 1, kind), Spelling::Plain), None);
     }
@@ -161,6 +164,6 @@ fn other_kinds_in_events_are_refused_and_have_no_spelling() {
 #[test]
 fn every_trace_goes_as_it_says() {
     for (name, steps, expected) in KINDS {
-        assert_eq!(listed(steps), expected, "{name}");
+        assert_eq!(listed(steps), whole(expected), "{name}");
     }
 }

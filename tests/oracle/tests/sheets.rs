@@ -1,10 +1,11 @@
 //! Card 7: texts of sheets, sentence by sentence, and traces by sheets, each taken on a table and beside
 //! its history.
 
-use oracle::traces::{KINDS, MARKS, SHEETS, Step};
+use oracle::domain_traces::DOMAINS;
+use oracle::traces::{KINDS, MARKS, SHEETS, Step, whole};
 use oracle::{
-    Access, CARD_6, CELL, Event, History, Outcome, RAW, REFERENCE, Row, Sheet, Source, Span,
-    Spelling, Tally, Written, apply_by, combinations, listing, read_event_line, read_strikes,
+    Access, Act, By, CARD_6, CELL, History, Outcome, RAW, REFERENCE, Row, Sheet, Source, Span,
+    Spelling, Tally, Written, apply, combinations, listing, read_event_line, read_strikes,
     write_sheet,
 };
 
@@ -13,7 +14,7 @@ const ROWS: usize = 8;
 /// The bytes of card 6's sheet, by the places that the C header gives.
 const CARD_6_BYTES: [u8; 18] = [1, 1, 1, 0, 2, 2, 0, 0, 0, 0, 0, 2, 1, 1, 1, 0, 2, 2];
 
-fn event(line: &str) -> Event {
+fn act(line: &str) -> Act {
     let line = format!("{line}\n");
     read_event_line(line.as_bytes(), Spelling::Plain).expect("a line")
 }
@@ -25,10 +26,13 @@ fn listed(sheet: &Sheet, steps: &[Step]) -> String {
     let mut tally = Tally::default();
     let mut history = History::by(sheet.clone(), ROWS);
     for (line, expected) in steps {
-        let lent = Some(&mut written);
-        let answer = apply_by(Some(sheet), &mut rows, lent, &mut tally, event(line));
+        let by = By {
+            sheet: Some(sheet),
+            limits: &[],
+        };
+        let answer = apply(by, &mut rows, Some(&mut written), &mut tally, act(line));
         assert_eq!(answer, *expected, "{line}");
-        assert_eq!(history.answer(event(line)), *expected, "{line}");
+        assert_eq!(history.answer(&[], act(line)), *expected, "{line}");
         assert_eq!(history.table(), rows, "{line}");
         assert_eq!(history.written(), written, "{line}");
     }
@@ -39,7 +43,7 @@ fn listed(sheet: &Sheet, steps: &[Step]) -> String {
 fn every_trace_goes_as_it_says() {
     for (name, text, steps, expected) in SHEETS {
         let sheet = Sheet::read(text.as_bytes()).expect(name);
-        assert_eq!(listed(&sheet, steps), expected, "{name}");
+        assert_eq!(listed(&sheet, steps), whole(expected), "{name}");
     }
 }
 
@@ -47,6 +51,9 @@ fn every_trace_goes_as_it_says() {
 fn the_sheet_of_card_6_gives_its_verdicts() {
     let sheet = Sheet::lent(&[]);
     for (name, steps, expected) in KINDS.into_iter().chain(MARKS) {
+        assert_eq!(listed(&sheet, steps), whole(expected), "{name}");
+    }
+    for (name, steps, expected) in DOMAINS {
         assert_eq!(listed(&sheet, steps), expected, "{name}");
     }
     assert_eq!(sheet, Sheet::lent(&CARD_6_BYTES));
@@ -192,7 +199,7 @@ fn what_a_read_strikes() {
         "(borrow 1 8 8 rw)",
     ] {
         let lent = Some(&mut written);
-        assert!(apply_by(None, &mut rows, lent, &mut tally, event(line)).is_ok());
+        assert!(apply(By::default(), &mut rows, lent, &mut tally, act(line)).is_ok());
     }
     let live = &rows[..6];
     let struck = |sheet: Option<&Sheet>, user, start, length| {

@@ -3,24 +3,27 @@
 
 mod both;
 
-use both::{Both, ROWS, after, event};
-use oracle::traces::MARKS;
+use both::{Both, ROWS, act, after};
+use oracle::traces::{MARKS, whole};
 use oracle::{
-    Event, FRESH, READ_ONLY, READ_WRITE, Row, Span, Spelling, Tally, WRITTEN_BYTES, Written, apply,
-    check, drop_all, event_line, in_order, listing, read_event_line, read_listing, run,
+    Act, By, Event, FRESH, READ_ONLY, READ_WRITE, Row, Span, Spelling, Tally, WRITTEN_BYTES,
+    Written, apply, check, drop_all, event_line, in_order, listing, read_event_line, read_listing,
+    run,
 };
 
 fn span(start: u32, length: u32) -> Span {
     Span { start, length }
 }
 
-fn create(written: Option<u32>, right: u8, fresh: u32) -> Event {
-    Event::Create {
+fn create(written: Option<u32>, span: Span, right: u8, fresh: u32) -> Act {
+    let event = Event::Create {
         written,
-        span: span(0, 8),
+        span,
         right,
         fresh,
-    }
+        holders: 1,
+    };
+    Act { actor: 0, event }
 }
 
 // ---- marks, and how they are written
@@ -34,9 +37,9 @@ fn a_create_may_end_in_fresh() {
                 (Some(1), Spelling::Named, "1 "),
             ] {
                 let line = format!("(create {name}0 8 {right_word}{word})\n");
-                let event = create(written, right, fresh);
-                assert_eq!(event_line(event, spelling), Some(line.clone()));
-                assert_eq!(read_event_line(line.as_bytes(), spelling), Some(event));
+                let act = create(written, span(0, 8), right, fresh);
+                assert_eq!(event_line(act, spelling), Some(line.clone()));
+                assert_eq!(read_event_line(line.as_bytes(), spelling), Some(act));
             }
         }
     }
@@ -71,7 +74,9 @@ fn no_other_line_has_a_mark() {
 
 #[test]
 fn listings_have_it_after_the_kind() {
-    let text = "(issued 5)\n(1 0 8 rw fresh (2 0 4 ro cell fresh) (3 4 4 rw fresh))\n(4 8 8 ro)\n(5 16 0 ro fresh)\n";
+    let text = whole(
+        "(issued 5)\n(1 0 8 rw fresh (2 0 4 ro cell fresh) (3 4 4 rw fresh))\n(4 8 8 ro)\n(5 16 0 ro fresh)\n",
+    );
     let Both { rows, tally, .. } = after(&[
         ("(create 0 8 rw fresh)", Ok(1)),
         ("(borrow 1 0 4 ro cell)", Ok(2)),
@@ -92,7 +97,7 @@ fn listings_have_it_after_the_kind() {
         "(issued 2)\n(1 0 8 rw fresh (2 0 8 rw fresh raw))\n",
         "(issued 2)\n(1 0 8 rw (2 0 8 rw) fresh)\n",
     ];
-    for text in others {
+    for text in others.map(whole) {
         assert_eq!(read_listing(text.as_bytes(), 4), Err(2), "{text}");
     }
 }
@@ -131,19 +136,14 @@ fn other_marks_in_rows_are_refused() {
 #[test]
 fn other_marks_in_events_are_refused_and_have_no_spelling() {
     for fresh in [2, 255, 256, 257, 1 << 31, u32::MAX] {
-        let mut both = Both::empty();
-        assert_eq!(both.answer(create(None, READ_WRITE, fresh)), Err(2));
+        let mut both = Both::empty(ROWS);
+        let unmarked = create(None, span(0, 8), READ_WRITE, fresh);
+        assert_eq!(both.answer(&[], unmarked), Err(2));
         // 2 stands before 3.
-        let above = Event::Create {
-            written: None,
-            span: span(u32::MAX, 2),
-            right: READ_WRITE,
-            fresh,
-        };
-        assert_eq!(both.answer(above), Err(2));
+        let above = create(None, span(u32::MAX, 2), READ_WRITE, fresh);
+        assert_eq!(both.answer(&[], above), Err(2));
         assert_eq!(both.tally.refused, 2);
-        let event = create(None, READ_WRITE, fresh);
-        assert_eq!(event_line(event, Spelling::Plain), None);
+        assert_eq!(event_line(unmarked, Spelling::Plain), None);
     }
 }
 
@@ -155,14 +155,19 @@ fn any_other_number_of_bytes_is_1() {
         let lent = || Written::lent(&vec![0; length]);
         let (mut rows, mut tally) = (vec![Row::default(); ROWS], Tally::default());
         let before = (rows.clone(), tally);
-        for event in [event("(create 0 8 rw)"), event("(drop 1)"), Event::Unknown] {
-            let answer = apply(&mut rows, lent().as_mut(), &mut tally, event);
+        let by = By::default();
+        let unknown = Act {
+            actor: 0,
+            event: Event::Unknown,
+        };
+        for act in [act("(create 0 8 rw)"), act("(drop 1)"), unknown] {
+            let answer = apply(by, &mut rows, lent().as_mut(), &mut tally, act);
             assert_eq!(answer, Err(1));
         }
-        let answer = drop_all(&mut rows, lent().as_ref(), &mut tally, &[]);
+        let answer = drop_all(by, &mut rows, lent().as_ref(), &mut tally, 0, &[]);
         assert_eq!(answer, Err(1));
         for text in ["", "(create 0 8 rw)\n", "?"] {
-            let answer = run(&mut rows, lent().as_mut(), &mut tally, text.as_bytes());
+            let answer = run(by, &mut rows, lent().as_mut(), &mut tally, text.as_bytes());
             assert_eq!(answer, Err((1, 0)));
         }
         assert_eq!(before, (rows, tally));
@@ -171,9 +176,9 @@ fn any_other_number_of_bytes_is_1() {
 
 #[test]
 fn bytes_that_are_lent_are_looked_at() {
-    let mut both = Both::empty();
-    both.written.add(span(2, 4));
-    let mut lent = Written::lent(&both.written.bytes()).expect("as many bytes as it takes");
+    let mut written = Written::default();
+    written.add(span(2, 4));
+    let mut lent = Written::lent(&written.bytes()).expect("as many bytes as it takes");
     assert_eq!(lent.bytes()[..2], [4 + 8 + 16 + 32, 0]);
     let mut rows = of_marks(8, 1, 1);
     let mut tally = Tally {
@@ -187,7 +192,8 @@ fn bytes_that_are_lent_are_looked_at() {
         ("(write 1 6 2)", Ok(0)),
         ("(read 1 2 6)", Ok(0)),
     ] {
-        let answer = apply(&mut rows, Some(&mut lent), &mut tally, event(line));
+        let (by, written) = (By::default(), Some(&mut lent));
+        let answer = apply(by, &mut rows, written, &mut tally, act(line));
         assert_eq!(answer, expected, "{line}");
     }
     assert_eq!(lent.bytes()[..2], [255 - 3, 0]);
@@ -200,7 +206,7 @@ fn bytes_that_are_lent_are_looked_at() {
 fn every_trace_goes_as_it_says() {
     for (name, steps, expected) in MARKS {
         let Both { rows, tally, .. } = after(steps);
-        assert_eq!(listing(&rows, tally.issued), expected, "{name}");
+        assert_eq!(listing(&rows, tally.issued), whole(expected), "{name}");
     }
 }
 
@@ -228,6 +234,6 @@ fn long_spans() {
 #[test]
 fn capcheck_begins_with_nothing_written() {
     let input = "(create 0 8 rw fresh)\n(write 1 0 4)\n(read 1 0 4)\n(read 1 0 5)\n";
-    let printed = "(refused 16 4)\n(issued 1)\n(1 0 8 rw fresh)\n";
+    let printed = "(refused 16 4)\n(issued 1)\n(1 0 8 rw fresh 0 0000000000000001)\n";
     assert_eq!(check(input.as_bytes(), 100), Ok(printed.to_string()));
 }

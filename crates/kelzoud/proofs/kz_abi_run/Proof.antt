@@ -8,8 +8,7 @@ use Rattle.kelzoud.proofs.kz_abi_run.Statement.{statement}
 use Rattle.kelzoud.proofs.kz_abi_run.Tie as tie
 
 returns : tie.Need-returns
-returns c =
-    let e = rw (c .before .before .before .before .before .before .before .before .before .sheet-lent .ensures) at (c .before .before .before .before .run .ensures) in
+returns c = let e = rw (c .before .before .before .before .before .before .before .before .before .sheet-lent .ensures) at (c .before .before .before .before .run .ensures) in
     let p = ran-parts (c .before .before .before .before .run .result) _ _ e in
     (ap (λ (h : State). h .memory .table) (p .0), ap (λ (h : State). h .memory .bits) (p .0), ap (λ (h : State). h .tally) (p .0), c .packed-run .ensures ∙ p .1)
 

@@ -1,4 +1,4 @@
--- What is guessed of any text has starts and lengths of 32 bits.
+-- What is guessed of any text has starts and lengths of 32 bits, and masks of 64.
 -- Assumes nothing.
 use mathlib.Core.Bool.{Bool, true, false, cond, not}
 use mathlib.Core.List.{List, [], _∷_, _++_, reverse}
@@ -12,14 +12,14 @@ use Rattle.model.specs.Table.{emptyRow, named, liveRows, lentTable}
 use Rattle.model.proofs.Offered.{All, All-append, All-reverse, All-sub}
 use Rattle.text.specs.Class.{newline}
 use Rattle.text.specs.Line.{through}
-use Rattle.text.proofs.Offered.{number-of-small}
+use Rattle.text.proofs.Offered.{hex-of-small, number-of-small}
 use Rattle.listing.specs.Sort.{insert, sorted}
-use Rattle.listing.specs.Forms.{Reading, startText, lengthText, childrenText, rowOf, childFollows, readForm, readRun, readLine, lineFollows, readLines, guessRows}
+use Rattle.listing.specs.Forms.{Reading, startText, lengthText, maskText, childrenText, rowOf, childFollows, readForm, readRun, readLine, lineFollows, readLines, guessRows}
 use Rattle.listing.specs.ReadListing.{guessTable}
 use Rattle.listing.specs.Listable.{Small, SmallRows}
 
 row-small : (s : List ℕ) (parent depth : ℕ) → Small (rowOf s parent depth)
-row-small s parent depth = (number-of-small (startText s), number-of-small (lengthText s))
+row-small s parent depth = (number-of-small (startText s), number-of-small (lengthText s), hex-of-small (maskText s))
 
 -- the rows of one of two readings
 either : (t : Bool) (a b : Reading) → All Small (a .rows) → All Small (b .rows) → All Small (cond t a b .rows)
@@ -67,7 +67,7 @@ sorted-small (c ∷ rows) h = insert-small c (sorted rows) (h .0) (sorted-small 
 
 zeros-small : (n : ℕ) → All Small (replicate n emptyRow)
 zeros-small zero = tt
-zeros-small (suc n) = ((omega arith, omega arith), zeros-small n)
+zeros-small (suc n) = ((omega arith, omega arith, omega arith), zeros-small n)
 
 guess-rows-small : (s : List ℕ) → All Small (guessRows s)
 unfolding guessRows

@@ -15,15 +15,15 @@ use Rattle.table.specs.Words.{rowsIn}
 use Rattle.table.proofs.Offered.{length-in}
 use Rattle.table.specs.Rows.{nameAt, parentAt}
 use Rattle.text.specs.Event.{spaced, kindWord, freshWord}
-use Rattle.text.proofs.Offered.{right-length}
+use Rattle.text.proofs.Offered.{length-hex, right-length}
 use Rattle.listing.specs.First.{firstRows}
 use Rattle.listing.specs.Listing.{pieces, form, children, roots, formAt, childrenFrom, rootsFrom, issuedLine, listed, formLength, total, formsLength}
 use Rattle.listing.proofs.Laws.First.{length-first}
 use Rattle.listing.proofs.Laws.Sorted.{preorder, InOrder, sorted-preorder, total-sorted}
 
-pub form-length : (c : Cap) → formLength c ≡ 5 + length (spaced (c .name .0 ∷ c .start .0 ∷ c .length ∷ [])) + (length (kindWord (c .kind)) + length (freshWord (c .fresh)))
+pub form-length : (c : Cap) → formLength c ≡ 22 + length (spaced (c .name .0 ∷ c .start .0 ∷ c .length ∷ c .maker ∷ [])) + (length (kindWord (c .kind)) + length (freshWord (c .fresh)))
 unfolding formLength pieces spaced
-form-length c = simp (length-append, right-length) (omega arith)
+form-length c = simp (length-append, right-length, length-hex) (omega arith)
 
 pub length-form : (c : Cap) (inner : List ℕ) → length (form c inner) + 1 ≡ formLength c + length inner
 unfolding form formLength

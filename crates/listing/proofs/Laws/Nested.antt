@@ -7,14 +7,14 @@ use mathlib.Core.List.{List, [], _∷_, _++_, reverse, reverse-cons}
 use Prim.Native.Nat.{ℕ, _+_, _^_, _≤_, _<_}
 use native.Mathlib.Omega.{arith}
 use lib.Dec.{leb, eqb}
-use borrow.Author.Tests.{leb-true, eqb-true, eqb-false, eq-eqb}
+use borrow.Author.Tests.{leb-true, ltb-true, eqb-true, eqb-false, eq-eqb}
 use Rattle.model.specs.declared.Cap.{Cap}
 use Rattle.model.specs.Values.{inside}
 use Rattle.model.specs.Table.{span, derivation, named, lookup, isRight, isKind, isMark, rowFitsParent, parentInOrder, rowsInOrder}
 use Rattle.model.proofs.Offered.{All, All-map, All-append, All-reverse, test, and-both, fitting, rises, place, parentInOrder-rowFitsParent, lookup-each, All-zip}
 use Rattle.listing.specs.Listable.{SmallRows}
 
--- numbers of 32 bits, a right, a kind, and a mark
+-- numbers of 32 bits, a right, a kind, a mark, and a mask of 64 bits
 pub record Fields (c : Cap) : Type 0 where
   pub name : c .name .0 < 2 ^ 32
   pub start : c .start .0 < 2 ^ 32
@@ -22,6 +22,8 @@ pub record Fields (c : Cap) : Type 0 where
   pub right : isRight (c .right) ≡ true
   pub kind : isKind (c .kind) ≡ true
   pub fresh : isMark (c .fresh) ≡ true
+  pub maker : c .maker < 2 ^ 32
+  pub holders : c .holders < 2 ^ 64
 
 -- a row of the parent p, whose depth is d, is one deeper, and not too deep
 abbrev pub Deeper : ℕ → ℕ → Cap → Type 0
@@ -86,7 +88,18 @@ fields bound l [] small h = tt
 fields bound l (c ∷ rows) small h =
     let r = rises bound c rows h in
     let p = place c rows (r .in-place) in
-    (record { name = omega (arith, r .below-bound); start = small .0 .0; length = small .0 .1; right = p .has-right; kind = p .has-kind; fresh = fitting (derivation c) (p .has-terms) .has-mark }, fields (c .name .0) (omega (arith, r .below-bound)) rows (small .1) (r .rest))
+    let t = fitting (derivation c) (p .has-terms) in
+    let own : Fields c = record {
+      name = omega (arith, r .below-bound);
+      start = small .0 .0;
+      length = small .0 .1;
+      right = p .has-right;
+      kind = p .has-kind;
+      fresh = t .has-mark;
+      maker = omega (arith, ltb-true (c .maker) 64 (t .has-domain));
+      holders = small .0 .2;
+    } in
+    (own, fields (c .name .0) (omega (arith, r .below-bound)) rows (small .1) (r .rest))
 
 pub fields-reverse : (rows : List Cap) → SmallRows rows → (bound : ℕ) → bound ≤ 1000001 → rowsInOrder bound rows ≡ true → All Fields (reverse rows)
 fields-reverse rows small bound l h = All-reverse Fields rows (fields bound l rows small h)

@@ -27,14 +27,14 @@ use Rattle.listing.proofs.Laws.Padded.{stored-live, stored-order}
 
 -- ---- a table of zeros
 
-zero-rows : (n : ℕ) → rowsIn (replicate n (0 ∷ 0 ∷ 0 ∷ 0 ∷ 0 ∷ 0 ∷ 0 ∷ 0 ∷ [])) ≡ replicate n emptyRow
+zero-rows : (n : ℕ) → rowsIn (replicate n (0 ∷ 0 ∷ 0 ∷ 0 ∷ 0 ∷ 0 ∷ 0 ∷ 0 ∷ 0 ∷ 0 ∷ 0 ∷ [])) ≡ replicate n emptyRow
 unfolding rowsIn
 zero-rows zero = refl
 zero-rows (suc n) = ap {B = List Cap} (λ l. emptyRow ∷ l) (zero-rows n)
 
-pub stored-none : Stored (replicate 1024 (0 ∷ 0 ∷ 0 ∷ 0 ∷ 0 ∷ 0 ∷ 0 ∷ 0 ∷ [])) 0
+pub stored-none : Stored (replicate 1024 (0 ∷ 0 ∷ 0 ∷ 0 ∷ 0 ∷ 0 ∷ 0 ∷ 0 ∷ 0 ∷ 0 ∷ 0 ∷ [])) 0
 unfolding lentTable
-stored-none = record { few = omega arith; long = length-replicate {A = List ℕ} 1024 (0 ∷ 0 ∷ 0 ∷ 0 ∷ 0 ∷ 0 ∷ 0 ∷ 0 ∷ []); table = zero-rows 1024 }
+stored-none = record { few = omega arith; long = length-replicate {A = List ℕ} 1024 (0 ∷ 0 ∷ 0 ∷ 0 ∷ 0 ∷ 0 ∷ 0 ∷ 0 ∷ 0 ∷ 0 ∷ 0 ∷ []); table = zero-rows 1024 }
 
 -- ---- fewer rows of a table
 

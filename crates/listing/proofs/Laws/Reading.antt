@@ -14,7 +14,7 @@ use Rattle.text.specs.Class.{space}
 use Rattle.text.specs.Line.{through}
 use Rattle.text.specs.Event.{freshWord}
 use Rattle.model.specs.declared.Cap.{Cap}
-use Rattle.listing.specs.Forms.{Reading, nameText, startText, lengthText, kindLength, markOf, childrenText, rowOf, follows, childFollows, readForm, readRun}
+use Rattle.listing.specs.Forms.{Reading, nameText, startText, lengthText, kindLength, markOf, makerText, childrenText, rowOf, follows, childFollows, readForm, readRun}
 use Rattle.listing.specs.Stored.{Reads}
 
 -- ---- a part of a text that reaches to its end, by how many bytes it has
@@ -58,8 +58,9 @@ children-part s =
     let b = through space (nameText s) in
     let c = through space (startText s) in
     let d = through space (lengthText s) in
-    let e = 2 + (kindLength s + length (freshWord (markOf s))) in
-    (a + b + c + d + e, further s (a + b + c + d) e (further s (a + b + c) d (further s (a + b) c (further s a b refl))))
+    let e = 3 + (kindLength s + length (freshWord (markOf s))) in
+    let f = through space (makerText s) in
+    (a + b + c + d + e + f + 16, further s (a + b + c + d + e + f) 16 (further s (a + b + c + d + e) f (further s (a + b + c + d) e (further s (a + b + c) d (further s (a + b) c (further s a b refl))))))
 
 pub children-short : (s : List ℕ) {t : List ℕ} → t ≡ childrenText s → length t ≤ length s
 children-short s e =

@@ -14,7 +14,7 @@ use Rattle.model.specs.Effects.{lowered}
 use Rattle.model.proofs.Offered.{lower, live-lower, map-reverse}
 use Rattle.text.specs.Decimal.{decimal}
 use Rattle.text.specs.Event.{bytes, spaced, rightWord, kindWord, freshWord}
-use Rattle.listing.specs.Listing.{pieces, form, children, roots, issuedLine, listed, listing}
+use Rattle.listing.specs.Listing.{holding, pieces, form, children, roots, issuedLine, listed, listing}
 use Rattle.listing.specs.SameButRights.{SameButRights, done, byte, right}
 
 -- ---- texts
@@ -47,20 +47,25 @@ each-byte (right p) (suc (suc (suc i))) = each-byte p i
 -- ---- examples
 
 -- a right that is lowered
-one-lowered : SameButRights (bytes "(issued 1)\n(1 0 8 ro)\n") (bytes "(issued 1)\n(1 0 8 rw)\n")
-one-lowered = join (same (bytes "(issued 1)\n(1 0 8")) (right (same (bytes ")\n")))
+one-lowered : SameButRights (bytes "(issued 1)\n(1 0 8 ro 0 0000000000000001)\n") (bytes "(issued 1)\n(1 0 8 rw 0 0000000000000001)\n")
+one-lowered = join (same (bytes "(issued 1)\n(1 0 8")) (right (same (bytes " 0 0000000000000001)\n")))
 
 -- one of two
-child-lowered : SameButRights (bytes "(issued 2)\n(1 0 8 rw (2 0 4 ro cell))\n") (bytes "(issued 2)\n(1 0 8 rw (2 0 4 rw cell))\n")
-child-lowered = join (same (bytes "(issued 2)\n(1 0 8 rw (2 0 4")) (right (same (bytes " cell))\n")))
+child-lowered : SameButRights (bytes "(issued 2)\n(1 0 8 rw 0 0000000000000001 (2 0 4 ro cell 3 0000000000000009))\n")
+    (bytes "(issued 2)\n(1 0 8 rw 0 0000000000000001 (2 0 4 rw cell 3 0000000000000009))\n")
+child-lowered = join (same (bytes "(issued 2)\n(1 0 8 rw 0 0000000000000001 (2 0 4")) (right (same (bytes " cell 3 0000000000000009))\n")))
 
 -- one that is marked
-marked-lowered : SameButRights (bytes "(issued 1)\n(1 0 8 ro fresh)\n") (bytes "(issued 1)\n(1 0 8 rw fresh)\n")
-marked-lowered = join (same (bytes "(issued 1)\n(1 0 8")) (right (same (bytes " fresh)\n")))
+marked-lowered : SameButRights (bytes "(issued 1)\n(1 0 8 ro fresh 0 0000000000000001)\n") (bytes "(issued 1)\n(1 0 8 rw fresh 0 0000000000000001)\n")
+marked-lowered = join (same (bytes "(issued 1)\n(1 0 8")) (right (same (bytes " fresh 0 0000000000000001)\n")))
 
 -- a right that is raised is another text
-none-raised : SameButRights (bytes "(1 0 8 rw)") (bytes "(1 0 8 ro)") → ⊥
+none-raised : SameButRights (bytes "(1 0 8 rw 0 0000000000000001)") (bytes "(1 0 8 ro 0 0000000000000001)") → ⊥
 none-raised p = ⊎-elim (λ (e : 119 ≡ 111). omega arith) (λ e. let z = e .0 in omega arith) (each-byte p 8)
+
+-- so is one with another maker
+none-given : SameButRights (bytes "(1 0 8 rw 0 0000000000000003)") (bytes "(1 0 8 rw 1 0000000000000003)") → ⊥
+none-given p = ⊎-elim (λ (e : 48 ≡ 49). omega arith) (λ e. let z = e .0 in omega arith) (each-byte p 10)
 
 -- ---- rows
 
@@ -77,7 +82,7 @@ module _ (hit : ℕ → Bool) where
   unfolding pieces
   pieces-lowered c =
       join (same (decimal (c .name .0)))
-      (join (same (spaced (c .start .0 ∷ c .length ∷ []))) (join (right-lowered (hit (c .name .0)) (c .right)) (same (kindWord (c .kind) ++ freshWord (c .fresh)))))
+      (join (same (spaced (c .start .0 ∷ c .length ∷ []))) (join (right-lowered (hit (c .name .0)) (c .right)) (same (kindWord (c .kind) ++ (freshWord (c .fresh) ++ holding (c .maker) (c .holders))))))
 
   form-lowered : (c : Cap) {inner inner′ : List ℕ} → SameButRights inner inner′ → SameButRights (form (lower hit c) inner) (form c inner′)
   unfolding form

@@ -24,7 +24,7 @@ use Rattle.model.specs.Answers.{verdictOf}
 use Rattle.model.specs.Refusals.{refusals, judge}
 use Rattle.model.proofs.Offered.{test, disordered-keeps}
 use Rattle.table.specs.Words.{capOf, wordsOf, rowsIn}
-use Rattle.table.proofs.Offered.{length-in}
+use Rattle.table.proofs.Offered.{cap-back, length-in}
 use Rattle.rules.specs.declared.Outcome.{Outcome}
 use Rattle.rules.specs.Steps.{lends, Stepped}
 use Rattle.rules.specs.Records.{held, Requested}
@@ -37,7 +37,7 @@ map-append {A} {B} f (x ∷ xs) ys = ap {B = List B} (λ l. f x ∷ l) (map-appe
 pub rows-words : (ys : List Cap) → rowsIn (map wordsOf ys) ≡ ys
 unfolding rowsIn
 rows-words [] = refl
-rows-words (c ∷ ys) = ap {B = List Cap} (λ l. c ∷ l) (rows-words ys)
+rows-words (c ∷ ys) = ap {B = List Cap} (λ d. d ∷ rowsIn (map wordsOf ys)) (cap-back c) ∙ ap {B = List Cap} (λ l. c ∷ l) (rows-words ys)
 
 pub rows-take : (ws : List (List ℕ)) (n : ℕ) → rowsIn (take n ws) ≡ take n (rowsIn ws)
 unfolding rowsIn
@@ -112,7 +112,7 @@ requested-few sheet ws zs n bs bs′ t q r full l long s = record {
 pub requested-many : (sheet : Sheet) (ws : List (List ℕ)) (n : ℕ) (bs : List ℕ) (t : Tally) (q : Request) → 1024 < n → Requested sheet ws n bs t q ws bs (record { tally = t; answer = Refused Disordered })
 requested-many sheet ws n bs t q l = record { long = refl; few = λ h. absurd (omega arith); many = λ _. (refl, refl, refl) }
 
--- a longer table is not in order, whatever its bits: refusal 1, which changes nothing
+-- a longer table is not in order, whatever its bits and with whatever limits: refusal 1, which changes nothing
 too-long : (ys : List Cap) (bs : List ℕ) (t : Tally) (q : Request) → 1024 < length ys → Step.answer (lends ys bs t) q ≡ record { refusal = 1; name = 0 }
 unfolding judge refusals inOrder Step.answer
 too-long ys bs t q l = rw (lt-leb (length ys) 1024 l) refl

@@ -20,18 +20,21 @@ use Rattle.model.specs.declared.Sheet.{Sheet}
 use Rattle.model.specs.declared.Access.the-variants.{Reading, Writing}
 use Rattle.model.specs.declared.Tally.{Tally}
 use Rattle.rules.specs.declared.Outcome.{Outcome}
+use Rattle.model.specs.declared.Event.{Event}
 use Rattle.model.specs.declared.Event.the-variants.{Create, Borrow, Read, Write, Drop}
 use Rattle.model.specs.declared.Refusal.{Refusal}
 use Rattle.model.specs.declared.Answer.the-variants.{Allowed, Refused}
 use Rattle.model.specs.Lists.{any, all}
 use Rattle.model.specs.Strike.{isEnd, isLower, struck}
-use Rattle.model.specs.Step.{Verdict, Memory, State, verdict, outcome, after, answer}
+use Rattle.model.specs.Step.{Verdict, Memory, State, view, verdict, outcome, after, answer}
 use Rattle.model.specs.Table.{row, emptyRow, derivations, named, liveRows, lookup, lentTable, inOrder}
 use Rattle.model.specs.declared.Asked.{Asked}
 use Rattle.model.specs.declared.Asked.the-variants as ask
-use Rattle.model.specs.Requests.{Request, Single, Group, requestOf}
+use Rattle.model.specs.Requests.{Limits, Unlimited, Caller, Request, Single, caller, callerOf, requestOf}
 use Rattle.model.specs.Refusals.{unfit, viewOf, refusals, judge}
 use Rattle.model.specs.Bits.{bitsAfter}
+use Rattle.model.specs.Limits.{refusedSheet}
+use Rattle.model.specs.Sheet6.{sheet6}
 use Rattle.model.specs.Effects.{newName, afterAccess, rowsWithout, rowsAfter}
 use Rattle.model.specs.Counts.{countAllowed, countRefused}
 use Rattle.model.specs.Answers.{number, verdictOf}
@@ -40,7 +43,7 @@ use Rattle.table.specs.Known.{Sized}
 use Rattle.table.specs.Rows.{nameAt, before, Filled, Front, Found, Places, Orderly}
 use Rattle.rules.specs.Engine.{Marked, kept, Ready, Settled}
 use Rattle.rules.specs.Steps.{lends, Stepped, AllowedOn}
-use Rattle.model.proofs.Offered.{allowed, fit-not-1, access-fits, Named, live-lent, ordered, live-named, access-inOrder, access-named, order-after}
+use Rattle.model.proofs.Offered.{allowed, fit-not-1, fit-all, fit-sheet, fit-after, Named, live-lent, ordered, live-named, access-inOrder, access-named, next-fits, order-after}
 use Rattle.table.proofs.Offered.{length-in, before-suc, before-same, length-before, extend, Alike, places-more, found-zero, numbered, orderly-live, orderly-rise, orderly-standing, orderly-zeros}
 use Rattle.rules.proofs.Laws.Settle.{before-lent, kept-revoke}
 
@@ -87,24 +90,27 @@ module _ (ws : List (List ℕ)) (k issued : ℕ) (o : Orderly (rowsIn ws) (lengt
   live-is : liveRows T ≡ before T k
   live-is = orderly-live T (length ws) k issued o
 
-  room-of : leb (length T) (length (liveRows T)) ≡ false → k < length ws
-  room-of h = omega (arith, leb-false (length T) (length (liveRows T)) h, o .all, ap length live-is ∙ length-before T k)
+  pub room-create : (actor : ℕ) (w : NewName) (s : Span) (r : Terms) → AllowedOn T issued (ask.Single actor (Create w s r)) [] → (sheet : Sheet) → length (afterAccess sheet Writing (issued + 1) s (before T k)) < length ws
+  unfolding rowsAfter
+  room-create actor w s r h sheet =
+      rw (add-one issued)
+      (omega (arith, next-fits sheet (viewOf T (h .bits) issued) (ordered T issued (o .ordered)) (Single (caller actor (h .limits)) (Create w s r)) (h .judged), o .all, ap (λ (rows : List Cap). length (afterAccess sheet Writing (suc issued) s rows)) live-is))
 
-  pub room-create : (w : NewName) (s : Span) (r : Terms) → AllowedOn T issued (Single (Create w s r)) → k < length ws
-  unfolding refusals
-  room-create w s r h = room-of (allowed (viewOf T (h .bits) issued) (Single (Create w s r)) (h .judged) 10)
+  module _ (actor : ℕ) (w : NewName) (u : Name) (s : Span) (r : Terms) (h : AllowedOn T issued (ask.Single actor (Borrow w u s r)) []) where
+    abbrev borrowed : Request
+    borrowed = Single (caller actor (h .limits)) (Borrow w u s r)
 
-  pub room-borrow : (w : NewName) (u : Name) (s : Span) (r : Terms) → AllowedOn T issued (Single (Borrow w u s r)) → k < length ws
-  unfolding refusals
-  room-borrow w u s r h = room-of (allowed (viewOf T (h .bits) issued) (Single (Borrow w u s r)) (h .judged) 10)
+    pub room-borrow : k < length ws
+    unfolding rowsAfter
+    room-borrow = omega (arith, next-fits sheet6 (viewOf T (h .bits) issued) (ordered T issued (o .ordered)) borrowed (h .judged), o .all, ap length live-is, length-before T k)
 
-  pub there-borrow : (w : NewName) (u : Name) (s : Span) (r : Terms) → AllowedOn T issued (Single (Borrow w u s r)) → any (named (u .0)) (before T k) ≡ true
-  unfolding refusals
-  there-borrow w u s r h = rw live-is at (not-false (any (named (u .0)) (liveRows T)) (allowed (viewOf T (h .bits) issued) (Single (Borrow w u s r)) (h .judged) 5))
+    pub there-borrow : any (named (u .0)) (before T k) ≡ true
+    unfolding refusals
+    there-borrow = rw live-is at (not-false (any (named (u .0)) (liveRows T)) (allowed (viewOf T (h .bits) issued) borrowed (h .judged) 5))
 
-  pub depth-borrow : (w : NewName) (u : Name) (s : Span) (r : Terms) → AllowedOn T issued (Single (Borrow w u s r)) → lookup (u .0) (before T k) .depth < 64
-  unfolding refusals
-  depth-borrow w u s r h = leb-false 64 (lookup (u .0) (before T k) .depth) (rw live-is at (allowed (viewOf T (h .bits) issued) (Single (Borrow w u s r)) (h .judged) 8))
+    pub depth-borrow : lookup (u .0) (before T k) .depth < 64
+    unfolding refusals
+    depth-borrow = leb-false 64 (lookup (u .0) (before T k) .depth) (rw live-is at (allowed (viewOf T (h .bits) issued) borrowed (h .judged) 8))
 
 -- after an access through any name the table is in order, its live rows are those that are left, and they are no more than before
 module _ (ws : List (List ℕ)) (k issued : ℕ) (o : Orderly (rowsIn ws) (length ws) k issued) (sheet : Sheet) (a : Access) (u : ℕ) (s : Span) (ws′ : List (List ℕ)) {r : ℕ} {places : List ℕ}
@@ -130,8 +136,8 @@ module _ (ws : List (List ℕ)) (k issued : ℕ) (o : Orderly (rowsIn ws) (lengt
       sym (orderly-live (rowsIn ws′) (length ws′) r issued access-orderly) ∙ ap liveRows (left .table)
       ∙ live-lent (length ws) (afterAccess sheet a u s old) (access-named sheet old (subst Named live-old (live-named (rowsIn ws))) a u s)
 
-  pub access-few : r ≤ k
-  access-few = omega (arith, length-before (rowsIn ws′) r, ap length access-rows, access-fits sheet a u s old, length-before (rowsIn ws) k)
+  pub access-few : r ≡ length (afterAccess sheet a u s old)
+  access-few = omega (arith, length-before (rowsIn ws′) r, ap length access-rows)
 
   pub access-ready : Ready ws′ r
   access-ready = ready ws′ r issued access-orderly
@@ -142,6 +148,16 @@ module _ (ws : List (List ℕ)) (k issued : ℕ) (o : Orderly (rowsIn ws) (lengt
 
 -- ---- the whole step
 
+-- the limits of what is asked are those that are lent with it
+module _ (P : Limits → Type 0) (limits : Limits) where
+  pub with-limits : (asked : Asked) (names : List ℕ) → P limits → P (callerOf (requestOf limits asked names) .limits)
+  with-limits (ask.Single actor e) names h = h
+  with-limits (ask.Group actor) names h = h
+
+  pub without-limits : (asked : Asked) (names : List ℕ) → P (callerOf (requestOf limits asked names) .limits) → P limits
+  without-limits (ask.Single actor e) names h = h
+  without-limits (ask.Group actor) names h = h
+
 settled-refused : (sheet : Sheet) (h : State) (req : Request) (j : ℕ) → (j ≡ 0 → ⊥) → (j ≡ 1 → ⊥) → (outcome sheet j h req .memory ≡ h .memory) × (outcome sheet j h req .tally ≡ countRefused (h .tally))
 settled-refused sheet h req zero a b = absurd (a refl)
 settled-refused sheet h req (suc zero) a b = absurd (b refl)
@@ -151,8 +167,8 @@ module _ (sheet : Sheet) (ws : List (List ℕ)) (bs : List ℕ) (t : Tally) (req
   abbrev judged : ℕ
   judged = judge (viewOf (rowsIn ws) bs (t .issued)) req
 
-  -- a table out of order, or another number of bytes
-  pub stepped-unfit : unfit (viewOf (rowsIn ws) bs (t .issued)) ≡ true → (r : Outcome) → r .tally ≡ t → verdictOf (r .answer) ≡ record { refusal = 1; name = 0 } → Stepped sheet ws bs t req ws bs r
+  -- a table out of order, another number of bytes, or limits that are refused
+  pub stepped-unfit : unfit (callerOf req .limits) (viewOf (rowsIn ws) bs (t .issued)) ≡ true → (r : Outcome) → r .tally ≡ t → verdictOf (r .answer) ≡ record { refusal = 1; name = 0 } → Stepped sheet ws bs t req ws bs r
   unfolding judge refusals after answer
   stepped-unfit h r y a = record { table = rw h; bits = rw h; tally = y ∙ rw h; answer = a ∙ rw h }
 
@@ -175,9 +191,9 @@ module _ (sheet : Sheet) (ws : List (List ℕ)) (bs : List ℕ) (t : Tally) (req
         zero-is = allowed-zero x q
 
     -- a refused one
-    pub stepped-refused : Sized bs → (y : Tally) (x : Refusal) → verdictOf (Refused x) ≡ verdict judged (newName (t .issued) req) → y ≡ countRefused t → Stepped sheet ws bs t req ws bs (record { tally = y; answer = Refused x })
+    pub stepped-refused : Sized bs → refusedSheet (rowsIn ws) (callerOf req .limits) ≡ false → (y : Tally) (x : Refusal) → verdictOf (Refused x) ≡ verdict judged (newName (t .issued) req) → y ≡ countRefused t → Stepped sheet ws bs t req ws bs (record { tally = y; answer = Refused x })
     unfolding after answer
-    stepped-refused b y x q c = record {
+    stepped-refused b l y x q c = record {
       table = ap (λ (m : Memory). m .table) (sym (left .0));
       bits = ap (λ (m : Memory). m .bits) (sym (left .0));
       tally = c ∙ sym (left .1);
@@ -188,44 +204,87 @@ module _ (sheet : Sheet) (ws : List (List ℕ)) (bs : List ℕ) (t : Tally) (req
         is = sym (ap (λ (r : Verdict). r .refusal) q)
 
         left : (outcome sheet judged (lends (rowsIn ws) bs t) req .memory ≡ lends (rowsIn ws) bs t .memory) × (outcome sheet judged (lends (rowsIn ws) bs t) req .tally ≡ countRefused t)
-        left = settled-refused sheet (lends (rowsIn ws) bs t) req judged (λ z. eqb-false (number x) 0 (numbered x) (sym is ∙ z)) (fit-not-1 (viewOf (rowsIn ws) bs (t .issued)) req (rw (o .ordered, b)))
+        left = settled-refused sheet (lends (rowsIn ws) bs t) req judged (λ z. eqb-false (number x) 0 (numbered x) (sym is ∙ z)) (fit-not-1 (viewOf (rowsIn ws) bs (t .issued)) req (fit-all (callerOf req .limits) (viewOf (rowsIn ws) bs (t .issued)) (o .ordered) l b))
 
--- the table is in order after it too
-pub orderly-after : (sheet : Sheet) (ws : List (List ℕ)) (bs : List ℕ) (t : Tally) (req : Request) (k : ℕ) (ws′ : List (List ℕ)) (bs′ : List ℕ) (r : Outcome) (live : ℕ) → length ws′ ≡ length ws → Orderly (rowsIn ws) (length ws) k (t .issued) → Stepped sheet ws bs t req ws′ bs′ r → Front (rowsIn ws′) (length ws) live → Orderly (rowsIn ws′) (length ws′) live (r .tally .issued)
-orderly-after sheet ws bs t req k ws′ bs′ r live long o s f = record {
-  few = rw long (o .few);
-  all = length-in ws′;
-  front = rw long f;
-  ordered =
-      ap₂ (λ (rows : List Cap) (y : Tally). inOrder rows (y .issued)) (s .table) (s .tally)
-      ∙ order-after sheet (lends (rowsIn ws) bs t) req (o .ordered);
-}
+pub all-fit : (ws : List (List ℕ)) (bs : List ℕ) (t : Tally) (req : Request) (k : ℕ) → Orderly (rowsIn ws) (length ws) k (t .issued) → Sized bs → refusedSheet (rowsIn ws) (callerOf req .limits) ≡ false
+    → unfit (callerOf req .limits) (viewOf (rowsIn ws) bs (t .issued)) ≡ false
+all-fit ws bs t req k o b l = fit-all (callerOf req .limits) (viewOf (rowsIn ws) bs (t .issued)) (o .ordered) l b
+
+-- the table is in order after it too, and what is fit stays fit
+module _ (sheet : Sheet) (ws : List (List ℕ)) (bs : List ℕ) (t : Tally) (req : Request) (ws′ : List (List ℕ)) (bs′ : List ℕ) (r : Outcome) (s : Stepped sheet ws bs t req ws′ bs′ r) where
+  pub orderly-after : (k live : ℕ) → length ws′ ≡ length ws → Orderly (rowsIn ws) (length ws) k (t .issued) → Front (rowsIn ws′) (length ws) live → Orderly (rowsIn ws′) (length ws′) live (r .tally .issued)
+  orderly-after k live long o f = record {
+    few = rw long (o .few);
+    all = length-in ws′;
+    front = rw long f;
+    ordered =
+        ap₂ (λ (rows : List Cap) (y : Tally). inOrder rows (y .issued)) (s .table) (s .tally)
+        ∙ order-after sheet (lends (rowsIn ws) bs t) req (o .ordered);
+  }
+
+  pub allowed-after : unfit (callerOf req .limits) (viewOf (rowsIn ws) bs (t .issued)) ≡ false → refusedSheet (rowsIn ws′) (callerOf req .limits) ≡ false
+  allowed-after f =
+      ap (λ (rows : List Cap). refusedSheet rows (callerOf req .limits)) (s .table)
+      ∙ fit-sheet (callerOf req .limits) (view (after sheet (lends (rowsIn ws) bs t) req)) (fit-after sheet (lends (rowsIn ws) bs t) req f)
 
 -- ---- the rows after an event
 
-module _ (sheet : Sheet) (issued : ℕ) (rows : List Cap) where
-  pub next-create : (w : NewName) (s : Span) (r : Terms) (c : Cap) → c ≡ row (record { name = issued + 1; parent = 0; span = s; kind = 0; fresh = r .fresh }) (r .right) 1 → c ∷ afterAccess sheet Writing (issued + 1) s rows ≡ rowsAfter sheet issued rows (Single (Create w s r))
+module _ (sheet : Sheet) (issued : ℕ) (rows : List Cap) (by : Caller) where
+  pub next-create : (w : NewName) (s : Span) (r : Terms) (c : Cap) → c ≡ row (record { name = issued + 1; parent = 0; span = s; kind = 0; fresh = r .fresh; maker = by .actor; holders = r .holders }) (r .right) 1 → c ∷ afterAccess sheet Writing (issued + 1) s rows ≡ rowsAfter sheet issued rows (Single by (Create w s r))
   unfolding rowsAfter
   next-create w s r c e = rw (e, add-one)
 
   -- the parent's row gives the depth and the mark
-  pub next-borrow : (w : NewName) (u : Name) (s : Span) (r : Terms) (p c : Cap) → p ≡ lookup (u .0) rows → c ≡ row (record { name = issued + 1; parent = u .0; span = s; kind = r .kind; fresh = p .fresh }) (r .right) (p .depth + 1) → c ∷ rows ≡ rowsAfter sheet issued rows (Single (Borrow w u s r))
+  pub next-borrow : (w : NewName) (u : Name) (s : Span) (r : Terms) (p c : Cap) → p ≡ lookup (u .0) rows → c ≡ row (record { name = issued + 1; parent = u .0; span = s; kind = r .kind; fresh = p .fresh; maker = by .actor; holders = r .holders }) (r .right) (p .depth + 1) → c ∷ rows ≡ rowsAfter sheet issued rows (Single by (Borrow w u s r))
   unfolding rowsAfter
   next-borrow w u s r p c f e = rw (e, f, add-one issued, add-one)
 
-  pub next-read : (u : Name) (s : Span) → afterAccess sheet Reading (u .0) s rows ≡ rowsAfter sheet issued rows (Single (Read u s))
+  pub next-read : (u : Name) (s : Span) → afterAccess sheet Reading (u .0) s rows ≡ rowsAfter sheet issued rows (Single by (Read u s))
   unfolding rowsAfter
   next-read u s = refl
 
-  pub next-write : (u : Name) (s : Span) → afterAccess sheet Writing (u .0) s rows ≡ rowsAfter sheet issued rows (Single (Write u s))
+  pub next-write : (u : Name) (s : Span) → afterAccess sheet Writing (u .0) s rows ≡ rowsAfter sheet issued rows (Single by (Write u s))
   unfolding rowsAfter
   next-write u s = refl
 
-  pub next-drop : (u : Name) → rowsWithout (u .0 ∷ []) rows ≡ rowsAfter sheet issued rows (Single (Drop u))
+  pub next-drop : (u : Name) → rowsWithout (u .0 ∷ []) rows ≡ rowsAfter sheet issued rows (Single by (Drop u))
   unfolding rowsAfter
   next-drop u = refl
 
--- what counts of a request is what is asked; the names that are lent beside it do not
-pub counted : (asked : Asked) (names : List ℕ) (t : Tally) → countAllowed (requestOf asked []) t ≡ countAllowed (requestOf asked names) t
-counted (ask.Single e) names t = refl
-counted ask.Group names t = refl
+-- ---- what is asked
+
+-- bits and counts do not go by who asks
+pub bits-by : (bits : List ℕ) (e : Event) (by other : Caller) → bitsAfter bits (Single by e) ≡ bitsAfter bits (Single other e)
+unfolding bitsAfter
+bits-by bits (Create w s r) by other = refl
+bits-by bits (Borrow w u s r) by other = refl
+bits-by bits (Read u s) by other = refl
+bits-by bits (Write u s) by other = refl
+bits-by bits (Drop u) by other = refl
+
+pub count-by : (e : Event) (t : Tally) (by other : Caller) → countAllowed (Single by e) t ≡ countAllowed (Single other e) t
+count-by (Create w s r) t by other = refl
+count-by (Borrow w u s r) t by other = refl
+count-by (Read u s) t by other = refl
+count-by (Write u s) t by other = refl
+count-by (Drop u) t by other = refl
+
+-- the limits decide nothing once it is allowed, and of names dropped together only the rows know which they are
+module _ (limits : Limits) (names : List ℕ) where
+  pub same-rows : (sheet : Sheet) (issued : ℕ) (rows : List Cap) (asked : Asked) → rowsAfter sheet issued rows (requestOf Unlimited asked names) ≡ rowsAfter sheet issued rows (requestOf limits asked names)
+  unfolding rowsAfter
+  same-rows sheet issued rows (ask.Single actor (Create w s r)) = refl
+  same-rows sheet issued rows (ask.Single actor (Borrow w u s r)) = refl
+  same-rows sheet issued rows (ask.Single actor (Read u s)) = refl
+  same-rows sheet issued rows (ask.Single actor (Write u s)) = refl
+  same-rows sheet issued rows (ask.Single actor (Drop u)) = refl
+  same-rows sheet issued rows (ask.Group actor) = refl
+
+  pub same-bits : (bits : List ℕ) (asked : Asked) → bitsAfter bits (requestOf Unlimited asked []) ≡ bitsAfter bits (requestOf limits asked names)
+  unfolding bitsAfter
+  same-bits bits (ask.Single actor e) = bits-by bits e (caller actor Unlimited) (caller actor limits)
+  same-bits bits (ask.Group actor) = refl
+
+  pub counted : (asked : Asked) (t : Tally) → countAllowed (requestOf Unlimited asked []) t ≡ countAllowed (requestOf limits asked names) t
+  counted (ask.Single actor e) t = count-by e t (caller actor Unlimited) (caller actor limits)
+  counted (ask.Group actor) t = refl

@@ -38,17 +38,17 @@ module _ (names : List ℕ) (i x : ℕ) where
 
 -- ---- names in turn
 
-module _ (rows : List Cap) (issued : ℕ) (names : List ℕ) (i : ℕ) where
+module _ (rows : List Cap) (issued actor : ℕ) (names : List ℕ) (i : ℕ) where
   abbrev number : ℕ
-  number = first (standing rows issued (record { 0 = getD names i 0 }))
+  number = first (standing rows issued actor (record { 0 = getD names i 0 }))
 
-  pub names-stop : i < length names → (m : ℕ) → eqb m 0 ≡ false → number ≡ m → first (standings rows issued (drop i names)) ≡ m
+  pub names-stop : i < length names → (m : ℕ) → eqb m 0 ≡ false → number ≡ m → first (standings rows issued actor (drop i names)) ≡ m
   names-stop h zero z e = clash refl z
-  names-stop h (suc k) z e = rw (drop-cons names i 0) (name-refused rows issued (getD names i 0) (drop (suc i) names) k e)
+  names-stop h (suc k) z e = rw (drop-cons names i 0) (name-refused rows issued actor (getD names i 0) (drop (suc i) names) k e)
 
-  pub names-on : i < length names → number ≡ 0 → first (standings rows issued (drop i names)) ≡ first (standings rows issued (drop (i + 1) names))
-  names-on h z = rw (drop-cons names i 0, add-one) (name-passed rows issued (getD names i 0) (drop (suc i) names) z)
+  pub names-on : i < length names → number ≡ 0 → first (standings rows issued actor (drop i names)) ≡ first (standings rows issued actor (drop (i + 1) names))
+  names-on h z = rw (drop-cons names i 0, add-one) (name-passed rows issued actor (getD names i 0) (drop (suc i) names) z)
 
-  pub names-end : length names ≤ i → first (standings rows issued (drop i names)) ≡ 0
+  pub names-end : length names ≤ i → first (standings rows issued actor (drop i names)) ≡ 0
   unfolding standings
   names-end h = rw (drop-of-length-le names h)

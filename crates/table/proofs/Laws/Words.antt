@@ -6,11 +6,11 @@ use mathlib.Core.Bool.{true, false}
 use mathlib.Core.List.{List, [], _∷_}
 use Prim.Native.Nat.{ℕ, zero, suc, _≤_, _<_}
 use native.Mathlib.Omega.{arith}
-use native.Mathlib.Nat.{le-of-eq}
+use native.Mathlib.Nat.{le-of-eq, div-add-mod'}
 use lib.ListN.{length, getD, set, length-map, List·getD-map, List·getD-eq-default}
 use Rattle.model.specs.declared.Cap.{Cap}
 use Rattle.model.specs.Table.{emptyRow}
-use Rattle.table.specs.Words.{capOf, wordsOf, rowsIn}
+use Rattle.table.specs.Words.{maskOf, lowHalf, highHalf, capOf, wordsOf, rowsIn}
 use Rattle.table.specs.Rows.{nameAt, Filled, Rise}
 use Rattle.model.proofs.Offered.{test}
 use borrow.Author.Tests.{leb-true, leb-false}
@@ -24,10 +24,18 @@ pub in-at : (ws : List (List ℕ)) (i : ℕ) → getD (rowsIn ws) i emptyRow ≡
 unfolding rowsIn
 in-at ws i = List·getD-map capOf ws i []
 
+-- a mask is its halves
+joined-halves : (mask : ℕ) → maskOf (lowHalf mask) (highHalf mask) ≡ mask
+joined-halves mask = omega (arith, div-add-mod' mask 4294967296)
+
+-- a row is what its words are
+pub cap-back : (c : Cap) → capOf (wordsOf c) ≡ c
+cap-back c = λ i. record { name = c .name; parent = c .parent; start = c .start; length = c .length; right = c .right; depth = c .depth; kind = c .kind; fresh = c .fresh; maker = c .maker; holders = joined-halves (c .holders) i }
+
 pub in-set : (ws : List (List ℕ)) (i : ℕ) (c : Cap) → rowsIn (set ws i (wordsOf c)) ≡ set (rowsIn ws) i c
 unfolding rowsIn
 in-set [] i c = refl
-in-set (w ∷ ws) zero c = refl
+in-set (w ∷ ws) zero c = ap {B = List Cap} (λ d. d ∷ rowsIn ws) (cap-back c)
 in-set (w ∷ ws) (suc i) c = ap {B = List Cap} (λ l. capOf w ∷ l) (in-set ws i c)
 
 -- past the end there is no named row

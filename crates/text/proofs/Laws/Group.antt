@@ -14,19 +14,22 @@ use lib.Seq.{drop-drop, append-snoc, take-suc-set, sets-eq}
 use borrow.Author.Tests.{leb-true, le-leb}
 use Rattle.model.proofs.Offered.{and-both}
 use Rattle.model.specs.declared.Refusal.{Refusal}
+use Rattle.model.specs.Table.{isDomain}
 use Rattle.model.specs.Requests.{isGroup, risesStrictly}
 use Rattle.text.specs.Result.{value, refused}
 use Rattle.text.specs.Class.{space}
 use Rattle.text.specs.Line.{through, afterSpace}
 use Rattle.text.specs.Decimal.{numberOf}
-use Rattle.text.specs.Event.{bytes, Below32}
+use Rattle.text.specs.Event.{bytes, front, back, Below32}
+use Rattle.text.specs.Read.{actorOf, formOf}
 use Rattle.text.specs.Write.{writtenAnswer, Writes, Outcome, outcome}
 use Rattle.text.specs.Group.{spellGroup, namesFrom, guessNames, isGroupSpelling, readGroup, namesAfter, writeGroup}
 use Rattle.text.specs.declared.write.Written.{Written}
 use Rattle.text.specs.declared.write.Written.the-variants.{Length, Refused}
 use Rattle.text.proofs.Laws.Number.{number-of-small}
+use Rattle.text.proofs.Laws.Acting.{around-short}
 use Rattle.text.proofs.Laws.Range.{line-short}
-use Rattle.text.proofs.Laws.Write.{Wrote, wrote, wrote-none}
+use Rattle.text.proofs.Laws.Write.{Wrote, wrote, wrote-nothing}
 
 -- ---- the names of a line
 
@@ -90,26 +93,33 @@ pub guess-few : (s : List ℕ) → length (guessNames s) ≤ 64
 unfolding guessNames
 guess-few s = names-few 64 (afterSpace s)
 
-pub group-short : (names : List ℕ) → length names ≤ 64 → Below32 names → length (spellGroup names) ≤ 711
+pub group-short : (actor : ℕ) (names : List ℕ) → isDomain actor ≡ true → length names ≤ 64 → Below32 names → length (spellGroup actor names) ≤ 719
 unfolding spellGroup
-group-short names h b = omega (arith, line-short (bytes "(drop") names (bytes ")\n") b)
+group-short actor names d h b = omega (arith, line-short (front actor) (bytes "(drop") names (back actor) b, around-short actor d)
 
-pub guess-short : (s : List ℕ) → length (spellGroup (guessNames s)) ≤ 711
-guess-short s = group-short (guessNames s) (guess-few s) (guess-below s)
+pub guess-short : (actor : ℕ) (s : List ℕ) → isDomain actor ≡ true → length (spellGroup actor (guessNames s)) ≤ 719
+guess-short actor s d = group-short actor (guessNames s) d (guess-few s) (guess-below s)
 
 -- names that are read stand first among the lent ones, and the later ones stay
-pub names-after : (names before : List ℕ) → length names ≤ length before → namesAfter (value names) before ≡ names ++ drop (length names) before
-names-after names before h = sets-eq names before 0 (omega arith) ∙ ap (λ (k : ℕ). names ++ drop k before) (zero-add (length names))
+pub names-after : (actor : ℕ) (names before : List ℕ) → length names ≤ length before → namesAfter (value (actor, names)) before ≡ names ++ drop (length names) before
+names-after actor names before h = sets-eq names before 0 (omega arith) ∙ ap (λ (k : ℕ). names ++ drop k before) (zero-add (length names))
 
 -- ---- the reader
 
-pub read-found : (s : List ℕ) → isGroupSpelling s (guessNames s) ≡ true → readGroup s ≡ value (guessNames s)
-unfolding readGroup
-read-found s h = rw h
+module _ (s : List ℕ) where
+  abbrev by : ℕ
+  by = actorOf s
 
-pub read-none : (s : List ℕ) → isGroupSpelling s (guessNames s) ≡ false → readGroup s ≡ refused 2
-unfolding readGroup
-read-none s h = rw h
+  abbrev found : List ℕ
+  found = guessNames (formOf s)
+
+  pub read-found : isGroupSpelling s by found ≡ true → readGroup s ≡ value (by, found)
+  unfolding readGroup
+  read-found h = rw h
+
+  pub read-none : isGroupSpelling s by found ≡ false → readGroup s ≡ refused 2
+  unfolding readGroup
+  read-none h = rw h
 
 -- ---- the writer
 
@@ -119,35 +129,37 @@ group-few names h =
     let few = and-both (leb 1 (length names) && leb (length names) 64) (risesStrictly names) h .0 in
     leb-true (length names) 64 (and-both (leb 1 (length names)) (leb (length names) 64) few .1)
 
-pub misgrouped-written : (names out : List ℕ) → isGroup names ≡ false → writeGroup names out ≡ record { answer = refused 13; buffer = out }
+pub misgrouped-written : (actor : ℕ) (names out : List ℕ) → isGroup names ≡ false → writeGroup actor names out ≡ record { answer = refused 13; buffer = out }
 unfolding writeGroup
-misgrouped-written names out h = rw h
+misgrouped-written actor names out h = rw h
 
-module _ (names out : List ℕ) {after : List ℕ} {r : Written} where
-  pub group-written : isGroup names ≡ true → Writes true (spellGroup names) out after r → outcome r after ≡ writeGroup names out
+module _ (actor : ℕ) (names out : List ℕ) {after : List ℕ} {r : Written} where
+  pub group-written : isGroup names ≡ true → Writes (isDomain actor) (spellGroup actor names) out after r → outcome r after ≡ writeGroup actor names out
   unfolding writeGroup
   group-written h w = rw h (λ i. record { answer = w .answer i; buffer = w .buffer i })
 
-  written-group : isGroup names ≡ true → outcome r after ≡ writeGroup names out → Writes true (spellGroup names) out after r
+  written-group : isGroup names ≡ true → outcome r after ≡ writeGroup actor names out → Writes (isDomain actor) (spellGroup actor names) out after r
   unfolding writeGroup
   written-group h e =
       let is = rw h at e in
       record { answer = ap (λ (o : Outcome). o .answer) is; buffer = ap (λ (o : Outcome). o .buffer) is }
 
-  -- an answer of n bytes tells that the names are a group, and that the buffer begins with its spelling
-  pub wrote-group : (n : ℕ) → outcome r after ≡ writeGroup names out → r ≡ Length n → (isGroup names ≡ true) × Wrote true (spellGroup names) after n
+  -- an answer of n bytes tells that the names are a group, that who acts is a domain, and that the buffer begins with the spelling
+  pub wrote-group : (n : ℕ) → outcome r after ≡ writeGroup actor names out → r ≡ Length n
+      → (isGroup names ≡ true) × Wrote (isDomain actor) (spellGroup actor names) after n
   wrote-group n e is = go (isGroup names) refl
     where
-      go : (t : Bool) → isGroup names ≡ t → (isGroup names ≡ true) × Wrote true (spellGroup names) after n
+      go : (t : Bool) → isGroup names ≡ t → (isGroup names ≡ true) × Wrote (isDomain actor) (spellGroup actor names) after n
       go true g = (g, wrote n (written-group g e) is)
       go false g =
-          let answer : value n ≡ refused 13 = ap writtenAnswer (sym is) ∙ ap (λ (o : Outcome). o .answer) (e ∙ misgrouped-written names out g) in
+          let answer : value n ≡ refused 13 = ap writtenAnswer (sym is) ∙ ap (λ (o : Outcome). o .answer) (e ∙ misgrouped-written actor names out g) in
           absurd (let z : _≡_ {A = ℕ} 0 1 = cc in omega arith)
 
-  -- a refusal where there is room tells that they are none
-  pub wrote-no-group : (f : Refusal) → outcome r after ≡ writeGroup names out → length (spellGroup names) ≤ length out → r ≡ Refused f → isGroup names ≡ false
-  wrote-no-group f e room is = go (isGroup names) refl
+  -- a refusal where there is room tells that they are none, or that who acts is no domain
+  pub wrote-no-group : (f : Refusal) → outcome r after ≡ writeGroup actor names out → (isDomain actor ≡ true → length (spellGroup actor names) ≤ length out)
+      → r ≡ Refused f → (x : Bool) → (isGroup names && (isDomain actor && x)) ≡ false
+  wrote-no-group f e room is x = go (isGroup names) refl
     where
-      go : (t : Bool) → isGroup names ≡ t → t ≡ false
-      go true g = wrote-none f (written-group g e) room is
+      go : (t : Bool) → isGroup names ≡ t → (t && (isDomain actor && x)) ≡ false
+      go true g = rw (wrote-nothing f (written-group g e) room is)
       go false g = refl

@@ -1,17 +1,21 @@
--- The spelling of an event is one line, ended by its newline, and none is the line `(trace 2)`: what a text of such lines is cut into.
+-- The spelling of an event by a domain is one line, ended by its newline, and none is the line `(trace 2)`: what a text of such lines is cut into.
 -- Assumes nothing.
 use mathlib.Core.Path.{_≡_, refl, ap}
 use mathlib.Core.List.{List, [], _∷_, _++_, append-assoc}
-use Prim.Native.Nat.{ℕ, zero, suc, _+_}
+use Prim.Native.Nat.{ℕ, zero, suc, _+_, _^_}
+use native.Mathlib.Omega.{arith}
 use lib.Dec.{eqb}
+use Rattle.model.proofs.Offered.{All}
 use Rattle.text.specs.Result.{value, refused}
 use Rattle.text.specs.Class.{classOf}
 use Rattle.text.specs.Line.{through, push, linesOf, partsOf}
 use Rattle.text.specs.Decimal.{numeral, decimal, numberFrom}
-use Rattle.text.specs.Event.{bytes, spaced, kindWord, freshWord, ending, spanNumbers, writtenNumbers, spell, hasSpelling}
+use Rattle.text.specs.Mask.{hex, maskWord}
+use Rattle.text.specs.Event.{bytes, spaced, rightWord, kindWord, freshWord, front, back, ending, spanNumbers, writtenNumbers, form, spell, hasSpelling}
 use Rattle.text.specs.Read.{same, guess, readEvent}
 use Rattle.text.proofs.Laws.Digits.{digits, digitAt, decimal-width}
 use Rattle.text.proofs.Laws.Number.{digit-class, digit-small}
+use Rattle.text.proofs.Laws.Masks.{IsDigit, mask-other, hex-digits}
 use Rattle.text.proofs.Laws.Words.{either}
 use Rattle.text.proofs.Laws.OneSpelling.{read-is-spelling}
 use Rattle.text.specs.declared.spelling.Spelling.{Spelling}
@@ -42,37 +46,71 @@ numbers-end [] e ends t = ends t
 numbers-end (n ∷ ns) e ends t =
     rw (append-assoc (decimal n) (spaced ns) e) (ap (push 32) (decimal-end n (spaced ns ++ e) (numbers-end ns e ends) t))
 
-fresh-ends : (m : ℕ) → Ends (freshWord m ++ bytes ")\n")
-unfolding partsOf push classOf
-fresh-ends m = either (λ s. Ends (s ++ bytes ")\n")) (eqb m 1) _ _ (λ t. refl) (λ t. refl)
+-- so is one with the digits of a mask in front of it
+mask-end : (w e : List ℕ) → All IsDigit w → Ends e → Ends (w ++ e)
+unfolding partsOf push
+mask-end [] e h ends t = ends t
+mask-end (b ∷ w) e h ends t = rw (mask-other b (h .0) 6 (omega arith)) (ap (push b) (mask-end w e (h .1) ends t))
 
-kind-ends : (k m : ℕ) → Ends (kindWord k ++ (freshWord m ++ bytes ")\n"))
-unfolding partsOf push classOf
-kind-ends k m =
-    let ends : List ℕ → Type 0 = λ s. Ends (s ++ (freshWord m ++ bytes ")\n")) in
-    either ends (eqb k 0) _ _ (fresh-ends m) (either ends (eqb k 1) _ _ (λ t. rw (fresh-ends m t)) (λ t. rw (fresh-ends m t)))
+pub hex-end : (k n : ℕ) (e : List ℕ) → Ends e → Ends (hex k n ++ e)
+hex-end k n e ends = mask-end (hex k n) e (hex-digits k n) ends
 
-ending-ends : (r : Terms) → Ends (ending r)
+pub back-ends : (actor : ℕ) → Ends (back actor)
 unfolding partsOf push classOf
-ending-ends r =
-    let last = kind-ends (r .kind) (r .fresh) in
-    either (λ s. Ends (s ++ (kindWord (r .kind) ++ (freshWord (r .fresh) ++ bytes ")\n")))) (eqb (r .right) 1) _ _ (λ t. rw (last t)) (λ t. rw (last t))
+back-ends actor = either Ends (eqb actor 0) _ _ (λ t. refl) (λ t. refl)
+
+-- so is one with a word of an ending in front of it, or with what stands before a form
+module _ (e : List ℕ) (ends : Ends e) where
+  behind : List ℕ → Type 0
+  behind s = Ends (s ++ e)
+
+  word-end : (maker mask : ℕ) → Ends (maskWord maker mask ++ e)
+  unfolding behind partsOf push classOf
+  word-end maker mask = either behind (eqb mask (2 ^ maker)) _ _ ends (λ t. rw (hex-end 16 mask e ends t))
+
+  fresh-end : (m : ℕ) → Ends (freshWord m ++ e)
+  unfolding behind partsOf push classOf
+  fresh-end m = either behind (eqb m 1) _ _ (λ t. rw (ends t)) ends
+
+  kind-end : (k : ℕ) → Ends (kindWord k ++ e)
+  unfolding behind partsOf push classOf
+  kind-end k = either behind (eqb k 0) _ _ ends (either behind (eqb k 1) _ _ (λ t. rw (ends t)) (λ t. rw (ends t)))
+
+  right-end : (r : ℕ) → Ends (rightWord r ++ e)
+  unfolding behind partsOf push classOf
+  right-end r = either behind (eqb r 1) _ _ (λ t. rw (ends t)) (λ t. rw (ends t))
+
+  pub front-end : (actor : ℕ) → Ends (front actor ++ e)
+  unfolding behind partsOf push classOf
+  front-end actor =
+      let named : Ends ((decimal actor ++ bytes " ") ++ e) = rw (append-assoc (decimal actor) (bytes " ") e) (decimal-end actor (32 ∷ e) (λ t. ap (push 32) (ends t))) in
+      either behind (eqb actor 0) _ _ ends (λ t. rw (named t))
+
+ending-ends : (actor : ℕ) (r : Terms) → Ends (ending actor r)
+ending-ends actor r =
+    let mask = word-end (back actor) (back-ends actor) actor (r .holders) in
+    let fresh = fresh-end _ mask (r .fresh) in
+    right-end _ (kind-end _ fresh (r .kind)) (r .right)
+
+form-ends : (actor : ℕ) (e : Event) → Ends (form actor e)
+unfolding form partsOf push classOf
+form-ends actor (Create w s r) t = rw (numbers-end (writtenNumbers w ++ spanNumbers s) (ending actor r) (ending-ends actor r) t)
+form-ends actor (Borrow w n s r) t = rw (numbers-end (writtenNumbers w ++ (n .0 ∷ spanNumbers s)) (ending actor r) (ending-ends actor r) t)
+form-ends actor (Read n s) t = rw (numbers-end (n .0 ∷ spanNumbers s) (back actor) (back-ends actor) t)
+form-ends actor (Write n s) t = rw (numbers-end (n .0 ∷ spanNumbers s) (back actor) (back-ends actor) t)
+form-ends actor (Drop n) t = rw (numbers-end (n .0 ∷ []) (back actor) (back-ends actor) t)
 
 -- the lines of a text that begins with an event's spelling are that and the lines of the rest
-pub spell-is-line : (e : Event) (t : List ℕ) → linesOf (spell e ++ t) ≡ spell e ∷ linesOf t
-unfolding spell partsOf push classOf
-spell-is-line (Create w s r) t = rw (numbers-end (writtenNumbers w ++ spanNumbers s) (ending r) (ending-ends r) t)
-spell-is-line (Borrow w n s r) t = rw (numbers-end (writtenNumbers w ++ (n .0 ∷ spanNumbers s)) (ending r) (ending-ends r) t)
-spell-is-line (Read n s) t = rw (numbers-end (n .0 ∷ spanNumbers s) (bytes ")\n") (λ t. refl) t)
-spell-is-line (Write n s) t = rw (numbers-end (n .0 ∷ spanNumbers s) (bytes ")\n") (λ t. refl) t)
-spell-is-line (Drop n) t = rw (numbers-end (n .0 ∷ []) (bytes ")\n") (λ t. refl) t)
+pub spell-is-line : (actor : ℕ) (e : Event) (t : List ℕ) → linesOf (spell actor e ++ t) ≡ spell actor e ∷ linesOf t
+unfolding spell
+spell-is-line actor e = front-end (form actor e) (form-ends actor e) actor
 
 -- a text that reads as an event is a line with its newline
-pub read-is-line : (k : Spelling) (s : List ℕ) (e : Event) → readEvent k s ≡ value e → (t : List ℕ) → linesOf (s ++ t) ≡ s ∷ linesOf t
-read-is-line k s e h t = rw (read-is-spelling k s e h .2) (spell-is-line e t)
+pub read-is-line : (k : Spelling) (s : List ℕ) (actor : ℕ) (e : Event) → readEvent k s ≡ value (actor, e) → (t : List ℕ) → linesOf (s ++ t) ≡ s ∷ linesOf t
+read-is-line k s actor e h t = rw (read-is-spelling k s actor e h .2) (spell-is-line actor e t)
 
 -- card 1: the line that tells that names are written out "is no event"
 pub header-is-no-event : (k : Spelling) → readEvent k (bytes "(trace 2)\n") ≡ refused 2
-unfolding readEvent guess through classOf numberFrom same hasSpelling spell spaced decimal numeral
+unfolding readEvent guess through classOf numberFrom same hasSpelling spell form spaced decimal numeral
 header-is-no-event Plain = refl
 header-is-no-event Named = refl

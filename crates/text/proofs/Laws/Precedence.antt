@@ -1,4 +1,4 @@
--- Document 01, "Eleven ways to be turned down", and card 5: the number that a writer gives is the first of its refusals, in order of
+-- Document 01, "Eleven ways to be turned down", and cards 5 and 10: the number that a writer gives is the first of its refusals, in order of
 -- precedence, that applies. Its condition holds, none that comes before it does, and the buffer is left as it was.
 -- Assumes nothing.
 use mathlib.Core.Path.{_≡_, refl}
@@ -14,6 +14,7 @@ use Rattle.model.specs.Lists.{first}
 use Rattle.model.specs.Refusals.{place}
 use Rattle.model.proofs.Offered.{test, listed, risesFrom, first-holds, first-lowest}
 use Rattle.model.specs.declared.Event.{Event}
+use Rattle.model.specs.Table.{isDomain}
 use Rattle.model.specs.Requests.{isGroup}
 use Rattle.text.specs.Result.{refusalOf}
 use Rattle.text.specs.Event.{spell, hasSpelling}
@@ -38,60 +39,63 @@ long-untouched s out j h = go (test (leb (length s) (length out)))
     go (inl t) = let never : _≡_ {A = ℕ} 0 (suc j) = rw t at h in absurd (omega arith)
     go (inr f) = rw f
 
+-- a text that is none, or is written, or is longer than the buffer
+text-given : (spelled : Bool) (s out : List ℕ) → refusalOf (written spelled s out) ≡ first ((2, not spelled) ∷ (11, tooLong s out) ∷ [])
+unfolding written
+text-given true s out = long-given s out
+text-given false s out = refl
+
+text-untouched : (spelled : Bool) (s out : List ℕ) (j : ℕ) → refusalOf (written spelled s out) ≡ suc j → stored spelled s out ≡ out
+unfolding written stored
+text-untouched true s out j h = long-untouched s out j h
+text-untouched false s out j h = refl
+
 -- ---- the writer of events
 
-module _ (k : Spelling) (e : Event) (out : List ℕ) where
-  pub event-given : refusalOf (writeEvent k e out .answer) ≡ first (writeRefusals k e out)
-  unfolding writeEvent written writeRefusals
-  event-given = go (hasSpelling k e)
-    where
-      go : (spelled : Bool) → refusalOf (written spelled (spell e) out) ≡ first ((2, not spelled) ∷ (11, tooLong (spell e) out) ∷ [])
-      go true = long-given (spell e) out
-      go false = refl
+module _ (k : Spelling) (actor : ℕ) (e : Event) (out : List ℕ) where
+  pub event-given : refusalOf (writeEvent k actor e out .answer) ≡ first (writeRefusals k actor e out)
+  unfolding writeEvent writeRefusals
+  event-given = text-given (hasSpelling k actor e) (spell actor e) out
 
-  pub event-rising : risesFrom 0 (writeRefusals k e out) ≡ true
+  pub event-rising : risesFrom 0 (writeRefusals k actor e out) ≡ true
   unfolding writeRefusals
   event-rising = refl
 
-  pub event-given-holds : (j : ℕ) → refusalOf (writeEvent k e out .answer) ≡ suc j → listed (suc j) (writeRefusals k e out) ≡ true
-  event-given-holds j h = first-holds (writeRefusals k e out) 0 j event-rising (rw event-given at h)
+  pub event-given-holds : (j : ℕ) → refusalOf (writeEvent k actor e out .answer) ≡ suc j → listed (suc j) (writeRefusals k actor e out) ≡ true
+  event-given-holds j h = first-holds (writeRefusals k actor e out) 0 j event-rising (rw event-given at h)
 
-  pub event-given-first : (j : ℕ) → place j < place (refusalOf (writeEvent k e out .answer)) → listed j (writeRefusals k e out) ≡ false
-  event-given-first j l = first-lowest (writeRefusals k e out) 0 j event-rising (rw event-given at l)
+  pub event-given-first : (j : ℕ) → place j < place (refusalOf (writeEvent k actor e out .answer)) → listed j (writeRefusals k actor e out) ≡ false
+  event-given-first j l = first-lowest (writeRefusals k actor e out) 0 j event-rising (rw event-given at l)
 
-  pub event-untouched : (j : ℕ) → refusalOf (writeEvent k e out .answer) ≡ suc j → writeEvent k e out .buffer ≡ out
-  unfolding writeEvent written stored
-  event-untouched j = go (hasSpelling k e)
-    where
-      go : (spelled : Bool) → refusalOf (written spelled (spell e) out) ≡ suc j → stored spelled (spell e) out ≡ out
-      go true h = long-untouched (spell e) out j h
-      go false h = refl
+  pub event-untouched : (j : ℕ) → refusalOf (writeEvent k actor e out .answer) ≡ suc j → writeEvent k actor e out .buffer ≡ out
+  unfolding writeEvent
+  event-untouched j h = text-untouched (hasSpelling k actor e) (spell actor e) out j h
 
 -- ---- the writer of groups
 
-module _ (names out : List ℕ) where
-  pub group-given : refusalOf (writeGroup names out .answer) ≡ first (writeGroupRefusals names out)
+module _ (actor : ℕ) (names out : List ℕ) where
+  pub group-given : refusalOf (writeGroup actor names out .answer) ≡ first (writeGroupRefusals actor names out)
   unfolding writeGroup writeGroupRefusals
   group-given = go (test (isGroup names))
     where
-      go : (isGroup names ≡ true) ⊎ (isGroup names ≡ false) → refusalOf (writeGroup names out .answer) ≡ first (writeGroupRefusals names out)
-      go (inl t) = rw t (long-given (spellGroup names) out)
+      go : (isGroup names ≡ true) ⊎ (isGroup names ≡ false) → refusalOf (writeGroup actor names out .answer) ≡ first (writeGroupRefusals actor names out)
+      go (inl t) = rw t (text-given (isDomain actor) (spellGroup actor names) out)
       go (inr f) = rw f
 
-  pub group-rising : risesFrom 0 (writeGroupRefusals names out) ≡ true
+  pub group-rising : risesFrom 0 (writeGroupRefusals actor names out) ≡ true
   unfolding writeGroupRefusals
   group-rising = refl
 
-  pub group-given-holds : (j : ℕ) → refusalOf (writeGroup names out .answer) ≡ suc j → listed (suc j) (writeGroupRefusals names out) ≡ true
-  group-given-holds j h = first-holds (writeGroupRefusals names out) 0 j group-rising (rw group-given at h)
+  pub group-given-holds : (j : ℕ) → refusalOf (writeGroup actor names out .answer) ≡ suc j → listed (suc j) (writeGroupRefusals actor names out) ≡ true
+  group-given-holds j h = first-holds (writeGroupRefusals actor names out) 0 j group-rising (rw group-given at h)
 
-  pub group-given-first : (j : ℕ) → place j < place (refusalOf (writeGroup names out .answer)) → listed j (writeGroupRefusals names out) ≡ false
-  group-given-first j l = first-lowest (writeGroupRefusals names out) 0 j group-rising (rw group-given at l)
+  pub group-given-first : (j : ℕ) → place j < place (refusalOf (writeGroup actor names out .answer)) → listed j (writeGroupRefusals actor names out) ≡ false
+  group-given-first j l = first-lowest (writeGroupRefusals actor names out) 0 j group-rising (rw group-given at l)
 
-  pub group-untouched : (j : ℕ) → refusalOf (writeGroup names out .answer) ≡ suc j → writeGroup names out .buffer ≡ out
+  pub group-untouched : (j : ℕ) → refusalOf (writeGroup actor names out .answer) ≡ suc j → writeGroup actor names out .buffer ≡ out
   unfolding writeGroup
   group-untouched j h = go (test (isGroup names))
     where
-      go : (isGroup names ≡ true) ⊎ (isGroup names ≡ false) → writeGroup names out .buffer ≡ out
-      go (inl t) = rw t (long-untouched (spellGroup names) out j (rw t at h))
+      go : (isGroup names ≡ true) ⊎ (isGroup names ≡ false) → writeGroup actor names out .buffer ≡ out
+      go (inl t) = rw t (text-untouched (isDomain actor) (spellGroup actor names) out j (rw t at h))
       go (inr f) = rw f

@@ -7,6 +7,7 @@ use Prim.Native.Nat.{ℕ, _≤_}
 use native.Mathlib.Omega.{arith}
 use lib.ListN.{length, drop}
 use lib.Seq.{length-take-le}
+use Rattle.model.specs.Requests.{Limits}
 use Rattle.model.specs.declared.Sheet.{Sheet}
 use Rattle.model.specs.declared.Tally.{Tally}
 use Rattle.model.specs.Step.{State}
@@ -45,15 +46,15 @@ unfolding runTrace partsOf
 trace-plain [] h c s = refl
 trace-plain (b ∷ t) h c s = rw (parts-next newline (b ∷ t) (omega arith), h)
 
-module _ (sheet : Sheet) where
+module _ (sheet : Sheet) (limits : Limits) where
   -- a run on what is fit goes by its lines
-  by-lines : (h : State) (text : List ℕ) → Fit h → runTrace (lent sheet) h (linesOf text) ≡ run sheet h text
+  by-lines : (h : State) (text : List ℕ) → Fit limits h → runTrace (lent sheet limits) h (linesOf text) ≡ run sheet limits h text
   unfolding runFrom
   by-lines h text f = rw f
 
-  module _ (ws : List (List ℕ)) (bs : List ℕ) (t : Tally) (text : List ℕ) (f : Fit (lends (rowsIn ws) bs t)) {ws′ : List (List ℕ)} {bs′ : List ℕ} {r : RunOutcome} where
-    pub runs-named : same (nextLine text) header ≡ true → {rest : List ℕ} → rest ≡ drop 10 text → RunsLines sheet Named 1 ws bs t rest ws′ bs′ r → Runs sheet ws bs t text ws′ bs′ r
-    runs-named h e k = record { ran = k .ran ∙ ap (λ (l : List ℕ). runLines (lent sheet) Named 1 (lends (rowsIn ws) bs t) (linesOf l)) e ∙ sym (trace-named text h (lent sheet) (lends (rowsIn ws) bs t)) ∙ by-lines (lends (rowsIn ws) bs t) text f }
+  module _ (ws : List (List ℕ)) (bs : List ℕ) (t : Tally) (text : List ℕ) (f : Fit limits (lends (rowsIn ws) bs t)) {ws′ : List (List ℕ)} {bs′ : List ℕ} {r : RunOutcome} where
+    pub runs-named : same (nextLine text) header ≡ true → {rest : List ℕ} → rest ≡ drop 10 text → RunsLines sheet limits Named 1 ws bs t rest ws′ bs′ r → Runs sheet limits ws bs t text ws′ bs′ r
+    runs-named h e k = record { ran = k .ran ∙ ap (λ (l : List ℕ). runLines (lent sheet limits) Named 1 (lends (rowsIn ws) bs t) (linesOf l)) e ∙ sym (trace-named text h (lent sheet limits) (lends (rowsIn ws) bs t)) ∙ by-lines (lends (rowsIn ws) bs t) text f }
 
-    pub runs-plain : same (nextLine text) header ≡ false → RunsLines sheet Plain 0 ws bs t text ws′ bs′ r → Runs sheet ws bs t text ws′ bs′ r
-    runs-plain h k = record { ran = k .ran ∙ sym (trace-plain text h (lent sheet) (lends (rowsIn ws) bs t)) ∙ by-lines (lends (rowsIn ws) bs t) text f }
+    pub runs-plain : same (nextLine text) header ≡ false → RunsLines sheet limits Plain 0 ws bs t text ws′ bs′ r → Runs sheet limits ws bs t text ws′ bs′ r
+    runs-plain h k = record { ran = k .ran ∙ sym (trace-plain text h (lent sheet limits) (lends (rowsIn ws) bs t)) ∙ by-lines (lends (rowsIn ws) bs t) text f }

@@ -5,7 +5,7 @@ use mathlib.Core.Bool.{Bool, true, false, not, cond}
 use mathlib.Core.List.{List, [], _∷_}
 use Prim.Native.Nat.{ℕ, _+_}
 use lib.Dec.{eqb}
-use Rattle.model.specs.Requests.{Request}
+use Rattle.model.specs.Requests.{Limits, Request}
 use Rattle.model.specs.declared.Tally.{Tally}
 use Rattle.model.specs.Refusals.{unfit}
 use Rattle.model.specs.declared.Sheet.{Sheet}
@@ -23,7 +23,7 @@ use Rattle.text.specs.Request.{readRequest}
 use Rattle.trace.specs.Run.{header, Taken, Ran, takeRead, takeLine, runLines, runTrace, runFrom, lent}
 use Rattle.trace.specs.HistoryRun.{noted, SameRun}
 
-module _ (sheet : Sheet) (n : ℕ) where
+module _ (sheet : Sheet) (limits : Limits) (n : ℕ) where
   -- a line, and a run, of the lent table and of the history
   record SameLine (r : Taken State) (q : Taken History) : Type 0 where
     refusals : r .refusal ≡ q .refusal
@@ -34,54 +34,54 @@ module _ (sheet : Sheet) (n : ℕ) where
     numbers : r .number ≡ q .number
     match : Match sheet n (r .state) (q .state)
 
-  same-line : (k : Spelling) (h : State) (H : History) → Match sheet n h H → (l : List ℕ) → SameLine (takeLine (lent sheet) k h l) (takeLine (noted sheet n) k H l)
-  same-line k h H m l = go (readRequest k l)
+  same-line : (k : Spelling) (h : State) (H : History) → Match sheet n h H → (l : List ℕ) → SameLine (takeLine (lent sheet limits) k h l) (takeLine (noted sheet limits n) k H l)
+  same-line k h H m l = go (readRequest limits k l)
     where
-      go : (r : Result Request) → SameLine (takeRead (lent sheet) h r) (takeRead (noted sheet n) H r)
+      go : (r : Result Request) → SameLine (takeRead (lent sheet limits) h r) (takeRead (noted sheet limits n) H r)
       go (value q) =
           record { refusals = ap (λ (v : Verdict). v .refusal) (match-answer sheet n h H m q); match = match-after sheet n h H m q }
       go (refused x) = record { refusals = refl; match = record { memory = m .memory; same-issued = m .same-issued } }
 
-  same-lines : (k : Spelling) (before : ℕ) (h : State) (H : History) → Match sheet n h H → (ls : List (List ℕ)) → Same (runLines (lent sheet) k before h ls) (runLines (noted sheet n) k before H ls)
+  same-lines : (k : Spelling) (before : ℕ) (h : State) (H : History) → Match sheet n h H → (ls : List (List ℕ)) → Same (runLines (lent sheet limits) k before h ls) (runLines (noted sheet limits n) k before H ls)
   unfolding runLines
   same-lines k before h H m [] = record { refusals = refl; numbers = refl; match = m }
-  same-lines k before h H m (l ∷ ls) = rw (s .refusals) (go (eqb (t .refusal) 0) (same-lines k (before + 1) (takeLine (lent sheet) k h l .state) (t .state) (s .match) ls))
+  same-lines k before h H m (l ∷ ls) = rw (s .refusals) (go (eqb (t .refusal) 0) (same-lines k (before + 1) (takeLine (lent sheet limits) k h l .state) (t .state) (s .match) ls))
     where
-      s : SameLine (takeLine (lent sheet) k h l) (takeLine (noted sheet n) k H l)
+      s : SameLine (takeLine (lent sheet limits) k h l) (takeLine (noted sheet limits n) k H l)
       s = same-line k h H m l
 
       t : Taken History
-      t = takeLine (noted sheet n) k H l
+      t = takeLine (noted sheet limits n) k H l
 
-      go : (b : Bool) → Same (runLines (lent sheet) k (before + 1) (takeLine (lent sheet) k h l .state) ls) (runLines (noted sheet n) k (before + 1) (takeLine (noted sheet n) k H l .state) ls)
-          → Same (cond b (runLines (lent sheet) k (before + 1) (takeLine (lent sheet) k h l .state) ls) (record { refusal = takeLine (noted sheet n) k H l .refusal; number = before + 1; state = takeLine (lent sheet) k h l .state }))
-          (cond b (runLines (noted sheet n) k (before + 1) (takeLine (noted sheet n) k H l .state) ls) (record { refusal = takeLine (noted sheet n) k H l .refusal; number = before + 1; state = takeLine (noted sheet n) k H l .state }))
+      go : (b : Bool) → Same (runLines (lent sheet limits) k (before + 1) (takeLine (lent sheet limits) k h l .state) ls) (runLines (noted sheet limits n) k (before + 1) (takeLine (noted sheet limits n) k H l .state) ls)
+          → Same (cond b (runLines (lent sheet limits) k (before + 1) (takeLine (lent sheet limits) k h l .state) ls) (record { refusal = takeLine (noted sheet limits n) k H l .refusal; number = before + 1; state = takeLine (lent sheet limits) k h l .state }))
+          (cond b (runLines (noted sheet limits n) k (before + 1) (takeLine (noted sheet limits n) k H l .state) ls) (record { refusal = takeLine (noted sheet limits n) k H l .refusal; number = before + 1; state = takeLine (noted sheet limits n) k H l .state }))
       go true rest = rest
       go false rest = record { refusals = refl; numbers = refl; match = s .match }
 
-  same-trace : (h : State) (H : History) → Match sheet n h H → (ls : List (List ℕ)) → Same (runTrace (lent sheet) h ls) (runTrace (noted sheet n) H ls)
+  same-trace : (h : State) (H : History) → Match sheet n h H → (ls : List (List ℕ)) → Same (runTrace (lent sheet limits) h ls) (runTrace (noted sheet limits n) H ls)
   unfolding runTrace
   same-trace h H m [] = same-lines Plain 0 h H m []
   same-trace h H m (l ∷ ls) = go (same l header)
     where
-      go : (b : Bool) → Same (cond b (runLines (lent sheet) Named 1 h ls) (runLines (lent sheet) Plain 0 h (l ∷ ls))) (cond b (runLines (noted sheet n) Named 1 H ls) (runLines (noted sheet n) Plain 0 H (l ∷ ls)))
+      go : (b : Bool) → Same (cond b (runLines (lent sheet limits) Named 1 h ls) (runLines (lent sheet limits) Plain 0 h (l ∷ ls))) (cond b (runLines (noted sheet limits n) Named 1 H ls) (runLines (noted sheet limits n) Plain 0 H (l ∷ ls)))
       go true = same-lines Named 1 h H m ls
       go false = same-lines Plain 0 h H m (l ∷ ls)
 
-  same-from : (h : State) (H : History) → Match sheet n h H → (text : List ℕ) → Same (runFrom (lent sheet) h text) (runFrom (noted sheet n) H text)
+  same-from : (h : State) (H : History) → Match sheet n h H → (text : List ℕ) → Same (runFrom (lent sheet limits) h text) (runFrom (noted sheet limits n) H text)
   unfolding runFrom
-  same-from h H m text = rw judged (go (not (unfit (History.view sheet n (H .notes) (H .count)))))
+  same-from h H m text = rw judged (go (not (unfit limits (History.view sheet n (H .notes) (H .count)))))
     where
-      judged : not (unfit (view h)) ≡ not (unfit (History.view sheet n (H .notes) (H .count)))
+      judged : not (unfit limits (view h)) ≡ not (unfit limits (History.view sheet n (H .notes) (H .count)))
       judged = rw (m .memory .same-table, m .same-issued, m .memory .bits .size)
 
-      go : (b : Bool) → Same (cond b (runTrace (lent sheet) h (linesOf text)) (record { refusal = 1; number = 0; state = h })) (cond b (runTrace (noted sheet n) H (linesOf text)) (record { refusal = 1; number = 0; state = H }))
+      go : (b : Bool) → Same (cond b (runTrace (lent sheet limits) h (linesOf text)) (record { refusal = 1; number = 0; state = h })) (cond b (runTrace (noted sheet limits n) H (linesOf text)) (record { refusal = 1; number = 0; state = H }))
       go true = same-trace h H m (linesOf text)
       go false = record { refusals = refl; numbers = refl; match = m }
 
-pub same-run : (sheet : Sheet) (n : ℕ) (t : Tally) → t .issued ≡ 0 → (text : List ℕ) → SameRun sheet n t text
-same-run sheet n t z text =
-    let s = same-from sheet n (initial n t) emptyHistory (at-first sheet n t z) text in
+pub same-run : (sheet : Sheet) (limits : Limits) (n : ℕ) (t : Tally) → t .issued ≡ 0 → (text : List ℕ) → SameRun sheet limits n t text
+same-run sheet limits n t z text =
+    let s = same-from sheet limits n (initial n t) emptyHistory (at-first sheet n t z) text in
     record {
       same-refusal = s .refusals;
       same-number = s .numbers;

@@ -8,6 +8,7 @@ use Prim.Native.Nat.{ℕ, suc, _+_, _≤_, _<_}
 use native.Mathlib.Omega.{arith}
 use lib.Dec.{eqb}
 use lib.ListN.{length}
+use Rattle.model.specs.Requests.{Limits}
 use Rattle.model.specs.declared.Sheet.{Sheet}
 use Rattle.model.specs.Step.{State, view}
 use Rattle.model.specs.Table.{inOrder}
@@ -44,62 +45,62 @@ lines-few (b ∷ s) = go (eqb (classOf b) newline) (linesOf s) (lines-few s)
     go false [] h = omega arith
     go false (l ∷ ls) h = omega arith
 
-module _ (sheet : Sheet) where
-  fit-lines : (k : Spelling) (before : ℕ) (h : State) (ls : List (List ℕ)) → Fit h → Fit (runLines (lent sheet) k before h ls .state)
+module _ (sheet : Sheet) (limits : Limits) where
+  fit-lines : (k : Spelling) (before : ℕ) (h : State) (ls : List (List ℕ)) → Fit limits h → Fit limits (runLines (lent sheet limits) k before h ls .state)
   unfolding runLines
   fit-lines k before h [] o = o
   fit-lines k before h (l ∷ ls) o =
-      let t = takeLine (lent sheet) k h l in
-      turned (λ (r : Ran State). Fit (r .state)) (eqb (t .refusal) 0) (runLines (lent sheet) k (before + 1) (t .state) ls) (record { refusal = t .refusal; number = before + 1; state = t .state }) (fit-lines k (before + 1) (t .state) ls (line-fit sheet k h l o)) (line-fit sheet k h l o)
+      let t = takeLine (lent sheet limits) k h l in
+      turned (λ (r : Ran State). Fit limits (r .state)) (eqb (t .refusal) 0) (runLines (lent sheet limits) k (before + 1) (t .state) ls) (record { refusal = t .refusal; number = before + 1; state = t .state }) (fit-lines k (before + 1) (t .state) ls (line-fit sheet limits k h l o)) (line-fit sheet limits k h l o)
 
   -- what holds of the lines in either spelling holds of a trace
-  pub of-trace : (P : Ran State → Type 0) (h : State) (ls : List (List ℕ)) → P (runLines (lent sheet) Plain 0 h ls) → ((line : List ℕ) (rest : List (List ℕ)) → ls ≡ line ∷ rest → P (runLines (lent sheet) Named 1 h rest))
-      → P (runTrace (lent sheet) h ls)
+  pub of-trace : (P : Ran State → Type 0) (h : State) (ls : List (List ℕ)) → P (runLines (lent sheet limits) Plain 0 h ls) → ((line : List ℕ) (rest : List (List ℕ)) → ls ≡ line ∷ rest → P (runLines (lent sheet limits) Named 1 h rest))
+      → P (runTrace (lent sheet limits) h ls)
   unfolding runTrace
   of-trace P h [] p q = p
-  of-trace P h (line ∷ ls) p q = turned P (same line header) (runLines (lent sheet) Named 1 h ls) (runLines (lent sheet) Plain 0 h (line ∷ ls)) (q line ls refl) p
+  of-trace P h (line ∷ ls) p q = turned P (same line header) (runLines (lent sheet limits) Named 1 h ls) (runLines (lent sheet limits) Plain 0 h (line ∷ ls)) (q line ls refl) p
 
-  fit-run : (h : State) (text : List ℕ) → Fit h → Fit (run sheet h text .state)
+  fit-run : (h : State) (text : List ℕ) → Fit limits h → Fit limits (run sheet limits h text .state)
   unfolding runFrom
   fit-run h text o =
-      rw o (of-trace (λ (r : Ran State). Fit (r .state)) h (linesOf text) (fit-lines Plain 0 h (linesOf text) o) (λ line rest e. fit-lines Named 1 h rest o))
+      rw o (of-trace (λ (r : Ran State). Fit limits (r .state)) h (linesOf text) (fit-lines Plain 0 h (linesOf text) o) (λ line rest e. fit-lines Named 1 h rest o))
 
   -- what is unfit is refused before any line
-  pub refused-run : (h : State) (text : List ℕ) → unfit (view h) ≡ true → run sheet h text ≡ record { refusal = 1; number = 0; state = h }
+  pub refused-run : (h : State) (text : List ℕ) → unfit limits (view h) ≡ true → run sheet limits h text ≡ record { refusal = 1; number = 0; state = h }
   unfolding runFrom
   refused-run h text d = rw d
 
   -- a table in order stays so, whatever the bits are
-  pub order-run : (h : State) (text : List ℕ) → inOrder (h .memory .table) (h .tally .issued) ≡ true → inOrder (run sheet h text .state .memory .table) (run sheet h text .state .tally .issued) ≡ true
-  order-run h text o = go (test (unfit (view h)))
+  pub order-run : (h : State) (text : List ℕ) → inOrder (h .memory .table) (h .tally .issued) ≡ true → inOrder (run sheet limits h text .state .memory .table) (run sheet limits h text .state .tally .issued) ≡ true
+  order-run h text o = go (test (unfit limits (view h)))
     where
-      go : (unfit (view h) ≡ true) ⊎ Fit h → inOrder (run sheet h text .state .memory .table) (run sheet h text .state .tally .issued) ≡ true
+      go : (unfit limits (view h) ≡ true) ⊎ Fit limits h → inOrder (run sheet limits h text .state .memory .table) (run sheet limits h text .state .tally .issued) ≡ true
       go (inl d) = rw (refused-run h text d) o
-      go (inr f) = fit-order (view (run sheet h text .state)) (fit-run h text f)
+      go (inr f) = fit-order limits (view (run sheet limits h text .state)) (fit-run h text f)
 
-  pub refused-line : (k : Spelling) (before : ℕ) (h : State) (ls : List (List ℕ)) → Behind before (runLines (lent sheet) k before h ls)
+  pub refused-line : (k : Spelling) (before : ℕ) (h : State) (ls : List (List ℕ)) → Behind before (runLines (lent sheet limits) k before h ls)
   unfolding runLines
   refused-line k before h [] = inl refl
   refused-line k before h (l ∷ ls) =
-      let t = takeLine (lent sheet) k h l in
-      let rest = runLines (lent sheet) k (before + 1) (t .state) ls in
+      let t = takeLine (lent sheet limits) k h l in
+      let rest = runLines (lent sheet limits) k (before + 1) (t .state) ls in
       turned (Behind before) (eqb (t .refusal) 0) rest (record { refusal = t .refusal; number = before + 1; state = t .state }) (behind-more before rest (refused-line k (before + 1) (t .state) ls)) (inr (omega arith))
 
-  pub refused-trace : (h : State) (ls : List (List ℕ)) → Behind 0 (runTrace (lent sheet) h ls)
-  refused-trace h ls = of-trace (Behind 0) h ls (refused-line Plain 0 h ls) (λ line rest e. behind-more 0 (runLines (lent sheet) Named 1 h rest) (refused-line Named 1 h rest))
+  pub refused-trace : (h : State) (ls : List (List ℕ)) → Behind 0 (runTrace (lent sheet limits) h ls)
+  refused-trace h ls = of-trace (Behind 0) h ls (refused-line Plain 0 h ls) (λ line rest e. behind-more 0 (runLines (lent sheet limits) Named 1 h rest) (refused-line Named 1 h rest))
 
-  number-lines : (k : Spelling) (before : ℕ) (h : State) (ls : List (List ℕ)) → runLines (lent sheet) k before h ls .number ≤ before + length ls
+  number-lines : (k : Spelling) (before : ℕ) (h : State) (ls : List (List ℕ)) → runLines (lent sheet limits) k before h ls .number ≤ before + length ls
   unfolding runLines
   number-lines k before h [] = omega arith
   number-lines k before h (l ∷ ls) =
-      let t = takeLine (lent sheet) k h l in
-      turned (λ (r : Ran State). r .number ≤ before + suc (length ls)) (eqb (t .refusal) 0) (runLines (lent sheet) k (before + 1) (t .state) ls) (record { refusal = t .refusal; number = before + 1; state = t .state })
+      let t = takeLine (lent sheet limits) k h l in
+      turned (λ (r : Ran State). r .number ≤ before + suc (length ls)) (eqb (t .refusal) 0) (runLines (lent sheet limits) k (before + 1) (t .state) ls) (record { refusal = t .refusal; number = before + 1; state = t .state })
       (omega (arith, number-lines k (before + 1) (t .state) ls)) (omega arith)
 
-  pub number-run : (h : State) (text : List ℕ) → run sheet h text .number ≤ length text
+  pub number-run : (h : State) (text : List ℕ) → run sheet limits h text .number ≤ length text
   unfolding runFrom
   number-run h text =
-      turned (λ (r : Ran State). r .number ≤ length text) (not (unfit (view h))) (runTrace (lent sheet) h (linesOf text)) (record { refusal = 1; number = 0; state = h })
+      turned (λ (r : Ran State). r .number ≤ length text) (not (unfit limits (view h))) (runTrace (lent sheet limits) h (linesOf text)) (record { refusal = 1; number = 0; state = h })
       (of-trace (λ (r : Ran State). r .number ≤ length text) h (linesOf text) (omega (arith, number-lines Plain 0 h (linesOf text), lines-few text))
       (λ line rest e. omega (arith, number-lines Named 1 h rest, lines-few text, ap length e)))
       (omega arith)

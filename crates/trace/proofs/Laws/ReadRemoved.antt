@@ -17,8 +17,9 @@ use Rattle.model.specs.declared.Event.the-variants.{Read}
 use Rattle.model.specs.declared.Sheet.{Sheet}
 use Rattle.model.specs.declared.Tally.{Tally}
 use Rattle.model.specs.Lists.{all, without, answers, final}
-use Rattle.model.specs.Requests.{Request, Single}
+use Rattle.model.specs.Requests.{Limits, Unlimited, Caller, caller, Request, Single}
 use Rattle.model.specs.Sheet6.{sheet6}
+use Rattle.model.specs.Table.{isDomain}
 use Rattle.model.specs.Step.{State, view, initial, isAllowed, answer, after}
 use Rattle.model.specs.Refusals.{unfit}
 use Rattle.model.specs.ReadRemoved.{NoReadEnds, OnlyRights, readStrikes, ReadRemoved}
@@ -32,7 +33,7 @@ use Rattle.text.specs.Result.{Result, value, refused}
 use Rattle.text.specs.Request.{groupOf, orGroup, readRequest}
 use Rattle.text.specs.declared.spelling.Spelling.{Spelling}
 use Rattle.text.specs.declared.spelling.Spelling.the-variants.{Plain}
-use Rattle.text.proofs.Offered.{parts-together, read-is-spelling, spelling-reads-back}
+use Rattle.text.proofs.Offered.{parts-together, read-is-spelling, spell-is-line, spelling-reads-back}
 use Rattle.listing.specs.SameButRights.{SameButRights}
 use Rattle.listing.proofs.Offered.{lowered-listing}
 use Rattle.trace.specs.Run.{Ran, runTrace, runFrom, lent, run}
@@ -84,65 +85,68 @@ without-is (suc k) (x ∷ ls) = ap (λ (m : List (List ℕ)). x ∷ m) (without-
 
 -- ---- a line that is a read
 
-module _ (u : Name) (s : Span) (small : InRange (Read u s)) where
+module _ (actor : ℕ) (domain : isDomain actor ≡ true) (u : Name) (s : Span) (small : InRange (Read u s)) where
   -- it reads in both spellings
-  read-reads : (k : Spelling) → readRequest k (spell (Read u s)) ≡ value (Single (Read u s))
+  read-reads : (limits : Limits) (k : Spelling) → readRequest limits k (spell actor (Read u s)) ≡ value (Single (caller actor limits) (Read u s))
   unfolding hasSpelling
-  read-reads k = rw (spelling-reads-back k (Read u s) refl small)
+  read-reads limits k = rw (spelling-reads-back k actor (Read u s) domain small)
 
-  read-some : spell (Read u s) ≡ [] → ⊥
-  unfolding spell
-  read-some e = nil≢cons (sym e)
+  read-some : spell actor (Read u s) ≡ [] → ⊥
+  unfolding partsOf
+  read-some e = let p = spell-is-line actor (Read u s) [] in nil≢cons (rw e at p)
 
   -- it is among the lines behind the front
   record At (k : ℕ) (before lines : List (List ℕ)) : Type 0 where
     place : ℕ
     earlier : take k (before ++ lines) ≡ before ++ take place lines
     left : without k (before ++ lines) ≡ before ++ without place lines
-    here : getD lines place [] ≡ spell (Read u s)
+    here : getD lines place [] ≡ spell actor (Read u s)
 
-  at : {j : Spelling} {before : List (List ℕ)} → Front j before → (k : ℕ) (lines : List (List ℕ)) → getD (before ++ lines) k [] ≡ spell (Read u s) → At k before lines
+  at : {j : Spelling} {before : List (List ℕ)} → Front j before → (k : ℕ) (lines : List (List ℕ)) → getD (before ++ lines) k [] ≡ spell actor (Read u s) → At k before lines
   at none k lines is = record { place = k; earlier = refl; left = refl; here = is }
-  at first zero lines is = absurd (let q : _≡_ {A = ℕ} 0 1 = cc (is, read-reads Plain, header-misread Plain) in omega arith)
+  at first zero lines is = absurd (let q : _≡_ {A = ℕ} 0 1 = cc (is, read-reads Unlimited Plain, header-misread Unlimited Plain) in omega arith)
   at first (suc k) lines is = record { place = k; earlier = refl; left = refl; here = is }
 
 -- every line that reads as a read, in either spelling, is the spelling of it
-pub is-read : (j : Spelling) (k : ℕ) (text : List ℕ) (u : Name) (s : Span) → readRequest j (getD (linesOf text) k []) ≡ value (Single (Read u s)) → IsRead k text u s
-is-read j k text u s = go (readEvent j line) refl
+pub is-read : (limits : Limits) (j : Spelling) (k : ℕ) (text : List ℕ) (by : Caller) (u : Name) (s : Span) → readRequest limits j (getD (linesOf text) k []) ≡ value (Single by (Read u s)) → IsRead k text (by .actor) u s
+unfolding hasSpelling
+is-read limits j k text by u s = go (readEvent j line) refl
   where
     line : List ℕ
     line = getD (linesOf text) k []
 
-    no-group : (g : Result (List ℕ)) → groupOf g ≡ value (Single (Read u s)) → ⊥
-    no-group (value names) z = let q : _≡_ {A = ℕ} 0 1 = cc in omega arith
+    no-group : (g : Result (ℕ × List ℕ)) → groupOf limits g ≡ value (Single by (Read u s)) → ⊥
+    no-group (value g) z = let q : _≡_ {A = ℕ} 0 1 = cc in omega arith
     no-group (refused x) z = let q : _≡_ {A = ℕ} 0 1 = cc in omega arith
 
-    go : (r : Result Event) → readEvent j line ≡ r → orGroup line r ≡ value (Single (Read u s)) → IsRead k text u s
-    go (value e) is z =
-        let same : e ≡ Read u s = cc in
-        let spelled = read-is-spelling j line (Read u s) (is ∙ ap value same) in
-        record { line = spelled .2; small = spelled .1 }
+    go : (r : Result (ℕ × Event)) → readEvent j line ≡ r → orGroup limits line r ≡ value (Single by (Read u s)) → IsRead k text (by .actor) u s
+    go (value a) is z =
+        let same : a .1 ≡ Read u s = cc in
+        let asks : caller (a .0) limits ≡ by = cc in
+        let who : a .0 ≡ by .actor = ap (λ (b : Caller). b .actor) asks in
+        let spelled = read-is-spelling j line (by .actor) (Read u s) (is ∙ ap₂ (λ (x : ℕ) (e : Event). value (x, e)) who same) in
+        record { is-domain = spelled .0; line = spelled .2; small = spelled .1 }
     go (refused x) is z = absurd (no-group (readGroup line) z)
 
 -- ---- card 8
 
-module _ (sheet : Sheet) (h : State) (k : ℕ) (text : List ℕ) (u : Name) (s : Span) (r : IsRead k text u s) (z : run sheet h text .refusal ≡ 0) where
-  fit : Fit h
-  fit = go (test (unfit (view h)))
+module _ (sheet : Sheet) (limits : Limits) (h : State) (k : ℕ) (text : List ℕ) (actor : ℕ) (u : Name) (s : Span) (r : IsRead k text actor u s) (z : run sheet limits h text .refusal ≡ 0) where
+  fit : Fit limits h
+  fit = go (test (unfit limits (view h)))
     where
-      go : (unfit (view h) ≡ true) ⊎ Fit h → Fit h
-      go (inl d) = absurd (let one = ap (λ (q : Ran State). q .refusal) (refused-run sheet h text d) in omega arith)
+      go : (unfit limits (view h) ≡ true) ⊎ Fit limits h → Fit limits h
+      go (inl d) = absurd (let one = ap (λ (q : Ran State). q .refusal) (refused-run sheet limits h text d) in omega arith)
       go (inr f) = f
 
-  run-is : (t : List ℕ) → run sheet h t ≡ runTrace (lent sheet) h (linesOf t)
+  run-is : (t : List ℕ) → run sheet limits h t ≡ runTrace (lent sheet limits) h (linesOf t)
   unfolding runFrom
   run-is t = rw fit
 
-  t : TraceOf sheet h (linesOf text)
-  t = trace-of sheet h (linesOf text) (ap (λ (q : Ran State). q .refusal) (sym (run-is text)) ∙ z)
+  t : TraceOf sheet limits h (linesOf text)
+  t = trace-of sheet limits h (linesOf text) (ap (λ (q : Ran State). q .refusal) (sym (run-is text)) ∙ z)
 
-  w : At u s (r .small) k (t .before) (t .lines)
-  w = at u s (r .small) (t .front) k (t .lines) (ap (λ (ls : List (List ℕ)). getD ls k []) (sym (t .is)) ∙ r .line)
+  w : At actor (r .is-domain) u s (r .small) k (t .before) (t .lines)
+  w = at actor (r .is-domain) u s (r .small) (t .front) k (t .lines) (ap (λ (ls : List (List ℕ)). getD ls k []) (sym (t .is)) ∙ r .line)
 
   -- the lines before it and behind it
   abbrev earlier : List (List ℕ)
@@ -152,9 +156,9 @@ module _ (sheet : Sheet) (h : State) (k : ℕ) (text : List ℕ) (u : Name) (s :
   later = drop (suc (w .place)) (t .lines)
 
   abbrev asked : List (List ℕ) → List Request
-  asked = requests (t .spelling)
+  asked = requests limits (t .spelling)
 
-  lines-are : t .lines ≡ earlier ++ (spell (Read u s) ∷ later)
+  lines-are : t .lines ≡ earlier ++ (spell actor (Read u s) ∷ later)
   lines-are = split-at (t .lines) (w .place) [] inside ∙ ap (λ (l : List ℕ). earlier ++ (l ∷ later)) (w .here)
     where
       inside : w .place < length (t .lines)
@@ -162,80 +166,80 @@ module _ (sheet : Sheet) (h : State) (k : ℕ) (text : List ℕ) (u : Name) (s :
         where
           go : (ltb (w .place) (length (t .lines)) ≡ true) ⊎ (ltb (w .place) (length (t .lines)) ≡ false) → w .place < length (t .lines)
           go (inl y) = ltb-true (w .place) (length (t .lines)) y
-          go (inr n) = absurd (read-some u s (r .small) (sym (w .here) ∙ List·getD-eq-default (t .lines) [] (ltb-false (w .place) (length (t .lines)) n)))
+          go (inr n) = absurd (read-some actor (r .is-domain) u s (r .small) (sym (w .here) ∙ List·getD-eq-default (t .lines) [] (ltb-false (w .place) (length (t .lines)) n)))
 
-  asked-are : asked (t .lines) ≡ asked earlier ++ (Single (Read u s) ∷ asked later)
+  asked-are : asked (t .lines) ≡ asked earlier ++ (Single (caller actor limits) (Read u s) ∷ asked later)
   unfolding requests
-  asked-are = ap asked lines-are ∙ requests-append (t .spelling) earlier (spell (Read u s) ∷ later) ∙ ap (λ (q : Result Request). asked earlier ++ consRequest q (asked later)) (read-reads u s (r .small) (t .spelling))
+  asked-are = ap asked lines-are ∙ requests-append limits (t .spelling) earlier (spell actor (Read u s) ∷ later) ∙ ap (λ (q : Result Request). asked earlier ++ consRequest q (asked later)) (read-reads actor (r .is-domain) u s (r .small) limits (t .spelling))
 
-  all-requests : (allRequests (t .spelling) earlier ≡ true) × (allRequests (t .spelling) (spell (Read u s) ∷ later) ≡ true)
-  all-requests = and-both (allRequests (t .spelling) earlier) (allRequests (t .spelling) (spell (Read u s) ∷ later)) (sym (ap (allRequests (t .spelling)) lines-are ∙ all-append _ earlier (spell (Read u s) ∷ later)) ∙ t .allowed .0)
+  all-requests : (allRequests limits (t .spelling) earlier ≡ true) × (allRequests limits (t .spelling) (spell actor (Read u s) ∷ later) ≡ true)
+  all-requests = and-both (allRequests limits (t .spelling) earlier) (allRequests limits (t .spelling) (spell actor (Read u s) ∷ later)) (sym (ap (allRequests limits (t .spelling)) lines-are ∙ all-append _ earlier (spell actor (Read u s) ∷ later)) ∙ t .allowed .0)
 
   -- a text of these lines
-  ran : (text : List ℕ) (lines : List (List ℕ)) → linesOf text ≡ t .before ++ lines → Allowed sheet (t .spelling) h lines
-      → run sheet h text ≡ record { refusal = 0; number = length (t .before) + length lines; state = final (after sheet) h (asked lines) }
-  ran text lines is a = run-is text ∙ ap (runTrace (lent sheet) h) is ∙ front-run (t .front) (lent sheet) h lines (a .0) ∙ allowed-lines sheet (t .spelling) (length (t .before)) h lines a
+  ran : (text : List ℕ) (lines : List (List ℕ)) → linesOf text ≡ t .before ++ lines → Allowed sheet limits (t .spelling) h lines
+      → run sheet limits h text ≡ record { refusal = 0; number = length (t .before) + length lines; state = final (after sheet) h (asked lines) }
+  ran text lines is a = run-is text ∙ ap (runTrace (lent sheet limits) h) is ∙ front-run (t .front) limits (lent sheet limits) h lines (a .0) ∙ allowed-lines sheet limits (t .spelling) (length (t .before)) h lines a
 
   -- the requests of the three
-  with-read : AllAllowed sheet h (asked earlier ++ (Single (Read u s) ∷ asked later))
+  with-read : AllAllowed sheet limits h (asked earlier ++ (Single (caller actor limits) (Read u s) ∷ asked later))
   with-read = ap (λ (qs : List Request). all isAllowed (answers (after sheet) answer h qs)) (sym asked-are) ∙ t .allowed .1
 
-  before-read : AllAllowed sheet h (asked earlier)
+  before-read : AllAllowed sheet limits h (asked earlier)
   before-read =
-      and-both (all isAllowed (answers (after sheet) answer h (asked earlier))) (all isAllowed (answers (after sheet) answer (final (after sheet) h (asked earlier)) (Single (Read u s) ∷ asked later)))
-      (sym (ap (all isAllowed) (answers-append (after sheet) answer h (asked earlier) (Single (Read u s) ∷ asked later)) ∙ all-append isAllowed (answers (after sheet) answer h (asked earlier)) _) ∙ with-read) .0
+      and-both (all isAllowed (answers (after sheet) answer h (asked earlier))) (all isAllowed (answers (after sheet) answer (final (after sheet) h (asked earlier)) (Single (caller actor limits) (Read u s) ∷ asked later)))
+      (sym (ap (all isAllowed) (answers-append (after sheet) answer h (asked earlier) (Single (caller actor limits) (Read u s) ∷ asked later)) ∙ all-append isAllowed (answers (after sheet) answer h (asked earlier)) _) ∙ with-read) .0
 
   module _ (none-end : NoReadEnds sheet) where
-    removed : ReadRemoved sheet h (asked earlier) u s (asked later)
-    removed = read-removed sheet none-end h (asked earlier) u s (asked later) with-read
+    removed : ReadRemoved sheet h (asked earlier) (caller actor limits) u s (asked later)
+    removed = read-removed sheet none-end h (asked earlier) (caller actor limits) u s (asked later) with-read
 
     left-are : asked (earlier ++ later) ≡ asked earlier ++ asked later
-    left-are = requests-append (t .spelling) earlier later
+    left-are = requests-append limits (t .spelling) earlier later
 
-    left-allowed : Allowed sheet (t .spelling) h (earlier ++ later)
+    left-allowed : Allowed sheet limits (t .spelling) h (earlier ++ later)
     left-allowed = (
-      all-append _ earlier later ∙ ap₂ (λ (a b : Bool). a && b) (all-requests .0) (and-both (isRequest (readRequest (t .spelling) (spell (Read u s)))) (allRequests (t .spelling) later) (all-requests .1) .1),
+      all-append _ earlier later ∙ ap₂ (λ (a b : Bool). a && b) (all-requests .0) (and-both (isRequest (readRequest limits (t .spelling) (spell actor (Read u s)))) (allRequests limits (t .spelling) later) (all-requests .1) .1),
       ap (λ (qs : List Request). all isAllowed (answers (after sheet) answer h qs)) left-are ∙ removed .all-allowed,
     )
 
-    ran-first : run sheet h (firstLines k text) .state ≡ final (after sheet) h (asked earlier)
+    ran-first : run sheet limits h (firstLines k text) .state ≡ final (after sheet) h (asked earlier)
     ran-first = ap (λ (q : Ran State). q .state) (ran (firstLines k text) earlier (lines-first k text ∙ ap (take k) (t .is) ∙ w .earlier) (all-requests .0, before-read))
 
-    ran-with : run sheet h text .state ≡ final (after sheet) h (asked earlier ++ (Single (Read u s) ∷ asked later))
+    ran-with : run sheet limits h text .state ≡ final (after sheet) h (asked earlier ++ (Single (caller actor limits) (Read u s) ∷ asked later))
     ran-with = ap (λ (q : Ran State). q .state) (ran text (t .lines) (t .is) (t .allowed)) ∙ ap (final (after sheet) h) asked-are
 
-    ran-left : run sheet h (withoutLine k text) ≡ record { refusal = 0; number = length (t .before) + length (earlier ++ later); state = final (after sheet) h (asked (earlier ++ later)) }
+    ran-left : run sheet limits h (withoutLine k text) ≡ record { refusal = 0; number = length (t .before) + length (earlier ++ later); state = final (after sheet) h (asked (earlier ++ later)) }
     ran-left = ran (withoutLine k text) (earlier ++ later) (lines-without k text ∙ ap (without k) (t .is) ∙ w .left ∙ ap (λ (ls : List (List ℕ)). t .before ++ ls) (without-is (w .place) (t .lines))) left-allowed
 
-    ran-without : run sheet h (withoutLine k text) .state ≡ final (after sheet) h (asked earlier ++ asked later)
+    ran-without : run sheet limits h (withoutLine k text) .state ≡ final (after sheet) h (asked earlier ++ asked later)
     ran-without = ap (λ (q : Ran State). q .state) ran-left ∙ ap (final (after sheet) h) left-are
 
-    rights : OnlyRights sheet (run sheet h (firstLines k text) .state) u s (run sheet h text .state) (run sheet h (withoutLine k text) .state)
+    rights : OnlyRights sheet (run sheet limits h (firstLines k text) .state) u s (run sheet limits h text .state) (run sheet limits h (withoutLine k text) .state)
     rights = rw (ran-first, ran-with, ran-without) (removed .rights)
 
-    same-listing : SameButRights (listingOf (run sheet h text)) (listingOf (run sheet h (withoutLine k text)))
+    same-listing : SameButRights (listingOf (run sheet limits h text)) (listingOf (run sheet limits h (withoutLine k text)))
     same-listing =
-        let without-read = run sheet h (withoutLine k text) .state in
-        let strikes = readStrikes sheet (run sheet h (firstLines k text) .state) u s in
+        let without-read = run sheet limits h (withoutLine k text) .state in
+        let strikes = readStrikes sheet (run sheet limits h (firstLines k text) .state) u s in
         rw (rights .exactly, ap (λ (y : Tally). y .issued) (rights .one-read-more)) (lowered-listing strikes (without-read .memory .table) (without-read .tally .issued))
 
-    line-removed : LineRemoved sheet h k text u s
+    line-removed : LineRemoved sheet limits h k text u s
     line-removed =
         record {
           allowed = ap (λ (q : Ran State). q .refusal) ran-left;
-          one-line-fewer = omega (arith, ap (λ (q : Ran State). q .number) (ran text (t .lines) (t .is) (t .allowed)), ap (λ (q : Ran State). q .number) ran-left, ap length lines-are, length-append earlier (spell (Read u s) ∷ later), length-append earlier later);
+          one-line-fewer = omega (arith, ap (λ (q : Ran State). q .number) (ran text (t .lines) (t .is) (t .allowed)), ap (λ (q : Ran State). q .number) ran-left, ap length lines-are, length-append earlier (spell actor (Read u s) ∷ later), length-append earlier later);
           rights = rights;
           same-listing = same-listing;
         }
 
 -- "if one read is removed from a trace whose every event is allowed"
-pub read-line-removed : (sheet : Sheet) → NoReadEnds sheet → (h : State) (k : ℕ) (text : List ℕ) (u : Name) (s : Span) → IsRead k text u s → run sheet h text .refusal ≡ 0 → LineRemoved sheet h k text u s
-read-line-removed sheet none-end h k text u s r z = line-removed sheet h k text u s r z none-end
+pub read-line-removed : (sheet : Sheet) (limits : Limits) → NoReadEnds sheet → (h : State) (k : ℕ) (text : List ℕ) (actor : ℕ) (u : Name) (s : Span) → IsRead k text actor u s → run sheet limits h text .refusal ≡ 0 → LineRemoved sheet limits h k text u s
+read-line-removed sheet limits none-end h k text actor u s r z = line-removed sheet limits h k text actor u s r z none-end
 
 -- what `capcheck` prints
-pub read-check-removed : (k : ℕ) (text : List ℕ) (u : Name) (s : Span) → IsRead k text u s → checked text .refusal ≡ 0 → length text ≤ 65536 → ChecksRemoved k text
-read-check-removed k text u s r z few =
-    let l = read-line-removed sheet6 no-read-ends (initial 1024 noCounts) k text u s r z in
+pub read-check-removed : (k : ℕ) (text : List ℕ) (actor : ℕ) (u : Name) (s : Span) → IsRead k text actor u s → checked text .refusal ≡ 0 → length text ≤ 65536 → ChecksRemoved k text
+read-check-removed k text actor u s r z few =
+    let l = read-line-removed sheet6 Unlimited no-read-ends (initial 1024 noCounts) k text actor u s r z in
     record {
       with-read = ran-text text few ∙ ap₂ (λ (x n : ℕ). answerLine x n ++ listingOf (checked text)) z (l .one-line-fewer);
       without-read = ran-text (withoutLine k text) (omega (arith, fewer-bytes k text)) ∙ ap (λ (x : ℕ). answerLine x (checked (withoutLine k text) .number) ++ listingOf (checked (withoutLine k text))) (l .allowed);

@@ -10,6 +10,7 @@ use lib.Dec.{leb}
 use lib.ListN.{length, replicate, take, drop, length-append, length-drop, take-append-drop, drop-of-length-le}
 use lib.Seq.{sets-eq, take-all, drop-drop, drop-at, length-take-le}
 use borrow.Author.Tests.{le-leb, lt-leb, leb-true, leb-false, eq-eqb, ne-eqb}
+use Rattle.model.specs.Requests.{Limits, Unlimited}
 use Rattle.model.specs.declared.Cap.{Cap}
 use Rattle.model.specs.declared.Refusal.{Refusal}
 use Rattle.model.specs.Answers.{number}
@@ -124,7 +125,7 @@ long-text input l = sym (rw (lt-leb (length input) 65536 l))
 
 -- a row whose words are zeros
 abbrev pub zeroRow : List ℕ
-zeroRow = replicate 8 0
+zeroRow = replicate 11 0
 
 -- 1,024 of them are 1,024 empty rows
 abbrev zeros : List (List ℕ)
@@ -142,18 +143,18 @@ empty-rows = rows-empty 1024
 abbrev noBits : List ℕ
 noBits = replicate 8192 0
 
-pub ran-is : {bytes input : List ℕ} {ws′ : List (List ℕ)} {bs′ : List ℕ} {r : RunOutcome} → bytes ≡ bytes6 → Runs (sheetIn bytes) zeros noBits noCounts input ws′ bs′ r → {a : RunAnswer} → r .answer ≡ a
-    → ranOf a (lends (rowsIn ws′) bs′ (r .tally)) ≡ run sheet6 (initial 1024 noCounts) input
+pub ran-is : {bytes input : List ℕ} {ws′ : List (List ℕ)} {bs′ : List ℕ} {r : RunOutcome} → bytes ≡ bytes6 → Runs (sheetIn bytes) Unlimited zeros noBits noCounts input ws′ bs′ r → {a : RunAnswer} → r .answer ≡ a
+    → ranOf a (lends (rowsIn ws′) bs′ (r .tally)) ≡ run sheet6 Unlimited (initial 1024 noCounts) input
 ran-is {bytes} {input} {ws′} {bs′} {r} six k e =
     ap (λ (a : RunAnswer). ranOf a (lends (rowsIn ws′) bs′ (r .tally))) (sym e) ∙ k .ran
-    ∙ ap₂ (λ (sheet : Sheet) (t : List Cap). run sheet (lends t noBits noCounts) input) (ap sheetIn six ∙ bytes6-is) empty-rows
+    ∙ ap₂ (λ (sheet : Sheet) (t : List Cap). run sheet Unlimited (lends t noBits noCounts) input) (ap sheetIn six ∙ bytes6-is) empty-rows
 
-module _ (input : List ℕ) (s : Ran State) (is : s ≡ run sheet6 (initial 1024 noCounts) input) where
+module _ (input : List ℕ) (s : Ran State) (is : s ≡ run sheet6 Unlimited (initial 1024 noCounts) input) where
   pub ran-order : inOrder (s .state .memory .table) (s .state .tally .issued) ≡ true
-  ran-order = ap (λ (r : Ran State). inOrder (r .state .memory .table) (r .state .tally .issued)) is ∙ order-run sheet6 (initial 1024 noCounts) input (order-fresh 1024 noCounts (omega arith) refl)
+  ran-order = ap (λ (r : Ran State). inOrder (r .state .memory .table) (r .state .tally .issued)) is ∙ order-run sheet6 Unlimited (initial 1024 noCounts) input (order-fresh 1024 noCounts (omega arith) refl)
 
   pub ran-number : s .number ≤ length input
-  ran-number = omega (arith, ap (λ (r : Ran State). r .number) is, number-run sheet6 (initial 1024 noCounts) input)
+  ran-number = omega (arith, ap (λ (r : Ran State). r .number) is, number-run sheet6 Unlimited (initial 1024 noCounts) input)
 
   pub ran-report : length input ≤ 65536 → report s ≡ checkText input
   unfolding checkText

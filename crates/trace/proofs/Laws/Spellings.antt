@@ -11,7 +11,7 @@ use lib.Dec.{eqb}
 use lib.ListN.{length, length-take}
 use borrow.Author.Tests.{leb-true, eqb-true}
 use Rattle.model.specs.declared.Event.the-variants.{Create, Borrow, Read, Write, Drop}
-use Rattle.model.specs.Requests.{Request, Single, Group, risesAbove, risesStrictly, isGroup}
+use Rattle.model.specs.Requests.{Limits, Unlimited, Request, Single, Group, callerOf, risesAbove, risesStrictly, isGroup}
 use Rattle.model.specs.Effects.{issuedAfter}
 use Rattle.model.specs.declared.Sheet.{Sheet}
 use Rattle.model.specs.Sheet6.{sheet6}
@@ -22,7 +22,7 @@ use Rattle.model.proofs.Offered.{fit-after, fit-order, issued-allowed, ordered,
 use Rattle.text.specs.Class.{classOf, newline}
 use Rattle.text.specs.Line.{through, nextLine, linesOf, partsOf}
 use Rattle.text.specs.Decimal.{numeral, decimal, numberFrom}
-use Rattle.text.specs.Event.{bytes, spaced, spell, hasSpelling, writesName}
+use Rattle.text.specs.Event.{bytes, spaced, form, spell, hasSpelling, writesName}
 use Rattle.text.specs.Group.{spellGroup, namesFrom, guessNames, readGroup}
 use Rattle.text.specs.Read.{same, guess, readEvent}
 use Rattle.text.specs.Result.{value, refused}
@@ -40,31 +40,50 @@ use Rattle.trace.proofs.Laws.Report.{ran-report}
 
 -- ---- a request that has a line without its name has one with its right name
 
-named-line : (i : ℕ) → suc i < 2 ^ 32 → (q : Request) → Spellable q → HasLine Named (rightlyNamed i q)
+named-line : (i : ℕ) → suc i < 2 ^ 32 → (q : Request) → HasLine Plain (unnamed q) → HasLine Named (rightlyNamed i q)
 unfolding hasSpelling writesName unnamed rightlyNamed
-named-line i l (Single (Create w s r)) sp = (sp .0, (l, sp .1))
-named-line i l (Single (Borrow w u s r)) sp = (sp .0, (l, sp .1))
-named-line i l (Single (Read u s)) sp = sp
-named-line i l (Single (Write u s)) sp = sp
-named-line i l (Single (Drop u)) sp = sp
-named-line i l (Group names) sp = sp
+named-line i l (Single by (Create w s r)) sp = (sp .0, ((l, sp .1 .0), sp .1 .1))
+named-line i l (Single by (Borrow w u s r)) sp = (sp .0, ((l, sp .1 .0), sp .1 .1))
+named-line i l (Single by (Read u s)) sp = sp
+named-line i l (Single by (Write u s)) sp = sp
+named-line i l (Single by (Drop u)) sp = sp
+named-line i l (Group by names) sp = sp
+
+-- and whoever asks for it asks for the other
+unnamed-caller : (q : Request) → callerOf (unnamed q) .limits ≡ callerOf q .limits
+unfolding unnamed
+unnamed-caller (Single by (Create w s r)) = refl
+unnamed-caller (Single by (Borrow w u s r)) = refl
+unnamed-caller (Single by (Read u s)) = refl
+unnamed-caller (Single by (Write u s)) = refl
+unnamed-caller (Single by (Drop u)) = refl
+unnamed-caller (Group by names) = refl
+
+named-caller : (i : ℕ) (q : Request) → callerOf (rightlyNamed i q) .limits ≡ callerOf q .limits
+unfolding rightlyNamed
+named-caller i (Single by (Create w s r)) = refl
+named-caller i (Single by (Borrow w u s r)) = refl
+named-caller i (Single by (Read u s)) = refl
+named-caller i (Single by (Write u s)) = refl
+named-caller i (Single by (Drop u)) = refl
+named-caller i (Group by names) = refl
 
 -- ---- a request
 
 -- it is one line, whatever follows
 one-line : (q : Request) (t : List ℕ) → linesOf (spellRequest q ++ t) ≡ spellRequest q ∷ linesOf t
 unfolding spellRequest
-one-line (Single e) t = spell-is-line e t
-one-line (Group names) t = group-is-line names t
+one-line (Single by e) t = spell-is-line (by .actor) e t
+one-line (Group by names) t = group-is-line (by .actor) names t
 
 request-line : (q : Request) (s t : List ℕ) → linesOf ((spellRequest q ++ s) ++ t) ≡ spellRequest q ∷ linesOf (s ++ t)
 request-line q s t = ap linesOf (append-assoc (spellRequest q) s t) ∙ one-line q (s ++ t)
 
 -- which reads back
-reads-back : (k : Spelling) (q : Request) → HasLine k q → readRequest k (spellRequest q) ≡ value q
+reads-back : (limits : Limits) (k : Spelling) (q : Request) → callerOf q .limits ≡ limits → HasLine k q → readRequest limits k (spellRequest q) ≡ value q
 unfolding spellRequest
-reads-back k (Single e) h = rw (spelling-reads-back k e (h .0) (h .1))
-reads-back k (Group names) h = rw (group-is-no-event k names (h .0) (h .1) (h .2), group-reads-back names (h .1) (h .2))
+reads-back limits k (Single by e) is h = rw (spelling-reads-back k (by .actor) e (h .0) (h .1), ← is)
+reads-back limits k (Group by names) is h = rw (group-is-no-event k (by .actor) names (h .0) (h .1) (h .2) (h .3), group-reads-back (by .actor) names (h .1) (h .2) (h .3), ← is)
 
 -- ---- the lines of both
 
@@ -75,34 +94,34 @@ record Higher (q p : Ran State) : Type 0 where
   states : q .state ≡ p .state
 
 -- behind the requests, both have the same line or none
-same-rests : (sheet : Sheet) {rest rest′ : List ℕ} → Rests rest rest′ → (before : ℕ) (h : State) → Higher (runLines (lent sheet) Named (before + 1) h (linesOf rest′)) (runLines (lent sheet) Plain before h (linesOf rest))
+same-rests : (sheet : Sheet) (limits : Limits) {rest rest′ : List ℕ} → Rests rest rest′ → (before : ℕ) (h : State) → Higher (runLines (lent sheet limits) Named (before + 1) h (linesOf rest′)) (runLines (lent sheet limits) Plain before h (linesOf rest))
 unfolding runLines partsOf
-same-rests sheet none before h = record { refusals = refl; numbers = refl; states = refl }
-same-rests sheet (misspelt {rest = rest} {rest′ = rest′} some line no-plain no-named) before h =
+same-rests sheet limits none before h = record { refusals = refl; numbers = refl; states = refl }
+same-rests sheet limits (misspelt {rest = rest} {rest′ = rest′} some line no-plain no-named) before h =
     let some′ : 0 < length rest′ = omega (arith, part-some newline rest some, ap length line, length-take (through newline rest′) rest′) in
-    rw (parts-next newline rest some, parts-next newline rest′ some′, ← line, no-plain, no-named) (record { refusals = refl; numbers = refl; states = refl })
+    rw (parts-next newline rest some, parts-next newline rest′ some′, ← line, no-plain limits, no-named limits) (record { refusals = refl; numbers = refl; states = refl })
 
 -- an example: a number with a leading zero, and in the first another line behind it
 rests-example : Rests (bytes "(read 01 0 8)\n(drop 1)\n") (bytes "(read 01 0 8)\n")
-unfolding readEvent guess hasSpelling spell readGroup guessNames namesFrom isGroup risesStrictly risesAbove spellGroup spaced decimal numeral numberFrom through classOf same
-rests-example = misspelt {rest = bytes "(read 01 0 8)\n(drop 1)\n"} (omega arith) refl refl refl
+unfolding readEvent guess hasSpelling spell form readGroup guessNames namesFrom isGroup risesStrictly risesAbove spellGroup spaced decimal numeral numberFrom through classOf same
+rests-example = misspelt {rest = bytes "(read 01 0 8)\n(drop 1)\n"} (omega arith) refl (λ limits. refl) (λ limits. refl)
 
-module _ (sheet : Sheet) {rest rest′ : List ℕ} (rests : Rests rest rest′) where
-  same-lines : (qs : List Request) → Spelled qs → (before : ℕ) (h : State) → Fit h → (i : ℕ) → i ≡ h .tally .issued
-      → Higher (runLines (lent sheet) Named (before + 1) h (linesOf (textOf (allRightlyNamed i qs) ++ rest′))) (runLines (lent sheet) Plain before h (linesOf (plainText qs ++ rest)))
+module _ (sheet : Sheet) (limits : Limits) {rest rest′ : List ℕ} (rests : Rests rest rest′) where
+  same-lines : (qs : List Request) → Spelled limits qs → (before : ℕ) (h : State) → Fit limits h → (i : ℕ) → i ≡ h .tally .issued
+      → Higher (runLines (lent sheet limits) Named (before + 1) h (linesOf (textOf (allRightlyNamed i qs) ++ rest′))) (runLines (lent sheet limits) Plain before h (linesOf (plainText qs ++ rest)))
   unfolding textOf allRightlyNamed runLines
-  same-lines [] sp before h o i is = same-rests sheet rests before h
+  same-lines [] sp before h o i is = same-rests sheet limits rests before h
   same-lines (q ∷ qs) sp before h o i is =
-      let small : suc i < 2 ^ 32 = omega (arith, is, leb-true (h .tally .issued) 1000000 (ordered (h .memory .table) (h .tally .issued) (fit-order (view h) o) .names-left)) in
+      let small : suc i < 2 ^ 32 = omega (arith, is, leb-true (h .tally .issued) 1000000 (ordered (h .memory .table) (h .tally .issued) (fit-order limits (view h) o) .names-left)) in
       rw (
         request-line (rightlyNamed i q) (textOf (allRightlyNamed (issuedAfter i q) qs)) rest′,
         request-line (unnamed q) (plainText qs) rest,
-        reads-back Named (rightlyNamed i q) (named-line i small q (sp .0)),
-        reads-back Plain (unnamed q) (sp .0),
+        reads-back limits Named (rightlyNamed i q) (named-caller i q ∙ sp .0 .0) (named-line i small q (sp .0 .1)),
+        reads-back limits Plain (unnamed q) (unnamed-caller q ∙ sp .0 .0) (sp .0 .1),
         answers,
         afters,
       )
-      (go (eqb (answer h (unnamed q) .refusal) 0) refl (same-lines qs (sp .1) (before + 1) (after sheet h (unnamed q)) (fit-after sheet h (unnamed q) o) (issuedAfter i q)))
+      (go (eqb (answer h (unnamed q) .refusal) 0) refl (same-lines qs (sp .1) (before + 1) (after sheet h (unnamed q)) (still-fit (unnamed q) (unnamed-caller q ∙ sp .0 .0)) (issuedAfter i q)))
     where
       answers : answer h (rightlyNamed i q) ≡ answer h (unnamed q)
       answers = ap (λ (j : ℕ). answer h (rightlyNamed j q)) is ∙ same-answer h q
@@ -110,14 +129,17 @@ module _ (sheet : Sheet) {rest rest′ : List ℕ} (rests : Rests rest rest′) 
       afters : after sheet h (rightlyNamed i q) ≡ after sheet h (unnamed q)
       afters = ap (λ (j : ℕ). after sheet h (rightlyNamed j q)) is ∙ same-after sheet h q
 
+      still-fit : (p : Request) → callerOf p .limits ≡ limits → Fit limits (after sheet h p)
+      still-fit p e = rw e at (fit-after sheet h p (rw e o))
+
       next : State
       next = after sheet h (unnamed q)
 
       plain : Ran State
-      plain = runLines (lent sheet) Plain (before + 1) next (linesOf (plainText qs ++ rest))
+      plain = runLines (lent sheet limits) Plain (before + 1) next (linesOf (plainText qs ++ rest))
 
       named : Ran State
-      named = runLines (lent sheet) Named (before + 1 + 1) next (linesOf (textOf (allRightlyNamed (issuedAfter i q) qs) ++ rest′))
+      named = runLines (lent sheet limits) Named (before + 1 + 1) next (linesOf (textOf (allRightlyNamed (issuedAfter i q) qs) ++ rest′))
 
       go : (b : Bool) → eqb (answer h (unnamed q) .refusal) 0 ≡ b → (issuedAfter i q ≡ next .tally .issued → Higher named plain)
           → Higher (cond b named (record { refusal = answer h (unnamed q) .refusal; number = before + 1 + 1; state = next })) (cond b plain (record { refusal = answer h (unnamed q) .refusal; number = before + 1; state = next }))
@@ -137,14 +159,14 @@ no-group : readGroup header ≡ refused 2
 unfolding readGroup guessNames namesFrom isGroup risesStrictly risesAbove spellGroup spaced decimal numeral numberFrom through classOf same
 no-group = refl
 
-pub header-misread : (k : Spelling) → readRequest k header ≡ refused 2
-header-misread k = rw (header-is-no-event k, no-group)
+pub header-misread : (limits : Limits) (k : Spelling) → readRequest limits k header ≡ refused 2
+header-misread limits k = rw (header-is-no-event k, no-group)
 
-no-header : (q : Request) → Spellable q → same (spellRequest (unnamed q)) header ≡ false
-no-header q sp = go (test (same (spellRequest (unnamed q)) header))
+no-header : (limits : Limits) (q : Request) → Spellable limits q → same (spellRequest (unnamed q)) header ≡ false
+no-header limits q sp = go (test (same (spellRequest (unnamed q)) header))
   where
     go : (same (spellRequest (unnamed q)) header ≡ true) ⊎ (same (spellRequest (unnamed q)) header ≡ false) → same (spellRequest (unnamed q)) header ≡ false
-    go (inl y) = absurd (let z : _≡_ {A = ℕ} 0 1 = cc (ap (readRequest Plain) (same-true (spellRequest (unnamed q)) header y), reads-back Plain (unnamed q) sp, header-misread Plain) in omega arith)
+    go (inl y) = absurd (let z : _≡_ {A = ℕ} 0 1 = cc (ap (readRequest limits Plain) (same-true (spellRequest (unnamed q)) header y), reads-back limits Plain (unnamed q) (unnamed-caller q ∙ sp .0) (sp .1), header-misread limits Plain) in omega arith)
     go (inr n) = n
 
 first-line : (text line : List ℕ) (lines : List (List ℕ)) → linesOf text ≡ line ∷ lines → nextLine text ≡ line
@@ -153,17 +175,17 @@ first-line [] line lines e = absurd (nil≢cons e)
 first-line (b ∷ text) line lines e = head-eq-of-cons-eq (sym (parts-next newline (b ∷ text) (omega arith)) ∙ e)
 
 -- so a trace that begins with a request is one of document 01, whatever follows; and the other begins with the header
-pub request-first : (q : Request) (qs : List Request) → Spelled (q ∷ qs) → (rest : List ℕ) → OldTrace (plainText (q ∷ qs) ++ rest)
+pub request-first : (limits : Limits) (q : Request) (qs : List Request) → Spelled limits (q ∷ qs) → (rest : List ℕ) → OldTrace (plainText (q ∷ qs) ++ rest)
 unfolding textOf
-request-first q qs sp rest =
+request-first limits q qs sp rest =
     let p = unnamed q in
-    rw (first-line ((spellRequest p ++ plainText qs) ++ rest) (spellRequest p) (linesOf (plainText qs ++ rest)) (request-line p (plainText qs) rest)) (no-header q (sp .0))
+    rw (first-line ((spellRequest p ++ plainText qs) ++ rest) (spellRequest p) (linesOf (plainText qs ++ rest)) (request-line p (plainText qs) rest)) (no-header limits q (sp .0))
 
 header-first : (t : List ℕ) → same (nextLine (header ++ t)) header ≡ true
 unfolding through classOf same
 header-first t = refl
 
-module _ (sheet : Sheet) (h : State) (qs : List Request) (sp : Spelled qs) {rest rest′ : List ℕ} (rests : Rests rest rest′) (old : OldTrace (plainText qs ++ rest)) (o : Fit h) where
+module _ (sheet : Sheet) (limits : Limits) (h : State) (qs : List Request) (sp : Spelled limits qs) {rest rest′ : List ℕ} (rests : Rests rest rest′) (old : OldTrace (plainText qs ++ rest)) (o : Fit limits h) where
   abbrev plain : List ℕ
   plain = plainText qs ++ rest
 
@@ -171,27 +193,27 @@ module _ (sheet : Sheet) (h : State) (qs : List Request) (sp : Spelled qs) {rest
   abbrev behind : List ℕ
   behind = textOf (allRightlyNamed (h .tally .issued) qs) ++ rest′
 
-  plain-run : run sheet h plain ≡ runLines (lent sheet) Plain 0 h (linesOf plain)
+  plain-run : run sheet limits h plain ≡ runLines (lent sheet limits) Plain 0 h (linesOf plain)
   unfolding runFrom
-  plain-run = rw o (trace-plain plain old (lent sheet) h)
+  plain-run = rw o (trace-plain plain old (lent sheet limits) h)
 
-  named-run : run sheet h (header ++ behind) ≡ runLines (lent sheet) Named 1 h (linesOf behind)
+  named-run : run sheet limits h (header ++ behind) ≡ runLines (lent sheet limits) Named 1 h (linesOf behind)
   unfolding runFrom
-  named-run = rw o (trace-named (header ++ behind) (header-first behind) (lent sheet) h)
+  named-run = rw o (trace-named (header ++ behind) (header-first behind) (lent sheet limits) h)
 
-  fitting : SameVerdicts sheet h plain (header ++ behind)
+  fitting : SameVerdicts sheet limits h plain (header ++ behind)
   fitting =
-      let s = same-lines sheet rests qs sp 0 h o (h .tally .issued) refl in
-      let p = runLines (lent sheet) Plain 0 h (linesOf plain) in
+      let s = same-lines sheet limits rests qs sp 0 h o (h .tally .issued) refl in
+      let p = runLines (lent sheet limits) Plain 0 h (linesOf plain) in
       record {
         same-refusal = rw (named-run, plain-run) (s .refusals);
-        one-higher = rw (named-run, plain-run) (s .numbers ∙ higher-is (p .refusal) (p .number) (refused-line sheet Plain 0 h (linesOf plain)));
+        one-higher = rw (named-run, plain-run) (s .numbers ∙ higher-is (p .refusal) (p .number) (refused-line sheet limits Plain 0 h (linesOf plain)));
         same-state = rw (named-run, plain-run) (s .states);
       }
 
-pub same-verdicts : (sheet : Sheet) (h : State) (qs : List Request) → Spelled qs → {rest rest′ : List ℕ} → Rests rest rest′ → OldTrace (plainText qs ++ rest)
-    → SameVerdicts sheet h (plainText qs ++ rest) (namedText (h .tally .issued) qs ++ rest′)
-same-verdicts sheet h qs sp {rest} {rest′} rests old = go (test (unfit (view h)))
+pub same-verdicts : (sheet : Sheet) (limits : Limits) (h : State) (qs : List Request) → Spelled limits qs → {rest rest′ : List ℕ} → Rests rest rest′ → OldTrace (plainText qs ++ rest)
+    → SameVerdicts sheet limits h (plainText qs ++ rest) (namedText (h .tally .issued) qs ++ rest′)
+same-verdicts sheet limits h qs sp {rest} {rest′} rests old = go (test (unfit limits (view h)))
   where
     plain : List ℕ
     plain = plainText qs ++ rest
@@ -199,22 +221,22 @@ same-verdicts sheet h qs sp {rest} {rest′} rests old = go (test (unfit (view h
     named : List ℕ
     named = namedText (h .tally .issued) qs ++ rest′
 
-    go : (unfit (view h) ≡ true) ⊎ Fit h → SameVerdicts sheet h plain named
+    go : (unfit limits (view h) ≡ true) ⊎ Fit limits h → SameVerdicts sheet limits h plain named
     go (inl d) =
-        let p = refused-run sheet h plain d in
-        let n = refused-run sheet h named d in
+        let p = refused-run sheet limits h plain d in
+        let n = refused-run sheet limits h named d in
         record { same-refusal = rw (n, p); one-higher = rw (n, p); same-state = rw (n, p) }
-    go (inr o) = fitting sheet h qs sp rests old o
+    go (inr o) = fitting sheet limits h qs sp rests old o
 
 -- ---- what `capcheck` prints
 
 pub ran-text : (text : List ℕ) → length text ≤ 65536 → checkText text ≡ report (checked text)
 ran-text text l = sym (ran-report text (checked text) refl l)
 
-pub same-checks : (qs : List Request) → Spelled qs → {rest rest′ : List ℕ} → Rests rest rest′ → OldTrace (plainText qs ++ rest)
+pub same-checks : (qs : List Request) → Spelled Unlimited qs → {rest rest′ : List ℕ} → Rests rest rest′ → OldTrace (plainText qs ++ rest)
     → length (plainText qs ++ rest) ≤ 65536 → length (namedText 0 qs ++ rest′) ≤ 65536 → SameChecks (plainText qs ++ rest) (namedText 0 qs ++ rest′)
 same-checks qs sp {rest} {rest′} rests old few few′ =
-    let v = same-verdicts sheet6 (initial 1024 noCounts) qs sp rests old in
+    let v = same-verdicts sheet6 Unlimited (initial 1024 noCounts) qs sp rests old in
     record {
       plain-report = ran-text (plainText qs ++ rest) few;
       named-report = ran-text (namedText 0 qs ++ rest′) few′ ∙ ap report (λ i. record { refusal = v .same-refusal i; number = v .one-higher i; state = v .same-state i });

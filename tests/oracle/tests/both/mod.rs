@@ -1,7 +1,9 @@
 //! Lines taken on a table and beside its history.
+//! Each file of tests uses a part of this.
+#![allow(dead_code)]
 
 use oracle::traces::Step;
-use oracle::{Event, History, Row, Spelling, Tally, Written, apply, read_event_line};
+use oracle::{Act, By, Event, History, Row, Spelling, Tally, Written, apply, read_event_line};
 
 pub const ROWS: usize = 8;
 
@@ -14,45 +16,56 @@ pub struct Both {
 }
 
 impl Both {
-    pub fn empty() -> Both {
+    pub fn empty(rows: usize) -> Both {
         Both {
-            rows: vec![Row::default(); ROWS],
+            rows: vec![Row::default(); rows],
             written: Written::default(),
             tally: Tally::default(),
-            history: History::new(ROWS),
+            history: History::new(rows),
         }
     }
 
-    pub fn answer(&mut self, event: Event) -> Result<u32, u8> {
+    /// An event with which these limits are lent.
+    pub fn answer(&mut self, limits: &[u32], act: Act) -> Result<u32, u8> {
+        let by = By {
+            limits,
+            ..By::default()
+        };
         let written = Some(&mut self.written);
-        let answer = apply(&mut self.rows, written, &mut self.tally, event);
-        self.demand_three(event, answer);
-        assert_eq!(answer, self.history.answer(event), "{event:?}");
-        assert_eq!(self.rows, self.history.table(), "{event:?}");
-        assert_eq!(self.written, self.history.written(), "{event:?}");
+        let answer = apply(by, &mut self.rows, written, &mut self.tally, act);
+        self.demand_three(limits, act, answer);
+        assert_eq!(answer, self.history.answer(limits, act), "{act:?}");
+        assert_eq!(self.rows, self.history.table(), "{act:?}");
+        assert_eq!(self.written, self.history.written(), "{act:?}");
         answer
     }
 
-    fn demand_three(&self, event: Event, answer: Result<u32, u8>) {
+    fn demand_three(&self, limits: &[u32], act: Act, answer: Result<u32, u8>) {
+        let Act { actor, event } = act;
         let expected = match event {
-            Event::Read { name, span } => self.history.may_read(name, span),
-            Event::Write { name, span } => self.history.may_write(name, span),
+            Event::Read { name, span } => self.history.may_read(limits, actor, name, span),
+            Event::Write { name, span } => self.history.may_write(limits, actor, name, span),
             _ => return,
         };
-        assert_eq!(answer.is_ok(), expected, "{event:?}");
+        assert_eq!(answer.is_ok(), expected, "{act:?}");
+    }
+
+    /// Lines with which these limits are lent, each with the answer that it should have.
+    pub fn take(&mut self, limits: &[u32], steps: &[Step]) {
+        for (line, expected) in steps {
+            assert_eq!(self.answer(limits, act(line)), *expected, "{line}");
+        }
     }
 }
 
-/// What lines leave, each with the answer that it should have.
+/// What lines leave without limits, each with the answer that it should have.
 pub fn after(steps: &[Step]) -> Both {
-    let mut both = Both::empty();
-    for (line, expected) in steps {
-        assert_eq!(both.answer(event(line)), *expected, "{line}");
-    }
+    let mut both = Both::empty(ROWS);
+    both.take(&[], steps);
     both
 }
 
-pub fn event(line: &str) -> Event {
+pub fn act(line: &str) -> Act {
     let line = format!("{line}\n");
     read_event_line(line.as_bytes(), Spelling::Plain).expect("a line")
 }

@@ -10,31 +10,16 @@ use Rattle.kelzoud.proofs.requests.read_names.Statement.{statement}
 use Rattle.kelzoud.proofs.requests.read_names.Tie as tie
 
 cast-group-words : tie.Need-cast-group-words
-cast-group-words c = record { fits = omega (arith, counted _ _ (ap groupAnswer (sym (c .before .found .given .1)) ∙ c .before .before .before .read-group .ensures .0) .few) }
+cast-group-words c = record { fits = omega (arith, counted _ _ _ (ap groupAnswer (sym (c .before .found .given .1)) ∙ c .before .before .before .read-group .ensures .0) .few) }
 
 returns : tie.Need-returns
 unfolding wordsOf
-returns c =
-    let line = c .before .before .before .before .before .before .before .before .args .line .now in
-    let k = counted line (c .before .before .before .found .given .0 .0) (ap groupAnswer (sym (c .before .before .before .found .given .1)) ∙ c .before .before .before .before .before .read-group .ensures .0) in
+returns c = let k = counted (c .before .before .before .before .before .before .before .before .args .line .now) (c .before .before .before .found .given .0 .0) (c .before .before .before .found .given .0 .1 .0) (ap groupAnswer (sym (c .before .before .before .found .given .1)) ∙ c .before .before .before .before .before .read-group .ensures .0) in
     (rw (k .read) (c .pack .ensures), rw (k .read, ← k .count) (c .before .group-words .ensures), rw (k .read) (rw (k .read) at (c .before .before .before .before .before .read-group .ensures .1)))
 
 returns-2 : tie.Need-returns-2
-returns-2 c =
-    let line = c .before .before .before .before .before .before .before .args .line .now in
-    let k = unread line _ (ap groupAnswer (sym (c .before .before .found2 .given .1)) ∙ c .before .before .before .before .read-group .ensures .0) in
+returns-2 c = let k = unread (c .before .before .before .before .before .before .before .args .line .now) _ (ap groupAnswer (sym (c .before .before .found2 .given .1)) ∙ c .before .before .before .before .read-group .ensures .0) in
     (rw k (c .pack-refusal .ensures), rw k, rw k (rw k at (c .before .before .before .before .read-group .ensures .1)))
 
 pub read-names-spec : {M : Type 1} → statement M
-read-names-spec =
-    tie.close
-    (tie.spec
-    (λ c κs. search needs)
-    (λ c. search needs)
-    cast-group-words
-    (λ c κs. search needs)
-    (λ c κs. search needs)
-    (λ c. search needs)
-    (λ c κs. search needs)
-    returns
-    returns-2)
+read-names-spec = tie.close (tie.spec (λ c κs. search needs) (λ c. search needs) cast-group-words (λ c κs. search needs) (λ c κs. search needs) (λ c. search needs) (λ c κs. search needs) returns returns-2)

@@ -12,26 +12,7 @@ returns c = rw (eq-eqb _ 6 (c .if1 .taken))
 
 returns-2 : tie.Need-returns-2
 unfolding askedIn eventIn
-returns-2 c = rw (ne-eqb _ 6 (c .before .before .before .before .before .if1 .left), c .event-with .ensures, c .before .fresh-in .ensures, c .before .before .kind-in .ensures, c .before .before .before .right-in .ensures, c .before .before .before .before .new-in .ensures)
+returns-2 c = rw (ne-eqb _ 6 (c .before .before .before .if1 .left), c .event-with .ensures, c .before .terms-in .ensures, c .before .before .new-in .ensures)
 
 pub asked-in-spec : {M : Type 1} → statement M
-asked-in-spec =
-    tie.close
-    (tie.spec
-    (λ c. search needs)
-    returns
-    (λ c. search needs)
-    (λ c. search needs)
-    (λ c κs. search needs)
-    (λ c. search needs)
-    (λ c κs. search needs)
-    (λ c. search needs)
-    (λ c κs. search needs)
-    (λ c. search needs)
-    (λ c κs. search needs)
-    (λ c. search needs)
-    (λ c. search needs)
-    (λ c. search needs)
-    (λ c. search needs)
-    (λ c κs. search needs)
-    returns-2)
+asked-in-spec = tie.close (tie.spec (λ c. search needs) (λ c. search needs) returns (λ c. search needs) (λ c. search needs) (λ c κs. search needs) (λ c κs. search needs) (λ c. search needs) (λ c. search needs) (λ c. search needs) (λ c. search needs) (λ c κs. search needs) returns-2)

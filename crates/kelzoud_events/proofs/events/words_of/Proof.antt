@@ -7,11 +7,11 @@ use Rattle.kelzoud_events.proofs.events.words_of.Tie as tie
 
 returns : tie.Need-returns
 unfolding wordsOf
-returns c = rw (c .before .before .before .before .before .event .given .1, c .before .written-of .ensures, c .before .before .named-of .ensures)
+returns c = rw (c .before .before .before .before .before .before .before .event .given .1, c .before .before .before .written-of .ensures, c .before .before .before .before .named-of .ensures, c .before .low-half .ensures, c .high-half .ensures)
 
 returns-2 : tie.Need-returns-2
 unfolding wordsOf
-returns-2 c = rw (c .before .before .before .before .before .event2 .given .1, c .before .written-of2 .ensures, c .before .before .named-of2 .ensures)
+returns-2 c = rw (c .before .before .before .before .before .before .before .event2 .given .1, c .before .before .before .written-of2 .ensures, c .before .before .before .before .named-of2 .ensures, c .before .low-half2 .ensures, c .high-half2 .ensures)
 
 returns-3 : tie.Need-returns-3
 unfolding wordsOf
@@ -26,24 +26,4 @@ unfolding wordsOf
 returns-5 c = rw (c .before .event5 .given .1)
 
 pub words-of-spec : {M : Type 1} → statement M
-words-of-spec =
-    tie.close
-    (tie.spec
-    (λ c. search needs)
-    (λ c. search needs)
-    (λ c κs. search needs)
-    (λ c κs. search needs)
-    (λ c. search needs)
-    (λ c. search needs)
-    (λ c. search needs)
-    (λ c κs. search needs)
-    (λ c κs. search needs)
-    (λ c. search needs)
-    (λ c. search needs)
-    (λ c. search needs)
-    (λ c. search needs)
-    returns
-    returns-2
-    returns-3
-    returns-4
-    returns-5)
+words-of-spec = tie.close (tie.spec (λ c. search needs) (λ c. search needs) (λ c κs. search needs) (λ c κs. search needs) (λ c. search needs) (λ c κs. search needs) (λ c κs. search needs) (λ c. search needs) (λ c. search needs) (λ c κs. search needs) (λ c κs. search needs) (λ c. search needs) (λ c κs. search needs) (λ c κs. search needs) (λ c. search needs) (λ c. search needs) (λ c. search needs) returns returns-2 returns-3 returns-4 returns-5)

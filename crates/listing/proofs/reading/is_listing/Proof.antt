@@ -74,7 +74,7 @@ returns-2 c = c .before .writes-back .ensures ∙ sym (same-listing (c .before .
 writes-back-requires-2 : tie.Need-writes-back-requires-2
 writes-back-requires-2 c κs =
     let ordered = c .before .before in
-    (few ordered, live ordered, inr (omega (arith, length-replicate {A = ℕ} 39949 0)), inside ordered, names ordered)
+    (few ordered, live ordered, inr (omega (arith, length-replicate {A = ℕ} 60429 0)), inside ordered, names ordered)
 
 returns-3 : tie.Need-returns-3
 returns-3 c = c .before .writes-back2 .ensures ∙ sym (same-listing (c .before .before .before .before))

@@ -20,7 +20,7 @@ more : (ws : List (List ℕ)) (i total len : ℕ) (c : Cap) → i < length ws �
 more ws i total len c l e f g = omega (arith, forms-more ws i l, ap formLength g, ap (λ (k : ℕ). formsLength (firstRows ws k)) (add-one i))
 
 abbrev Inv-loop : tie.InvT-loop
-Inv-loop table n total₀ i₀ total i = (i ≤ n) × (total ≡ formsLength (firstRows table i)) × (total ≤ 49 * i)
+Inv-loop table n total₀ i₀ total i = (i ≤ n) × (total ≡ formsLength (firstRows table i)) × (total ≤ 77 * i)
 
 abbrev μ-loop : tie.MeasureT-loop
 μ-loop table n total₀ i₀ total i = n - i

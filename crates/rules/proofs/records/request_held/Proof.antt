@@ -9,7 +9,7 @@ use Rattle.rules.proofs.records.request_held.Tie as tie
 
 returns : tie.Need-returns
 returns c =
-    let s = c .before .before .before .before .before .before .before .before .before in
+    let s = c .before .before .before .before .before .before .before .before .before .before in
     let e : sheetIn (c .before .before .before .before .before .before .bytes-of .result) ≡ s .args .sheet = ap sheetIn (c .before .before .before .before .before .before .bytes-of .ensures) ∙ bytes-back (s .args .sheet) in
     rw e at (c .before .before .request-first .ensures)
 

@@ -1,25 +1,25 @@
 -- `change` meets its contract.
 -- Assumes nothing.
 use mathlib.Core.Path.{subst}
-use borrow.Author.Needs.{needs}
+use mathlib.Core.List.{[]}
 use Rattle.model.specs.declared.Asked.{Asked}
-use Rattle.model.specs.Requests.{requestOf}
+use Rattle.model.specs.declared.Asked.the-variants as ask
 use Rattle.model.specs.Effects.{rowsAfter}
 use Rattle.table.specs.Words.{rowsIn}
 use Rattle.rules.specs.Steps.{AllowedOn}
 use Rattle.rules.proofs.Laws.Steps.{ready}
+use borrow.Author.Needs.{needs}
 use Rattle.rules.proofs.steps.change.Statement.{statement}
 use Rattle.rules.proofs.steps.change.Tie as tie
 
 change-event-requires : tie.Need-change-event-requires
 change-event-requires c κs =
-    let s = c .before .before .before .before .before .before in
-    (s .pre .0 .orderly, subst (λ (x : Asked). AllowedOn (rowsIn (s .args .table .now)) (s .args .issued) (requestOf x (s .args .names .now))) (c .before .before .before .asked .given .1) (s .pre .1), s .pre .0 .placed)
+    let s = c .before .before .before .before .before .before in let told = c .before .before .before .asked .given in
+    let j : AllowedOn (rowsIn (s .args .table .now)) (s .args .issued) (ask.Single (told .0 .0) (told .0 .1 .0)) (s .args .names .now) = subst (λ (x : Asked). AllowedOn (rowsIn (s .args .table .now)) (s .args .issued) x (s .args .names .now)) (told .1) (s .pre .1) in
+    (s .pre .0 .orderly, record { bits = j .bits; limits = j .limits; judged = j .judged }, s .pre .0 .placed)
 
 drop-names-requires : tie.Need-drop-names-requires
-drop-names-requires c κs =
-    let s = c .before .before .before .before .before in
-    (ready (s .args .table .now) (s .args .k) (s .args .issued) (s .pre .0 .orderly), s .pre .0 .placed)
+drop-names-requires c κs = let s = c .before .before .before .before .before in (ready (s .args .table .now) (s .args .k) (s .args .issued) (s .pre .0 .orderly), s .pre .0 .placed)
 
 returns : tie.Need-returns
 returns c = rw (c .before .before .before .before .before .asked .given .1) (c .before .change-event .ensures)
@@ -29,14 +29,4 @@ unfolding rowsAfter
 returns-2 c = rw (c .before .before .before .before .enum-told .given .1) (c .before .drop-names .ensures)
 
 pub change-spec : {M : Type 1} → statement M
-change-spec =
-    tie.close
-    (tie.spec
-    (λ c. search needs)
-    change-event-requires
-    (λ c. search needs)
-    drop-names-requires
-    (λ c. search needs)
-    returns
-    (λ c. search needs)
-    returns-2)
+change-spec = tie.close (tie.spec (λ c. search needs) change-event-requires (λ c. search needs) drop-names-requires (λ c. search needs) returns (λ c. search needs) returns-2)

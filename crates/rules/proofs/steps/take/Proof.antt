@@ -1,73 +1,83 @@
 -- `take` meets its contract.
 -- Assumes nothing.
-use mathlib.Core.Path.{_≡_, refl, subst, _∙_}
-use borrow.Author.Needs.{needs}
+use mathlib.Core.Path.{_≡_, refl, sym, subst, _∙_, ap}
+use mathlib.Core.Bool.{false}
+use mathlib.Core.List.{List}
+use Prim.Native.Nat.{ℕ}
 use lib.ListN.{length}
+use Rattle.model.specs.declared.Cap.{Cap}
 use Rattle.model.specs.declared.Answer.{Answer}
 use Rattle.model.specs.declared.Answer.the-variants.{Allowed, Refused}
-use Rattle.model.specs.Requests.{Request, requestOf}
+use Rattle.model.specs.Requests.{Limits, Request, requestOf, callerOf}
 use Rattle.model.specs.Refusals.{viewOf, judge}
+use Rattle.model.specs.Limits.{refusedSheet}
 use Rattle.model.specs.Effects.{newName}
 use Rattle.model.specs.Step.{Verdict, verdict}
+use Rattle.model.specs.Table.{lentTable}
 use Rattle.model.specs.Answers.{verdictOf}
 use Rattle.table.specs.Words.{rowsIn}
+use Rattle.table.specs.Rows.{before}
 use Rattle.table.specs.Sheets.{sheetIn}
+use Rattle.table.specs.Limits.{limitsIn}
 use Rattle.table.proofs.Offered.{orderly-issued}
-use Rattle.rules.proofs.Laws.Steps.{allowed-zero, stepped-allowed, stepped-refused, orderly-after, counted}
+use Rattle.rules.proofs.Laws.Steps.{allowed-zero, stepped-allowed, stepped-refused, orderly-after, allowed-after, with-limits, without-limits, all-fit, same-rows, same-bits, counted}
+use borrow.Author.Needs.{needs}
 use Rattle.rules.proofs.steps.take.Statement.{statement}
 use Rattle.rules.proofs.steps.take.Tie as tie
 
+judge-request-requires : tie.Need-judge-request-requires
+judge-request-requires c κs = let f = c .before .before .before .before .before .pre in (f .known .orderly, f .sized, f .allowed)
+
 change-requires : tie.Need-change-requires
 change-requires c κs =
-    let s = c .before .before .before .before .before .before .before .before .before .before in let ws = s .args .table .now in let bs = s .args .bits .now in
-    let req : Request = requestOf (s .args .asked) (s .args .names .now) in
+    let s = c .before .before .before .before .before .before .before .before .before .before .before in let ws = s .args .table .now in let bs = s .args .bits .now in let o = s .pre .known .orderly in
+    let limits : Limits = limitsIn (s .args .limits .now) in
+    let req : Request = requestOf limits (s .args .asked) (s .args .names .now) in
     let told = c .before .before .before .a2 .given in
     let v : Verdict = verdict (judge (viewOf (rowsIn ws) bs (s .args .t .issued)) req) (newName (s .args .t .issued) req) in
     let q : verdictOf (Allowed (told .0 .0)) ≡ v = subst (λ (x : Answer). verdictOf x ≡ v) (told .1) (c .before .before .before .before .before .judge-request .ensures) in
-    (s .pre .0, record { bits = bs; judged = allowed-zero (sheetIn (s .args .sheet .now)) ws bs (s .args .t) req (told .0 .0) q })
+    (s .pre .known, record { bits = bs; limits = limits; judged = allowed-zero (sheetIn (s .args .sheet .now)) ws bs (s .args .t) req (told .0 .0) q })
+
+change-bits-requires : tie.Need-change-bits-requires
+change-bits-requires c κs = c .before .before .before .before .before .before .before .before .before .before .before .before .before .before .pre .sized
 
 count-allowed-requires : tie.Need-count-allowed-requires
-count-allowed-requires c κs =
-    let s = c .before .before .before .before .before .before .before .before .before .before .before .before .before .before .before .before in
-    orderly-issued (rowsIn (s .args .table .now)) (length (s .args .table .now)) (s .args .k) (s .args .t .issued) (s .pre .0 .orderly)
+count-allowed-requires c κs = let s = c .before .before .before .before .before .before .before .before .before .before .before .before .before .before .before .before .before in orderly-issued (rowsIn (s .args .table .now)) (length (s .args .table .now)) (s .args .k) (s .args .t .issued) (s .pre .known .orderly)
 
 returns : tie.Need-returns
 returns c =
-    let s = c .before .before .before .before .before .before .before .before .before in let ws = s .args .table .now in let bs = s .args .bits .now in let o = s .pre .0 .orderly in
-    let req : Request = requestOf (s .args .asked) (s .args .names .now) in
+    let s = c .before .before .before .before .before .before .before .before .before .before in let ws = s .args .table .now in let bs = s .args .bits .now in let o = s .pre .known .orderly in
+    let limits : Limits = limitsIn (s .args .limits .now) in
+    let req : Request = requestOf limits (s .args .asked) (s .args .names .now) in
     let told = c .before .before .a .given in
     let v : Verdict = verdict (judge (viewOf (rowsIn ws) bs (s .args .t .issued)) req) (newName (s .args .t .issued) req) in
+    let sheet = sheetIn (s .args .sheet .now) in
+    let l : refusedSheet (rowsIn ws) (callerOf req .limits) ≡ false = with-limits (λ x. refusedSheet (rowsIn ws) x ≡ false) limits (s .args .asked) (s .args .names .now) (s .pre .allowed) in
     let q : verdictOf (Refused (told .0 .0)) ≡ v = subst (λ (x : Answer). verdictOf x ≡ v) (told .1) (c .before .before .before .before .judge-request .ensures) in
-    let st = stepped-refused (sheetIn (s .args .sheet .now)) ws bs (s .args .t) req (s .args .k) o (s .pre .1) (c .count-refused .result) (told .0 .0) q (c .count-refused .ensures) in
-    (st, record { orderly = orderly-after (sheetIn (s .args .sheet .now)) ws bs (s .args .t) req (s .args .k) ws bs _ (s .args .k) refl o st (o .front); placed = s .pre .0 .placed }, s .pre .1)
+    let st = stepped-refused sheet ws bs (s .args .t) req (s .args .k) o (s .pre .sized) l (c .count-refused .result) (told .0 .0) q (c .count-refused .ensures) in
+    (st, record { known = record { orderly = orderly-after sheet ws bs (s .args .t) req ws bs _ st (s .args .k) (s .args .k) refl o (o .front); placed = s .pre .known .placed }; sized = s .pre .sized; allowed = s .pre .allowed })
 
 returns-2 : tie.Need-returns-2
 returns-2 c =
-    let s = c .before .before .before .before .before .before .before .before .before .before .before .before .before .before .before .before .before in
-    let ws = s .args .table .now in let bs = s .args .bits .now in let o = s .pre .0 .orderly in
-    let req : Request = requestOf (s .args .asked) (s .args .names .now) in
-    let left = c .before .before .before .before .before .before .change in
-    let put = c .before .before .before .change-bits in
+    let s = c .before .before .before .before .before .before .before .before .before .before .before .before .before .before .before .before .before .before in let ws = s .args .table .now in let bs = s .args .bits .now in let o = s .pre .known .orderly in
+    let limits : Limits = limitsIn (s .args .limits .now) in
+    let req : Request = requestOf limits (s .args .asked) (s .args .names .now) in
     let told = c .before .before .before .before .before .before .before .before .before .before .a2 .given in
     let v : Verdict = verdict (judge (viewOf (rowsIn ws) bs (s .args .t .issued)) req) (newName (s .args .t .issued) req) in
+    let sheet = sheetIn (s .args .sheet .now) in let left = c .before .before .before .before .before .before .change in let put = c .before .before .before .change-bits in
+    let l : refusedSheet (rowsIn ws) (callerOf req .limits) ≡ false = with-limits (λ x. refusedSheet (rowsIn ws) x ≡ false) limits (s .args .asked) (s .args .names .now) (s .pre .allowed) in
     let q : verdictOf (Allowed (told .0 .0)) ≡ v = subst (λ (x : Answer). verdictOf x ≡ v) (told .1) (c .before .before .before .before .before .before .before .before .before .before .before .before .judge-request .ensures) in
-    let st = stepped-allowed (sheetIn (s .args .sheet .now)) ws bs (s .args .t) req (s .args .k) o (left .last .0) (put .last .0) (c .count-allowed .result) (told .0 .0) q (left .ensures .table) (put .ensures (s .args .names .now)) (c .count-allowed .ensures ∙ counted (s .args .asked) (s .args .names .now) (s .args .t)) in
-    (st, record { orderly = orderly-after (sheetIn (s .args .sheet .now)) ws bs (s .args .t) req (s .args .k) (left .last .0) (put .last .0) _ (left .result) (c .before .before .before .before .before .table .given) o st (left .ensures .front); placed = left .ensures .placed }, c .before .before .bits .given ∙ s .pre .1)
+    let st = stepped-allowed sheet ws bs (s .args .t) req (s .args .k) o (left .last .0) (put .last .0) (c .count-allowed .result) (told .0 .0) q
+    (left .ensures .table ∙ ap (λ (rows : List Cap). lentTable (length ws) rows) (same-rows limits (s .args .names .now) sheet (s .args .t .issued) (before (rowsIn ws) (s .args .k)) (s .args .asked)))
+    (put .ensures ∙ same-bits limits (s .args .names .now) bs (s .args .asked)) (c .count-allowed .ensures ∙ counted limits (s .args .names .now) (s .args .asked) (s .args .t)) in
+    let fit = all-fit ws bs (s .args .t) req (s .args .k) o (s .pre .sized) l in (
+      st,
+      record {
+        known = record { orderly = orderly-after sheet ws bs (s .args .t) req (left .last .0) (put .last .0) _ st (s .args .k) (left .result) (c .before .before .before .before .before .table .given) o (left .ensures .front); placed = left .ensures .placed };
+        sized = c .before .before .bits .given ∙ s .pre .sized;
+        allowed = without-limits (λ x. refusedSheet (rowsIn (left .last .0)) x ≡ false) limits (s .args .asked) (s .args .names .now) (allowed-after sheet ws bs (s .args .t) req (left .last .0) (put .last .0) _ st fit);
+      },
+    )
 
 pub take-spec : {M : Type 1} → statement M
-take-spec =
-    tie.close
-    (tie.spec
-    (λ c κs. search needs)
-    (λ c. search needs)
-    (λ c κs. search needs)
-    (λ c. search needs)
-    change-requires
-    (λ c κs. search needs)
-    count-allowed-requires
-    (λ c. search needs)
-    (λ c. search needs)
-    returns
-    (λ c. search needs)
-    (λ c. search needs)
-    returns-2)
+take-spec = tie.close (tie.spec judge-request-requires (λ c. search needs) (λ c κs. search needs) (λ c. search needs) change-requires change-bits-requires count-allowed-requires (λ c. search needs) (λ c. search needs) returns (λ c. search needs) (λ c. search needs) returns-2)

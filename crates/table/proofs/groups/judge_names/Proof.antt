@@ -20,11 +20,11 @@ use Rattle.table.proofs.groups.judge_names.Statement.{statement}
 use Rattle.table.proofs.groups.judge_names.Tie as tie
 
 abbrev Inv-loop : tie.InvT-loop
-Inv-loop table k issued names i₀ i =
-    (i ≤ length names) × (first (standings (before (rowsIn table) k) issued (drop i names)) ≡ first (standings (before (rowsIn table) k) issued names))
+Inv-loop table k issued actor names i₀ i =
+    (i ≤ length names) × (first (standings (before (rowsIn table) k) issued actor (drop i names)) ≡ first (standings (before (rowsIn table) k) issued actor names))
 
 abbrev μ-loop : tie.MeasureT-loop
-μ-loop table k issued names i₀ i = length names - i
+μ-loop table k issued actor names i₀ i = length names - i
 
 returns : tie.Need-returns Inv-loop μ-loop
 returns c =
@@ -33,8 +33,8 @@ returns c =
     let T = rowsIn (s .args .table .now) in
     let x = c .before .place .given .0 .0 in
     let u : Name = record { 0 = getD (s .args .names .now) (l .loop .i) 0 } in
-    let st : Stands T (s .args .k) (s .args .issued) u (Not x) = subst (λ (p : Place). Stands T (s .args .k) (s .args .issued) u p) (c .before .place .given .1) (c .before .before .before .place-of .ensures) in
-    rw (sym (l .loop .inv .1) ∙ names-stop (before T (s .args .k)) (s .args .issued) (s .args .names .now) (l .loop .i) (c .before .before .before .before .before .loop-test .taken) (number x) (numbered x) st, numbered x)
+    let st : Stands T (s .args .k) (s .args .issued) (s .args .actor) u (Not x) = subst (λ (p : Place). Stands T (s .args .k) (s .args .issued) (s .args .actor) u p) (c .before .place .given .1) (c .before .before .before .place-of .ensures) in
+    rw (sym (l .loop .inv .1) ∙ names-stop (before T (s .args .k)) (s .args .issued) (s .args .actor) (s .args .names .now) (l .loop .i) (c .before .before .before .before .before .loop-test .taken) (number x) (numbered x) st, numbered x)
 
 loop-again : tie.Need-loop-again Inv-loop μ-loop
 loop-again c =
@@ -43,14 +43,14 @@ loop-again c =
     let T = rowsIn (s .args .table .now) in
     let u : Name = record { 0 = getD (s .args .names .now) (l .loop .i) 0 } in
     let q = c .enum-told .given .0 .0 in
-    let st : Stands T (s .args .k) (s .args .issued) u (At q) = subst (λ (p : Place). Stands T (s .args .k) (s .args .issued) u p) (c .enum-told .given .1) (c .before .before .place-of .ensures) in
-    (omega arith, sym (names-on (before T (s .args .k)) (s .args .issued) (s .args .names .now) (l .loop .i) (c .before .before .before .before .loop-test .taken) (st .0)) ∙ l .loop .inv .1)
+    let st : Stands T (s .args .k) (s .args .issued) (s .args .actor) u (At q) = subst (λ (p : Place). Stands T (s .args .k) (s .args .issued) (s .args .actor) u p) (c .enum-told .given .1) (c .before .before .place-of .ensures) in
+    (omega arith, sym (names-on (before T (s .args .k)) (s .args .issued) (s .args .actor) (s .args .names .now) (l .loop .i) (c .before .before .before .before .loop-test .taken) (st .0)) ∙ l .loop .inv .1)
 
 returns-2 : tie.Need-returns-2 Inv-loop μ-loop
 returns-2 c =
     let l = c .before in
     let s = l .before .before in
-    rw (sym (l .loop .inv .1) ∙ names-end (before (rowsIn (s .args .table .now)) (s .args .k)) (s .args .issued) (s .args .names .now) (l .loop .i) (c .loop-test .left))
+    rw (sym (l .loop .inv .1) ∙ names-end (before (rowsIn (s .args .table .now)) (s .args .k)) (s .args .issued) (s .args .actor) (s .args .names .now) (l .loop .i) (c .loop-test .left))
 
 pub judge-names-spec : {M : Type 1} → statement M
 judge-names-spec =

@@ -1,84 +1,31 @@
 -- `judge_borrow` meets its contract.
 -- Assumes nothing.
-use mathlib.Core.Path.{_≡_, sym, ap, _∙_, subst}
+use mathlib.Core.Path.{_≡_, sym, _∙_}
 use mathlib.Core.Bool.{true, false}
-use Prim.Native.Nat.{ℕ, suc}
-use native.Mathlib.Omega.{arith}
-use lib.ListN.{length}
-use borrow.Author.Needs.{needs}
-use borrow.Author.Tests.{not-true, not-false}
-use Rattle.table.specs.declared.judge.Place.{Place}
-use Rattle.table.specs.declared.judge.Place.the-variants.{At, Not}
+use borrow.Author.Tests.{not-true, not-false, ltb-true}
 use Rattle.model.specs.Refusals.{unfitChild}
-use Rattle.model.specs.Step.{verdict}
-use Rattle.model.specs.Table.{lookup}
-use Rattle.table.proofs.Laws.Words.{rise-fits}
-use Rattle.table.specs.Words.{rowsIn}
-use Rattle.table.specs.Rows.{before}
-use Rattle.table.specs.Stands.{Serves}
-use Rattle.table.proofs.Laws.Ordered.{lookup-place}
-use Rattle.table.proofs.Laws.Judge.{numbered, borrow-not, borrow-deep, borrow-room}
+use Rattle.table.proofs.Laws.Judge.{child-domain}
+use borrow.Author.Needs.{needs}
 use Rattle.table.proofs.judge.judge_borrow.Statement.{statement}
 use Rattle.table.proofs.judge.judge_borrow.Tie as tie
 
-is-fit : (c : tie.Else1) → unfitChild (c .before .before .args .r) ≡ false
-is-fit c = not-true (unfitChild (c .before .before .args .r)) (sym (c .before .fit-child .ensures) ∙ not-false (c .before .fit-child .result) (c .if1 .left))
-
--- the place of the name, and the row there
-place : (c : tie.After-known-told2) → Serves (rowsIn (c .before .before .before .before .before .before .before .args .table .now)) (c .before .before .before .before .before .before .before .args .k) (c .before .before .before .before .before .before .before .args .issued) (c .before .before .before .before .before .before .before .args .u) (c .before .before .before .before .before .before .before .args .s) (c .before .before .before .before .before .before .before .args .r .right) (At (c .before .q .given .0 .0))
-place c =
-    let s = c .before .before .before .before .before .before .before in
-    subst (λ (p : Place). Serves (rowsIn (s .args .table .now)) (s .args .k) (s .args .issued) (s .args .u) (s .args .s) (s .args .r .right) p) (c .before .q .given .1) (c .before .before .before .usable-place .ensures)
-
-found : (c : tie.After-row-at) → lookup (c .before .before .before .before .before .before .before .before .args .u .0) (before (rowsIn (c .before .before .before .before .before .before .before .before .args .table .now)) (c .before .before .before .before .before .before .before .before .args .k)) ≡ c .row-at .result
-found c =
-    let s = c .before .before .before .before .before .before .before .before in let p = place (c .before) in
-    lookup-place (rowsIn (s .args .table .now)) (s .args .k) (c .before .before .q .given .0 .0) (s .args .u .0) (s .pre .1) (p .1) (p .2) .1 ∙ sym (c .row-at .ensures)
-
 returns : tie.Need-returns
 returns c =
-    let e : unfitChild (c .before .before .args .r) ≡ true = not-false (unfitChild (c .before .before .args .r)) (sym (c .before .fit-child .ensures) ∙ not-true (c .before .fit-child .result) (c .if1 .taken)) in
+    let s = c .before .before .before in
+    let e : unfitChild (s .args .actor) (s .args .r) ≡ true = not-false (unfitChild (s .args .actor) (s .args .r)) (sym (c .before .fit-child .ensures) ∙ not-true (c .before .fit-child .result) (c .if1 .taken)) in
     rw e
 
-usable-place-requires : tie.Need-usable-place-requires
-usable-place-requires c κs = (c .before .before .before .pre .0, c .before .before .before .pre .1)
-
-row-at-requires : tie.Need-row-at-requires
-row-at-requires c κs = let s = c .before .before .before .before .before .before .before in omega (arith, place c .1, rise-fits (s .args .table .now) (s .args .k) (s .pre .1))
+judge-child-requires : tie.Need-judge-child-requires
+judge-child-requires c κs =
+    let s = c .before .before .before .before in
+    let f : unfitChild (s .args .actor) (s .args .r) ≡ false = not-true (unfitChild (s .args .actor) (s .args .r)) (sym (c .before .before .fit-child .ensures) ∙ not-false (c .before .before .fit-child .result) (c .before .if1 .left)) in
+    (s .pre .0, s .pre .1, s .pre .2, child-domain (s .args .actor) (s .args .r) f)
 
 returns-2 : tie.Need-returns-2
 returns-2 c =
-    let s = c .before .before .before .before .before .before .before .before .before .before in
-    rw (borrow-deep (rowsIn (s .args .table .now)) (length (s .args .table .now)) (s .args .k) (s .args .issued) (s .args .w) (s .args .u) (s .args .s) (s .args .r) (is-fit (c .before .before .before .before .before .before .before .before)) (c .before .before .row-at .result) (place (c .before .before .before) .0) (found (c .before .before)) (c .if2 .taken))
-
-room-answer-requires : tie.Need-room-answer-requires
-room-answer-requires c κs = c .before .before .before .before .before .before .before .before .before .before .pre .2
-
-returns-3 : tie.Need-returns-3
-returns-3 c =
-    let s = c .before .before .before .before .before .before .before in let T = rowsIn (s .args .table .now) in let x = c .before .x .given .0 .0 in
-    let not : Serves T (s .args .k) (s .args .issued) (s .args .u) (s .args .s) (s .args .r .right) (Not x) = subst (λ (p : Place). Serves T (s .args .k) (s .args .issued) (s .args .u) (s .args .s) (s .args .r .right) p) (c .before .x .given .1) (c .before .before .before .usable-place .ensures) in
-    rw (borrow-not T (length (s .args .table .now)) (s .args .k) (s .args .issued) (s .args .w) (s .args .u) (s .args .s) (s .args .r) (is-fit (c .before .before .before .before .before)) x not, numbered x)
-
-returns-4 : tie.Need-returns-4
-returns-4 c =
-    let s = c .before .before .before .before .before .before .before .before .before .before .before in
-    c .room-answer .ensures
-    ∙ ap (λ (j : ℕ). verdict j (suc (s .args .issued)))
-    (sym (borrow-room (rowsIn (s .args .table .now)) (length (s .args .table .now)) (s .args .k) (s .args .issued) (s .args .w) (s .args .u) (s .args .s) (s .args .r) (is-fit (c .before .before .before .before .before .before .before .before .before)) (c .before .before .before .row-at .result) (place (c .before .before .before .before) .0) (found (c .before .before .before)) (c .before .if2 .left)))
+    let s = c .before .before .before .before .before in
+    let f : unfitChild (s .args .actor) (s .args .r) ≡ false = not-true (unfitChild (s .args .actor) (s .args .r)) (sym (c .before .before .before .fit-child .ensures) ∙ not-false (c .before .before .before .fit-child .result) (c .before .before .if1 .left)) in
+    rw f (c .judge-child .ensures)
 
 pub judge-borrow-spec : {M : Type 1} → statement M
-judge-borrow-spec =
-    tie.close
-    (tie.spec
-    (λ c κs. search needs)
-    returns
-    (λ c. search needs)
-    usable-place-requires
-    (λ c. search needs)
-    (λ c. search needs)
-    row-at-requires
-    returns-2
-    room-answer-requires
-    returns-3
-    returns-4)
+judge-borrow-spec = tie.close (tie.spec (λ c κs. search needs) returns (λ c. search needs) judge-child-requires returns-2)

@@ -25,8 +25,8 @@ tested-right c = sym (c .is-right .ensures)
 tested-kind : (c : tie.After-is-kind) → isKind (c .before .before .before .before .before .before .args .c .kind) ≡ c .is-kind .result
 tested-kind c = sym (c .is-kind .ensures)
 
-tested-mark : (c : tie.After-mark-in-order) → termsInOrder (derivation (c .before .before .before .before .before .before .before .before .args .c)) ≡ c .mark-in-order .result
-tested-mark c = sym (c .mark-in-order .ensures)
+tested-terms : (c : tie.After-terms-in-order) → termsInOrder (derivation (c .before .before .before .before .before .before .before .before .args .c)) ≡ c .terms-in-order .result
+tested-terms c = sym (c .terms-in-order .ensures)
 
 -- what is known behind each
 is-legal : (c : tie.Else1) → legal (span (c .before .before .before .args .c)) ≡ true
@@ -41,7 +41,7 @@ has-kind c = tested-kind (c .before) ∙ not-false (c .before .is-kind .result) 
 -- behind all four the parent is left
 rest : (c : tie.Else4) (earlier : List Cap) → rowInOrder (c .before .before .before .before .before .before .before .before .before .args .c) earlier ≡ parentInOrder (c .before .before .before .before .before .before .before .before .before .args .c) earlier
 unfolding rowInOrder
-rest c earlier = rw (is-legal (c .before .before .before .before .before .before), has-right (c .before .before .before .before), has-kind (c .before .before), tested-mark (c .before), not-false (c .before .mark-in-order .result) (c .if4 .left))
+rest c earlier = rw (is-legal (c .before .before .before .before .before .before), has-right (c .before .before .before .before), has-kind (c .before .before), tested-terms (c .before), not-false (c .before .terms-in-order .result) (c .if4 .left))
 
 returns : tie.Need-returns
 unfolding rowInOrder
@@ -57,7 +57,7 @@ returns-3 c = rw (is-legal (c .before .before .before .before), has-right (c .be
 
 returns-4 : tie.Need-returns-4
 unfolding rowInOrder
-returns-4 c = rw (is-legal (c .before .before .before .before .before .before), has-right (c .before .before .before .before), has-kind (c .before .before), tested-mark (c .before), not-true (c .before .mark-in-order .result) (c .if4 .taken))
+returns-4 c = rw (is-legal (c .before .before .before .before .before .before), has-right (c .before .before .before .before), has-kind (c .before .before), tested-terms (c .before), not-true (c .before .terms-in-order .result) (c .if4 .taken))
 
 returns-5 : tie.Need-returns-5
 unfolding parentInOrder

@@ -13,18 +13,22 @@ use Rattle.text.proofs.Laws.Group.{wrote-group, wrote-no-group}
 use Rattle.text.proofs.group.is_spelling.Statement.{statement}
 use Rattle.text.proofs.group.is_spelling.Tie as tie
 use Rattle.model.specs.Requests.{isGroup}
+use Rattle.model.specs.Table.{isDomain}
 
 returns : tie.Need-returns
 returns c =
     let call = c .before .before .before in
-    rw (wrote-no-group _ _ (c .enum-told .given .0 .0) (call .write-group .ensures) (call .before .before .before .before .pre) (c .enum-told .given .1))
+    sym (wrote-no-group _ _ _ (c .enum-told .given .0 .0) (call .write-group .ensures) (call .before .before .before .before .pre) (c .enum-told .given .1) _)
+
+abbrev actor : tie.After-written → ℕ
+actor c = c .before .before .before .before .before .before .before .args .actor
 
 abbrev names : tie.After-written → List ℕ
 names c = c .before .before .before .before .before .before .before .args .names .now
 
 -- what the answer of `write_group` tells
-told : (c : tie.After-written) → (isGroup (names c) ≡ true) × Wrote true (spellGroup (names c)) (c .before .before .before .write-group .last .1 .0) (c .written .given .0 .0)
-told c = wrote-group (names c) _ (c .written .given .0 .0) (c .before .before .before .write-group .ensures) (c .written .given .1)
+told : (c : tie.After-written) → (isGroup (names c) ≡ true) × Wrote (isDomain (actor c)) (spellGroup (actor c) (names c)) (c .before .before .before .write-group .last .1 .1 .0) (c .written .given .0 .0)
+told c = wrote-group (actor c) (names c) _ (c .written .given .0 .0) (c .before .before .before .write-group .ensures) (c .written .given .1)
 
 array-share-prefix-buffer : tie.Need-array-share-prefix-buffer
 array-share-prefix-buffer c = told (c .before) .1 .inside
@@ -35,7 +39,7 @@ slice-aggregate-same c = sym (length-take-le _ _ (told (c .before .before) .1 .i
 returns-2 : tie.Need-returns-2
 returns-2 c =
     let t = told (c .before .before .before) in
-    rw (t .0) (same-is (c .same .result) _ _ (λ e. (c .same .ensures .0) e ∙ t .1 .front) (λ e. (c .same .ensures .1) (e ∙ sym (t .1 .front))))
+    rw (t .0, t .1 .was) (same-is (c .same .result) _ _ (λ e. (c .same .ensures .0) e ∙ t .1 .front) (λ e. (c .same .ensures .1) (e ∙ sym (t .1 .front))))
 
 pub is-spelling-spec : {M : Type 1} → statement M
 is-spelling-spec =

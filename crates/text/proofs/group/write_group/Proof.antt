@@ -14,7 +14,7 @@ use Rattle.model.specs.Requests.{isGroup}
 returns : tie.Need-returns
 returns c =
     let a = c .before .before .before .before .args in
-    sym (misgrouped-written (a .names .now) (a .out .now) (sym (c .before .is-group .ensures) ∙ not-true (c .before .is-group .result) (c .if1 .taken)))
+    sym (misgrouped-written (a .actor) (a .names .now) (a .out .now) (sym (c .before .is-group .ensures) ∙ not-true (c .before .is-group .result) (c .if1 .taken)))
 
 -- past the test the names are a group
 is-group : (c : tie.Else1) → isGroup (c .before .before .before .before .args .names .now) ≡ true
@@ -23,13 +23,13 @@ is-group c = sym (c .before .is-group .ensures) ∙ not-false (c .before .is-gro
 write-line-requires : tie.Need-write-line-requires
 write-line-requires c κs =
     let test = c .before .before .before in
-    record { word = omega arith; numbers = group-few _ (is-group test); ending = omega arith }
+    record { word = omega arith; numbers = group-few _ (is-group test) }
 
 returns-2 : tie.Need-returns-2
 unfolding spellGroup
 returns-2 c =
-    let test = c .before .before .before .before .before .before in
-    group-written _ _ (is-group test) (c .before .before .write-line .ensures)
+    let domain = c .before .before .before .before .before in
+    group-written _ _ _ (is-group (domain .before)) (rw (domain .is-domain .ensures) at (c .before .before .write-line .ensures))
 
 pub write-group-spec : {M : Type 1} → statement M
 write-group-spec =
@@ -37,7 +37,7 @@ write-group-spec =
     (tie.spec
     (λ c κs. search needs)
     returns
-    (λ c. search needs)
+    (λ c κs. search needs)
     (λ c. search needs)
     write-line-requires
     (λ c. search needs)

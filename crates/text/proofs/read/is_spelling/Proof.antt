@@ -1,12 +1,13 @@
 -- `text::read::is_spelling` meets its contract: the buffer begins with the event's spelling, with which the line is compared.
 -- Assumes nothing.
 use mathlib.Core.Path.{sym, _∙_}
+use Prim.Native.Nat.{ℕ}
 use lib.Seq.{length-take-le}
 use borrow.Author.Needs.{needs}
 use Rattle.model.specs.declared.Event.{Event}
 use Rattle.text.specs.declared.spelling.Spelling.{Spelling}
 use Rattle.text.specs.Event.{spell, hasSpelling}
-use Rattle.text.proofs.Laws.Write.{Wrote, wrote, wrote-none, written-event}
+use Rattle.text.proofs.Laws.Write.{Wrote, wrote, wrote-nothing, written-event}
 use Rattle.text.proofs.Laws.Read.{same-is}
 use Rattle.text.proofs.read.is_spelling.Statement.{statement}
 use Rattle.text.proofs.read.is_spelling.Tie as tie
@@ -26,17 +27,20 @@ enum-told c = search needs
 returns : tie.Need-returns
 returns c =
     let call = c .before .before .before in
-    rw (wrote-none (c .enum-told .given .0 .0) (written-event _ _ (call .write-event .ensures)) (call .before .before .before .pre) (c .enum-told .given .1))
+    rw (wrote-nothing (c .enum-told .given .0 .0) (written-event _ _ _ (call .write-event .ensures)) (call .before .before .before .pre) (c .enum-told .given .1))
 
 abbrev spelling : tie.After-written → Spelling
 spelling c = c .before .before .before .before .before .before .args .spelling
+
+abbrev actor : tie.After-written → ℕ
+actor c = c .before .before .before .before .before .before .args .actor
 
 abbrev event : tie.After-written → Event
 event c = c .before .before .before .before .before .before .args .event
 
 -- what the answer of `write_event` tells
-told : (c : tie.After-written) → Wrote (hasSpelling (spelling c) (event c)) (spell (event c)) (c .before .before .before .write-event .last .1 .1 .0) (c .written .given .0 .0)
-told c = wrote (c .written .given .0 .0) (written-event (spelling c) (event c) (c .before .before .before .write-event .ensures)) (c .written .given .1)
+told : (c : tie.After-written) → Wrote (hasSpelling (spelling c) (actor c) (event c)) (spell (actor c) (event c)) (c .before .before .before .write-event .last .1 .1 .1 .0) (c .written .given .0 .0)
+told c = wrote (c .written .given .0 .0) (written-event (spelling c) (actor c) (event c) (c .before .before .before .write-event .ensures)) (c .written .given .1)
 
 array-share-prefix-buffer : tie.Need-array-share-prefix-buffer
 array-share-prefix-buffer c = told (c .before) .inside

@@ -9,7 +9,7 @@ abbrev Inv-loop : tie.InvT-loop
 Inv-loop table start₀ turns₀ start turns = Unit {0}
 
 abbrev μ-loop : tie.MeasureT-loop
-μ-loop table start₀ turns₀ start turns = 96 - turns
+μ-loop table start₀ turns₀ start turns = 160 - turns
 
 pub cases-spec : {M : Type 1} → statement M
 cases-spec =

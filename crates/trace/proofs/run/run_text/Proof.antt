@@ -6,53 +6,33 @@ use Prim.Native.Nat.{_-_}
 use native.Mathlib.Omega.{arith}
 use lib.ListN.{length, drop, length-drop}
 use lib.Seq.{take-all}
-use borrow.Author.Needs.{needs}
 use Rattle.text.specs.Line.{nextLine}
 use Rattle.text.specs.Read.{same}
 use Rattle.table.specs.Sheets.{sheetIn}
+use Rattle.table.specs.Limits.{limitsIn}
 use Rattle.table.specs.Words.{rowsIn}
 use Rattle.trace.specs.Run.{header}
 use Rattle.model.specs.Refusals.{viewOf}
-use Rattle.model.proofs.Offered.{fit-both}
+use Rattle.model.proofs.Offered.{fit-all}
 use Rattle.trace.proofs.Laws.Header.{header-inside, runs-named, runs-plain}
+use borrow.Author.Needs.{needs}
 use Rattle.trace.proofs.run.run_text.Statement.{statement}
 use Rattle.trace.proofs.run.run_text.Tie as tie
 
 sub-run-ordered : tie.Need-sub-run-ordered
-sub-run-ordered c =
-    omega (arith, header-inside (c .before .before .before .before .before .before .before .args .text .now) (sym (c .before .before .before .before .is-named .ensures) ∙ c .before .before .before .if1 .taken))
+sub-run-ordered c = omega (arith, header-inside (c .before .before .before .before .before .before .before .before .args .text .now) (sym (c .before .before .before .before .is-named .ensures) ∙ c .before .before .before .if1 .taken))
 
 part-run-ordered-start : tie.Need-part-run-ordered-start
-part-run-ordered-start c =
-    header-inside (c .before .before .before .before .before .before .before .args .text .now) (sym (c .before .before .before .before .is-named .ensures) ∙ c .before .before .before .if1 .taken)
+part-run-ordered-start c = header-inside (c .before .before .before .before .before .before .before .before .args .text .now) (sym (c .before .before .before .before .is-named .ensures) ∙ c .before .before .before .if1 .taken)
 
 returns : tie.Need-returns
-returns c =
-    let s = c .before .before .before .before .before .before .before .before .before .before .before .before in
-    let text = s .args .text .now in
+returns c = let s = c .before .before .before .before .before .before .before .before .before .before .before .before .before in let a = s .args in let text = a .text .now in
     let h : same (nextLine text) header ≡ true = sym (c .before .before .before .before .before .before .before .before .before .is-named .ensures) ∙ c .before .before .before .before .before .before .before .before .if1 .taken in
-    let fit = fit-both (viewOf (rowsIn (s .args .table .now)) (s .args .bits .now) (s .args .tally .issued)) (s .pre .0 .orderly .ordered) (s .pre .1) in
-    runs-named (sheetIn (s .args .sheet .now)) (s .args .table .now) (s .args .bits .now) (s .args .tally) text fit h (take-all (length text - 10) (drop 10 text) (omega (arith, length-drop 10 text))) (c .before .before .before .run-ordered .ensures)
+    runs-named (sheetIn (a .sheet .now)) (limitsIn (a .limits .now)) (a .table .now) (a .bits .now) (a .tally) text (fit-all (limitsIn (a .limits .now)) (viewOf (rowsIn (a .table .now)) (a .bits .now) (a .tally .issued)) (s .pre .known .orderly .ordered) (s .pre .allowed) (s .pre .sized)) h (take-all (length text - 10) (drop 10 text) (omega (arith, length-drop 10 text))) (c .before .before .before .run-ordered .ensures)
 
 returns-2 : tie.Need-returns-2
-returns-2 c =
-    let s = c .before .before .before .before .before .before .before .before .before .before .before in
-    let fit = fit-both (viewOf (rowsIn (s .args .table .now)) (s .args .bits .now) (s .args .tally .issued)) (s .pre .0 .orderly .ordered) (s .pre .1) in
-    runs-plain (sheetIn (s .args .sheet .now)) (s .args .table .now) (s .args .bits .now) (s .args .tally) (s .args .text .now) fit (sym (c .before .before .before .before .before .before .before .before .is-named .ensures) ∙ c .before .before .before .before .before .before .before .if1 .left) (c .before .before .before .run-ordered2 .ensures)
+returns-2 c = let s = c .before .before .before .before .before .before .before .before .before .before .before .before in let a = s .args in
+    runs-plain (sheetIn (a .sheet .now)) (limitsIn (a .limits .now)) (a .table .now) (a .bits .now) (a .tally) (a .text .now) (fit-all (limitsIn (a .limits .now)) (viewOf (rowsIn (a .table .now)) (a .bits .now) (a .tally .issued)) (s .pre .known .orderly .ordered) (s .pre .allowed) (s .pre .sized)) (sym (c .before .before .before .before .before .before .before .before .is-named .ensures) ∙ c .before .before .before .before .before .before .before .if1 .left) (c .before .before .before .run-ordered2 .ensures)
 
 pub run-text-spec : {M : Type 1} → statement M
-run-text-spec =
-    tie.close
-    (tie.spec
-    (λ c κs. search needs)
-    sub-run-ordered
-    part-run-ordered-start
-    (λ c. search needs)
-    (λ c κs. search needs)
-    (λ c κs. search needs)
-    (λ c. search needs)
-    (λ c. search needs)
-    returns
-    (λ c. search needs)
-    (λ c. search needs)
-    returns-2)
+run-text-spec = tie.close (tie.spec (λ c κs. search needs) sub-run-ordered part-run-ordered-start (λ c. search needs) (λ c κs. search needs) (λ c κs. search needs) (λ c. search needs) (λ c. search needs) returns (λ c. search needs) (λ c. search needs) returns-2)
