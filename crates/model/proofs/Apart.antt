@@ -305,9 +305,6 @@ apart-other d given i rows a c e m =
     let z : isGiven given (c .name .0) ≡ false = rw e (not-next d given i rows a) in
     record { below = wider i given (a .below); few = omega (arith, a .few); makers = (m ∙ sym z, a .makers); parents = ((λ h. clash h z), a .parents) }
 
-pub apart-wider : (d : ℕ) (given : List ℕ) (i : ℕ) (rows : List Cap) → Apart d given i rows → Apart d given (suc i) rows
-apart-wider d given i rows a = record { below = wider i given (a .below); few = omega (arith, a .few); makers = a .makers; parents = a .parents }
-
 given-older : (given : List ℕ) (i x : ℕ) → x < suc i → isGiven (suc i ∷ given) x ≡ isGiven given x
 given-older given i x l = rw (ne-eqb x (suc i) (λ (q : x ≡ suc i). omega arith))
 

@@ -156,7 +156,7 @@ module _ (sheet : Sheet) where
 
   -- "a read through a capability is allowed exactly when the capability was created or borrowed, the span is legal and within its own,
   -- and since it was made neither it nor any ancestor was dropped, or touched by an allowed write through a capability outside that one's
-  -- own subtree"; by card 4 a create counts as such a write, and by card 7 the sheet says which accesses end
+  -- own subtree"; by card 4 a create counts as such a write, and by card 7 the sheet says which accesses end.
   -- Card 10: "allowed as before if the actor is also a holder; demand 3 asks that too, and that no refused sheet of limits is lent with the
   -- event", by the history's own table of so many rows
   unfoldable pub mayUse : ℕ → Caller → List Note → ℕ → Span → Bool

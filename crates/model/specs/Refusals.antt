@@ -1,5 +1,5 @@
--- Document 01, "Eleven ways to be turned down", of a request, and cards 1, 5, 6, 9 and 10: the conditions 1 to 10, 12, 13 and 16 to 18, and which of them
--- each request meets.
+-- Document 01, "Eleven ways to be turned down", of a request, and cards 1, 5, 6, 9 and 10: the conditions 1 to 10, 12, 13 and 16 to 18, and which of
+-- them each request meets.
 -- Assumes nothing. (2 is here in its half about events; its other half, and 11, are of the text.)
 use Prim.Native.Nat.{ℕ, suc}
 use mathlib.Core.Bool.{Bool, false, not, cond, _&&_, _||_}
@@ -103,8 +103,8 @@ module _ (rows : List Cap) (issued : ℕ) where
   abbrev pub namesSpent : Bool
   namesSpent = leb 1000000 issued
 
-  -- Checks in order of precedence, each with its number: the standing of a name with the domain that acts; its use on a span; its use with a right, `ro` for
-  -- a borrow of `ro` and `rw` for a write; room for a new name, where 12 is "between 9 and 10".
+  -- Checks in order of precedence, each with its number: the standing of a name with the domain that acts; its use on a span; its use
+  -- with a right, `ro` for a borrow of `ro` and `rw` for a write; room for a new name, where 12 is "between 9 and 10".
   abbrev pub standing : ℕ → Name → List (ℕ × Bool)
   standing actor u = (4, unissued u) ∷ (5, ended u) ∷ (17, notAHolder actor u) ∷ []
 

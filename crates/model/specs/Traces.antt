@@ -328,7 +328,8 @@ writtenFirst =
 
 -- Card 10: a domain that holds no bit is 17, after 5 and before 6, and in a group in its turn; a domain above 63 and a mask without its maker are
 -- 2, and 1 in a row. With limits a domain's create past its own is 18, after 12 and also in a full table, and others go on; a sheet of another
--- length, of too high a sum, or which the table exceeds, is 1.
+-- length, of too high a sum, or which the table exceeds, is 1. A row counts for its maker, whoever holds it or made its parent, and as long as it
+-- lives.
 abbrev acting : ℕ → Caller
 acting d = record { actor = d; limits = Unlimited }
 
@@ -362,6 +363,7 @@ domains =
     ((1, RW) ∷ [])
     ∷ trace 4 ((createBy (acting 64) 1 0 8, 2, 0) ∷ (createBy (acting 3) 4 0 8, 2, 0) ∷ (createBy (acting 3) 8 0 8, 0, 1) ∷ (borrowBy (acting 3) 1 1 0 8, 2, 0) ∷ (borrowBy (acting 0) 1 1 0 8, 17, 0) ∷ (readBy (acting 64) 9 0 8, 2, 0) ∷ []) ((1, RW) ∷ [])
     ∷ trace 2 ((createBy (within 1 1 0) 1 0 8, 0, 1) ∷ (createBy (within 1 1 0) 1 8 8, 18, 0) ∷ (namedBy (within 1 1 0) 9 1 8 8, 12, 0) ∷ (createBy (within 1 1 3) 8 8 8, 0, 2) ∷ (borrowBy (within 1 1 3) 8 2 8 8, 18, 0) ∷ (readBy (within 0 1 0) 1 0 8, 1, 0) ∷ (readBy (within 2 1 0) 1 0 8, 1, 0) ∷ (readBy (record { actor = 0; limits = Limited [] }) 1 0 8, 1, 0) ∷ []) ((1, RW) ∷ (2, RW) ∷ [])
+    ∷ trace 2 ((createBy (within 1 1 0) 9 0 8, 0, 1) ∷ (borrowBy (within 1 1 3) 8 1 0 8, 0, 2) ∷ (borrowBy (within 1 1 3) 8 1 0 8, 18, 0) ∷ (dropBy (within 1 1 3) 2, 0, 0) ∷ (createBy (within 1 1 3) 8 8 8, 0, 3) ∷ []) ((1, RW) ∷ (3, RW) ∷ [])
     ∷ from (lending (row (record { name = 1; parent = 0; span = span 0 64; kind = 0; fresh = 0; maker = 3; holders = 1 }) RW 1 ∷ []) 1) ((read 1 0 8, 1, 0) ∷ []) ((1, RW) ∷ [])
     ∷ []
 
