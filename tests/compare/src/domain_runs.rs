@@ -1,8 +1,6 @@
 //! Card 10: random requests of several domains, with limits that change from request to request: on lent
 //! tables, many in one call, as texts, and beside their history; and pairs of sequences for independence.
 
-use std::fmt::{self, Display, Formatter};
-
 use interface::{Event, Words};
 use oracle::independence::{self, Answered, Cast, World, leaves_alone};
 use oracle::random::Random;
@@ -14,7 +12,7 @@ use crate::domain_texts::damage_domains;
 use crate::generate::{self, Request, oracle_answer_by};
 use crate::histories::{Limited, check_limited};
 use crate::lines::check_text;
-use crate::report::{Met, MetAnswers, Report, check_few};
+use crate::report::{Counts, Met, MetAnswers, Report, check_few};
 use crate::sheets;
 
 pub fn groups(report: &mut Report, subject: Subject) {
@@ -42,41 +40,9 @@ pub fn groups(report: &mut Report, subject: Subject) {
 /// The answers to requests of the groups here.
 static ANSWERS_MET: MetAnswers = Met::none();
 
-/// How many requests there were, and how they were answered.
-#[derive(Default)]
-struct Counts {
-    requests: u64,
-    allowed: u64,
-    no_holder: u64,
-    reached: u64,
-}
-
-impl Counts {
-    fn count(&mut self, refusal: u64) {
-        self.requests += 1;
-        self.allowed += u64::from(refusal == 0);
-        self.no_holder += u64::from(refusal == 17);
-        self.reached += u64::from(refusal == 18);
-        ANSWERS_MET.count_answer(match refusal {
-            0 => Ok(0),
-            number => Err(number as Refused),
-        });
-    }
-}
-
-impl Display for Counts {
-    fn fmt(&self, formatter: &mut Formatter) -> fmt::Result {
-        let Counts {
-            requests,
-            allowed,
-            no_holder,
-            reached,
-        } = self;
-        write!(
-            formatter,
-            "{requests} cases, {allowed} allowed, {no_holder} refused 17, {reached} refused 18"
-        )
-    }
+/// None yet of the answers to requests of a group.
+fn no_counts() -> Counts<2> {
+    Counts::of([17, 18], &ANSWERS_MET)
 }
 
 /// What requests are made for: the domains, the sheet, the addresses, and how names are written.
@@ -181,7 +147,7 @@ fn alone(requests: Vec<Limited>) -> Vec<Request> {
 }
 
 fn on_tables(random: &mut Random, subject: Subject) -> Result<String, String> {
-    let mut counts = Counts::default();
+    let mut counts = no_counts();
     for _ in 0..6_000 {
         let setting = Setting::some(random);
         let mut lent = setting.table(random);
@@ -219,7 +185,7 @@ fn one_request(
 }
 
 fn in_one_call(random: &mut Random, subject: Subject) -> Result<String, String> {
-    let mut counts = Counts::default();
+    let mut counts = no_counts();
     for _ in 0..4_000 {
         let setting = Setting::some(random);
         let mut lent = setting.table(random);
@@ -247,7 +213,7 @@ fn in_one_call(random: &mut Random, subject: Subject) -> Result<String, String> 
 /// Runs of lines of which most are allowed, whole and damaged, and what capcheck prints for those from empty
 /// tables.
 fn in_runs(random: &mut Random, subject: Subject) -> Result<String, String> {
-    let mut counts = Counts::default();
+    let mut counts = no_counts();
     for _ in 0..8_000 {
         let setting = Setting::some(random);
         let mut lent = setting.table(random);
@@ -293,7 +259,7 @@ fn mostly_allowed(
 }
 
 fn in_lists(random: &mut Random, subject: Subject) -> Result<String, String> {
-    let mut counts = Counts::default();
+    let mut counts = no_counts();
     for _ in 0..8_000 {
         let setting = Setting::some(random);
         let mut lent = Lent::empty(random.between(0, 12));

@@ -1,6 +1,7 @@
 //! Groups of cases, each printed as one test.
 
 use std::array;
+use std::fmt::{self, Display, Formatter};
 use std::sync::atomic::{AtomicU64, Ordering};
 
 use oracle::Refused;
@@ -108,6 +109,14 @@ impl<const SORTS: usize> Met<SORTS> {
 pub type MetAnswers = Met<19>;
 
 impl MetAnswers {
+    /// Counts an answer by its refusal, 0 for none.
+    pub fn count_refusal(&self, refusal: u64) {
+        self.count_answer(match refusal {
+            0 => Ok(0),
+            number => Err(number as Refused),
+        });
+    }
+
     pub fn count_answer(&self, answer: Result<u32, Refused>) {
         let number = usize::from(answer.err().unwrap_or(0));
         self.count(array::from_fn(|sort| sort == number));
@@ -155,4 +164,49 @@ fn shrink<T: Clone>(items: &[T], fails: impl Fn(&[T]) -> bool) -> Vec<T> {
         size /= 2;
     }
     kept
+}
+
+/// How many requests a group had, and how they were answered: allowed, or refused by one of some numbers.
+pub struct Counts<const NUMBERS: usize> {
+    numbers: [u64; NUMBERS],
+    met: &'static MetAnswers,
+    requests: u64,
+    allowed: u64,
+    refused: [u64; NUMBERS],
+}
+
+impl<const NUMBERS: usize> Counts<NUMBERS> {
+    /// None yet; what is counted is counted there too.
+    pub fn of(numbers: [u64; NUMBERS], met: &'static MetAnswers) -> Counts<NUMBERS> {
+        Counts {
+            numbers,
+            met,
+            requests: 0,
+            allowed: 0,
+            refused: [0; NUMBERS],
+        }
+    }
+
+    pub fn count(&mut self, refusal: u64) {
+        self.requests += 1;
+        self.allowed += u64::from(refusal == 0);
+        for (refused, number) in self.refused.iter_mut().zip(self.numbers) {
+            *refused += u64::from(refusal == number);
+        }
+        self.met.count_refusal(refusal);
+    }
+}
+
+impl<const NUMBERS: usize> Display for Counts<NUMBERS> {
+    fn fmt(&self, formatter: &mut Formatter) -> fmt::Result {
+        write!(
+            formatter,
+            "{} cases, {} allowed",
+            self.requests, self.allowed
+        )?;
+        for (refused, number) in self.refused.iter().zip(self.numbers) {
+            write!(formatter, ", {refused} refused {number}")?;
+        }
+        Ok(())
+    }
 }

@@ -2,8 +2,6 @@
 //! single events, many in one call, runs and lists beside their history; the place of refusal 16; lent bytes
 //! of other lengths; and marks in rows, words, lines and listings.
 
-use std::fmt::{self, Display, Formatter};
-
 use interface::{Event, Words};
 use oracle::random::Random;
 use oracle::traces::whole;
@@ -19,7 +17,7 @@ use crate::generate::{self, NO_MARKS, OTHER_LENGTHS, Request, Shape, oracle_answ
 use crate::histories::check_list_by;
 use crate::lines::check_text;
 use crate::many::{self, check_words};
-use crate::report::{Checked, Met, MetAnswers, Report, check_few};
+use crate::report::{Checked, Counts, Met, MetAnswers, Report, check_few};
 use crate::sheets;
 
 pub fn groups(report: &mut Report, subject: Subject) {
@@ -213,38 +211,9 @@ fn count_bits(before: &Lent, written: &Written, event: Event, verdict: Result<u3
     ]);
 }
 
-/// How many requests there were, and how they were answered.
-#[derive(Default)]
-struct Counts {
-    requests: u64,
-    allowed: u64,
-    not_written: u64,
-}
-
-impl Counts {
-    fn count(&mut self, refusal: u64) {
-        self.requests += 1;
-        self.allowed += u64::from(refusal == 0);
-        self.not_written += u64::from(refusal == 16);
-        ANSWERS_MET.count_answer(match refusal {
-            0 => Ok(0),
-            number => Err(number as Refused),
-        });
-    }
-}
-
-impl Display for Counts {
-    fn fmt(&self, formatter: &mut Formatter) -> fmt::Result {
-        let Counts {
-            requests,
-            allowed,
-            not_written,
-        } = self;
-        write!(
-            formatter,
-            "{requests} cases, {allowed} allowed, {not_written} refused 16"
-        )
-    }
+/// None yet of the answers to requests of a group.
+fn no_counts() -> Counts<1> {
+    Counts::of([16], &ANSWERS_MET)
 }
 
 // ---- every span
@@ -304,10 +273,7 @@ fn check_event(subject: Subject, lent: &Lent, event: Event) -> Result<u64, Strin
         let Lent { rows, bits, .. } = lent;
         format!("{why}\n  rows {rows:?}\n  bits {bits:?}\n  {event:?}")
     })?;
-    ANSWERS_MET.count_answer(match answer >> 32 {
-        0 => Ok(0),
-        number => Err(number as Refused),
-    });
+    ANSWERS_MET.count_refusal(answer >> 32);
     Ok(answer)
 }
 
@@ -728,7 +694,7 @@ fn table(random: &mut Random, area: Span) -> Lent {
 }
 
 fn on_tables(random: &mut Random, subject: Subject) -> Result<String, String> {
-    let mut counts = Counts::default();
+    let mut counts = no_counts();
     for _ in 0..5_000 {
         let (by, area, spelling) = (sheet(random), area(random), spelling(random));
         let by = by.as_ref();
@@ -769,7 +735,7 @@ fn one_request(
 }
 
 fn in_one_call(random: &mut Random, subject: Subject) -> Result<String, String> {
-    let mut counts = Counts::default();
+    let mut counts = no_counts();
     for _ in 0..4_000 {
         let (by, area, spelling) = (sheet(random), area(random), spelling(random));
         let by = by.as_ref();
@@ -801,7 +767,7 @@ fn in_one_call(random: &mut Random, subject: Subject) -> Result<String, String> 
 
 /// Runs of lines, and what capcheck prints for those from empty tables.
 fn in_runs(random: &mut Random, subject: Subject) -> Result<String, String> {
-    let mut counts = Counts::default();
+    let mut counts = no_counts();
     for _ in 0..6_000 {
         let (by, area, spelling) = (sheet(random), area(random), spelling(random));
         let by = by.as_ref();
@@ -865,7 +831,7 @@ const ALL_BYTES: Lists = Lists {
 };
 
 fn in_lists(random: &mut Random, subject: Subject, lists: &Lists) -> Result<String, String> {
-    let mut counts = Counts::default();
+    let mut counts = no_counts();
     for _ in 0..lists.count {
         let by = sheet(random);
         let setting = Setting {
