@@ -361,10 +361,7 @@ fn on_tables(random: &mut Random, subject: Subject, tables: &Tables) -> Checked 
                 by = sheet(random);
             }
             let answer = check_event(subject, &by, &mut lent, event)?;
-            ANSWERS_MET.count_answer(match answer >> 32 {
-                0 => Ok(0),
-                number => Err(number as Refused),
-            });
+            ANSWERS_MET.count_refusal(answer >> 32);
             cases += 1;
         }
     }
