@@ -35,6 +35,21 @@ static void events_in_limits(void) {
     kz_borrow(&lent, 1, 0, 64, KZ_RW);
 }
 
+/* A mark, and a back to it, which fits. */
+static void states(void) {
+    const kz_lent lent = kz_lend(&part);
+    kz_mark(&lent, 7);
+    kz_back(&lent, 7);
+}
+
+static void states_in_limits(void) {
+    kz_lent lent = kz_lend(&part);
+    lent.limits = limits;
+    lent.limit_count = KZ_DOMAINS;
+    kz_mark(&lent, 7);
+    kz_back(&lent, 7);
+}
+
 static void charge(void) {
     const kz_lent lent = kz_lend(&part);
     kz_charge(&lent, 5);
@@ -51,14 +66,16 @@ static void batch(void) {
         {KZ_READ, 5, 0, 64, 0, 0, 0, 0, 0, 0, 0, 0},
         {KZ_DROP_ALL, 0, 0, 2, 0, 0, 0, 0, 0, 0, 0, 0},
         {KZ_WRITE, 1, 0, 64, 0, 0, 0, 0, 0, 0, 0, 0},
+        {KZ_MARK, 3, 0, 0, 0, 0, 0, 0, 0, 0, 0, 0},
+        {KZ_BACK, 3, 0, 0, 0, 0, 0, 0, 0, 0, 0, 0},
     };
-    static kz_answer answers[3];
-    kz_apply_all(&lent, all, 3, names, 2, answers);
+    static kz_answer answers[5];
+    kz_apply_all(&lent, all, 5, names, 2, answers);
 }
 
 static void run(void) {
     const kz_lent lent = kz_lend(&part);
-    static const char lines[] = "(read 5 0 64)\n(drop 2 3)\n(write 1 0 64)\n"
+    static const char lines[] = "(read 5 0 64)\n(mark 3)\n(drop 2 3)\n(back 3)\n(write 1 0 64)\n"
                                 "(borrow 1 0 64 rw raw 000000000000000f)\n(as 3 (drop 1025 1026))\n";
     kz_run(&lent, (const uint8_t *)lines, sizeof lines - 1);
 }
@@ -73,11 +90,13 @@ static void read_event(void) {
     static const char line[] = "(as 3 (borrow 1 0 64 rw cell 000000000000000f))\n";
     static const char create[] = "(create 0 64 rw fresh 000000000000000f)\n";
     static const char drop[] = "(as 3 (drop 2 3))\n";
+    static const char mark[] = "(as 3 (mark 3))\n";
     static kz_event event;
     static uint32_t found[KZ_MAX_GROUP];
     kz_read_event(0, (const uint8_t *)line, sizeof line - 1, &event, found);
     kz_read_event(0, (const uint8_t *)create, sizeof create - 1, &event, found);
     kz_read_event(0, (const uint8_t *)drop, sizeof drop - 1, &event, found);
+    kz_read_event(0, (const uint8_t *)mark, sizeof mark - 1, &event, found);
 }
 
 static void write_listing(void) {
@@ -121,12 +140,14 @@ static void deep_trace(void) {
     trace_len = (size_t)sprintf(trace, "(create 0 64 rw fresh)\n");
     for (int depth = 1; depth < KZ_MAX_DEPTH; depth++)
         trace_len += (size_t)sprintf(trace + trace_len, "(borrow %d 0 64 rw cell)\n", depth);
-    trace_len += (size_t)sprintf(trace + trace_len, "(write 64 0 8)\n(read 64 0 8)\n(drop 63 64)\n");
+    trace_len += (size_t)sprintf(trace + trace_len, "(mark 7)\n(write 64 0 8)\n(read 64 0 8)\n");
+    trace_len += (size_t)sprintf(trace + trace_len, "(drop 63 64)\n(back 7)\n");
 }
 
 static void check(void) {
     static uint8_t out[KZ_MAX_CHECK];
-    kz_check((const uint8_t *)trace, trace_len, out, sizeof out);
+    static kz_states work;
+    kz_check(&work, (const uint8_t *)trace, trace_len, out, sizeof out);
 }
 
 /* A frame that is painted and left, so that the next call stands in it. */
@@ -172,6 +193,7 @@ int main(void) {
         {"kz_read_event", read_event},  {"kz_write_listing", write_listing},
         {"kz_read_listing", read_listing}, {"kz_check", check},
         {"kz_apply, a sheet", events_by_sheet}, {"kz_apply, limits", events_in_limits},
+        {"kz_mark, kz_back", states},   {"the same, limits", states_in_limits},
         {"kz_charge", charge},          {"kz_write_sheet", write_sheet},
         {"kz_read_sheet", read_sheet},
     };

@@ -3,7 +3,7 @@
  * the other version may have another number of words; words that only one of the two has are 0, but that
  * domain 0 holds what it made. So no row is fresh, of the written bits, which an older version is not lent,
  * the time is that of following creates and writes, and of domains that of looking at a row's maker and
- * holders.
+ * holders. Room for states is lent, and nothing is marked.
  */
 #include <stdint.h>
 #include <stdio.h>
@@ -23,10 +23,25 @@ static const uint32_t beside = 1u << 21;
 /* Written bits, the same in every call: no answer depends on what they are. */
 static uint8_t bits[KZ_WRITTEN_BYTES];
 
+static kz_states states;
+
+#define STATES (uint32_t *)states.rows, 8200, states.written, sizeof states.written
+
 /* One event by the default sheet. */
 typedef uint64_t apply_fn(uint32_t *table, size_t rows, uint32_t *tally, const uint32_t *event);
 
-#if defined OTHER_TAKES_LIMITS
+#if defined OTHER_TAKES_STATES
+uint64_t other_apply(uint32_t *table, size_t rows, uint8_t *written, size_t written_size,
+                     uint32_t *stored, size_t stored_rows, uint8_t *stored_bits,
+                     size_t stored_size, uint32_t *tally, const uint8_t *sheet, size_t sheet_len,
+                     const uint32_t *limits, size_t limit_count, const uint32_t *event,
+                     const uint32_t *names, size_t names_len);
+
+static uint64_t by_other(uint32_t *table, size_t rows, uint32_t *tally, const uint32_t *event) {
+    return other_apply(table, rows, bits, sizeof bits, STATES, tally, NULL, 0, NULL, 0, event, NULL,
+                       0);
+}
+#elif defined OTHER_TAKES_LIMITS
 uint64_t other_apply(uint32_t *table, size_t rows, uint8_t *written, size_t written_size,
                      uint32_t *tally, const uint8_t *sheet, size_t sheet_len,
                      const uint32_t *limits, size_t limit_count, const uint32_t *event,
@@ -61,8 +76,9 @@ static uint64_t by_other(uint32_t *table, size_t rows, uint32_t *tally, const ui
 #endif
 
 static uint64_t by_this(uint32_t *table, size_t rows, uint32_t *tally, const uint32_t *event) {
-    return kz_abi_apply((kz_cap *)table, rows, bits, sizeof bits, (kz_tally *)tally, NULL, 0, NULL,
-                        0, (const kz_event *)event, NULL, 0);
+    return kz_abi_apply((kz_cap *)table, rows, bits, sizeof bits, states.rows, 8200, states.written,
+                        sizeof states.written, (kz_tally *)tally, NULL, 0, NULL, 0,
+                        (const kz_event *)event, NULL, 0);
 }
 
 typedef struct version {

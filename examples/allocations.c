@@ -43,11 +43,14 @@ static size_t object_count;
 /* The tool's map: the newest object over each 64 addresses. Objects begin at multiples of 64. */
 static struct object *heap[OBJECTS];
 
-/* One array for all tables. */
+/* One array for all tables; and one room for states, since no table is marked. */
 static uint8_t written[KZ_WRITTEN_BYTES];
+static kz_states states;
 
 static kz_lent lend(struct object *o) {
-    const kz_lent lent = {o->table, o->rows, written, sizeof written, &o->tally, NULL, NULL, 0};
+    const kz_lent lent = {.table = o->table, .rows = o->rows, .tally = &o->tally,
+                          .written = written, .written_size = sizeof written,
+                          .states = &states, .states_size = sizeof states};
     return lent;
 }
 

@@ -99,9 +99,13 @@ static void print_charges(const kz_lent *lent) {
 int main(void) {
     static kz_cap table[ROWS];
     static uint8_t written[KZ_WRITTEN_BYTES];
+    static kz_states states;
     static kz_tally tally;
     static uint8_t listing[KZ_MAX_LISTING];
-    const kz_lent lent = {table, ROWS, written, sizeof written, &tally, NULL, limits, KZ_DOMAINS};
+    const kz_lent lent = {.table = table, .rows = ROWS, .tally = &tally,
+                          .written = written, .written_size = sizeof written,
+                          .states = &states, .states_size = sizeof states,
+                          .limits = limits, .limit_count = KZ_DOMAINS};
     uint32_t names[POINTERS] = {0};
     size_t i;
     for (i = 0; i < sizeof entries / sizeof entries[0]; i++) {

@@ -96,8 +96,11 @@ static void print_summary(const struct simulator *s) {
 int main(void) {
     static kz_cap table[ROWS]; /* all zeros: an empty table with no name issued */
     static uint8_t bits[KZ_WRITTEN_BYTES]; /* all zeros: no address written */
+    static kz_states states;               /* all zeros: nothing stored */
     static kz_tally tally;
-    struct simulator s = {{table, ROWS, bits, sizeof bits, &tally, NULL, NULL, 0}, {0}};
+    struct simulator s = {.lent = {.table = table, .rows = ROWS, .tally = &tally,
+                                   .written = bits, .written_size = sizeof bits,
+                                   .states = &states, .states_size = sizeof states}};
     size_t count = sizeof entries / sizeof entries[0];
     size_t i;
     for (i = 0; i < count; i++) {

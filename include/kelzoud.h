@@ -1,9 +1,9 @@
 /*
  * Kelzoud: a capability table that revokes on use.
  *
- * The caller lends all memory: a table of capabilities, the written bits of its addresses, a tally of
- * events, a conflict sheet where the default one does not serve, a sheet of limits where domains are to
- * have them, texts and output buffers.
+ * The caller lends all memory: a table of capabilities, the written bits of its addresses, room for
+ * states to come back to, a tally of events, a conflict sheet where the default one does not serve, a
+ * sheet of limits where domains are to have them, texts and output buffers.
  * The library keeps nothing between calls, allocates nothing and has no global state, so calls with
  * different memory may run at the same time on different threads.
  *
@@ -11,11 +11,11 @@
  *   - A pointer is followed by a length or a count, and points to as many elements as that says. A
  *     pointer whose length is 0 is not followed and may be NULL. `answers` of kz_apply_all has as
  *     many elements as there are events. A kz_sheet that is only read may be NULL, and is then the
- *     default one. All other pointers without a length are never NULL, the tally of a kz_lent among
- *     them.
+ *     default one. All other pointers without a length are never NULL, the tally of a kz_lent and the
+ *     states of kz_check among them.
  *   - Whatever a call may write overlaps nothing else that the call is given.
  * Nothing else is asked. Every event, table, tally, sheet, line, text and listing gets an answer, and
- * so do any written bits and any limits, of whatever length.
+ * so do any written bits and any limits, of whatever length, and whatever stands in a kz_states.
  *
  * A call answers with a kz_answer: a refusal, which is 0 when the call was allowed, and a value, as
  * each call says. A call that is refused changes nothing that was lent, except as kz_apply,
@@ -42,6 +42,7 @@ enum {
     KZ_MAX_DEPTH = 64,            /* depth of a capability */
     KZ_MAX_GROUP = 64,            /* names that are dropped together */
     KZ_DOMAINS = 64,              /* domains that act on a table, 0 to 63 */
+    KZ_SLOTS = 8,                 /* states to come back to, in slots 0 to 7 */
     KZ_WRITTEN_BYTES = 8192,      /* bytes of written bits, no fewer and no more */
     KZ_WRITTEN_ADDRESSES = 65536, /* addresses that have a written bit, from 0 on */
     KZ_MAX_INPUT = 65536,         /* bytes of input that kz_check runs */
@@ -76,19 +77,23 @@ enum {
     KZ_READ = 3,
     KZ_WRITE = 4,
     KZ_DROP = 5,
-    KZ_DROP_ALL = 6 /* names that are dropped together */
+    KZ_DROP_ALL = 6, /* names that are dropped together */
+    KZ_MARK = 7,     /* stores a state */
+    KZ_BACK = 8      /* goes back to it */
 };
 
 /* The refusals in the order in which they are judged: where several apply, the first is given. */
 enum kz_refusal {
     KZ_DISORDERED = 1,       /* the table is not in order, as kz_cap says, or has too many rows; the
-                                written bits are not KZ_WRITTEN_BYTES bytes; or the lent limits are
-                                not as kz_lent says */
+                                written bits are not KZ_WRITTEN_BYTES bytes; no kz_states is lent; the
+                                lent limits are not as kz_lent says; or a back goes to what does not
+                                fit, as kz_states says */
     KZ_MISGROUPED = 13,      /* lent names: none, more than KZ_MAX_GROUP, or not strictly rising */
-    KZ_MISSPELT = 2,         /* text that is not spelled so; an unknown kind, right, cap_kind, mark or
-                                domain; holders without the domain that acts */
+    KZ_MISSPELT = 2,         /* text that is not spelled so; an unknown kind, right, cap_kind, mark,
+                                domain or slot; holders without the domain that acts */
     KZ_GIVEN_TWICE = 14,     /* a sheet's text gives a combination twice */
     KZ_NOT_GIVEN = 15,       /* a sheet's text leaves a combination out */
+    KZ_NOTHING_STORED = 19,  /* a back to a slot in which nothing is stored */
     KZ_ILLEGAL_SPAN = 3,     /* an end above 4,294,967,296; of a fresh create, above 65,536 */
     KZ_UNISSUED = 4,         /* name 0, or a name above the issued number */
     KZ_ENDED = 5,            /* a name that was issued, and whose capability has ended */
@@ -148,6 +153,26 @@ typedef struct kz_tally {
     uint32_t refused;
 } kz_tally;
 
+/*
+ * Room for KZ_SLOTS states to come back to, each a table of up to KZ_MAX_ROWS rows with its written bits:
+ * 426,336 bytes. A mark stores the table and the written bits in a slot, over whatever is stored there,
+ * and a back brings them back and keeps what is stored. Both leave the tally, the issued number in it: no
+ * name is given twice, and a name that was given after the mark has ended after the back. Only there may a
+ * capability that has ended live again, and one that was lowered be read-write again.
+ *
+ * All zeros: nothing is stored. Only marks change it. How a state lies in it is the library's to choose, so
+ * it is copied as a whole or not at all. It belongs to one table, as the written bits do; tables that are
+ * never marked may share one.
+ *
+ * What is stored is judged on going back to it, with the names that are issued then and the limits that are
+ * lent then: where it is not in order, as where something else was written there, where a limit is
+ * exceeded, or where it has another number of rows than the table, the back is KZ_DISORDERED.
+ */
+typedef struct kz_states {
+    kz_cap rows[KZ_SLOTS * (KZ_MAX_ROWS + 1)];
+    uint8_t written[KZ_SLOTS * KZ_WRITTEN_BYTES];
+} kz_states;
+
 /* What a read or write does to a capability that it strikes, and to its subtree. */
 enum {
     KZ_KEEP = 0,  /* nothing */
@@ -180,9 +205,9 @@ typedef struct kz_sheet {
 
 /*
  * What a caller lends for events: a table of `rows` rows, 0 to KZ_MAX_ROWS of them, its written bits,
- * its tally, the conflict sheet by which events are carried out, NULL for the default one, and a sheet of
- * limits, or none. Begin with all zeros here too, and set the fields by name; all but the sheet and the
- * limits are needed.
+ * room for its states, its tally, the conflict sheet by which events are carried out, NULL for the default
+ * one, and a sheet of limits, or none. Begin with all zeros here too, and set the fields by name; all but
+ * the sheet and the limits are needed.
  *
  * The written bits say which addresses were written since they were last created over: 1 for written.
  * They are KZ_WRITTEN_BYTES bytes, all zeros at first. Address A, from 0 to 65,535, has the bit worth
@@ -196,6 +221,9 @@ typedef struct kz_sheet {
  * other `written_size` than KZ_WRITTEN_BYTES every event and run is KZ_DISORDERED; what the bits are is
  * taken as it stands.
  *
+ * With any other `states_size` than sizeof(kz_states), which is its size in bytes, or with `states` NULL,
+ * every event and run is KZ_DISORDERED too, whether it marks or not.
+ *
  * A sheet of limits has a number for each domain, that of domain D at place D: how many capabilities that
  * it made may live at once. There are KZ_DOMAINS of them, and `limit_count` is that; where it is 0 none
  * is lent, and `limits` may be NULL. With any other count, with a sum above `rows`, or where some domain
@@ -204,23 +232,27 @@ typedef struct kz_sheet {
  * given, and a create or borrow of a domain at its limit is KZ_LIMIT_REACHED. What a domain makes for
  * others to hold counts for itself alone.
  *
- * The calls for listings, and kz_charge, look neither at the bits nor at the limits.
+ * The calls for listings, and kz_charge, look neither at the bits, nor at the states, nor at the limits.
  */
 typedef struct kz_lent {
     kz_cap *table;
     size_t rows;
     uint8_t *written;
     size_t written_size; /* KZ_WRITTEN_BYTES */
+    kz_states *states;
+    size_t states_size; /* sizeof(kz_states) */
     kz_tally *tally;
     const kz_sheet *sheet;
     const uint32_t *limits;
     size_t limit_count; /* KZ_DOMAINS, or 0 where no limits are lent */
 } kz_lent;
 
-/* All memory for a table of KZ_MAX_ROWS rows but for sheets, all zeros at first: see kz_lend. */
+/* All memory for a table of KZ_MAX_ROWS rows but for sheets, all zeros at first: see kz_lend. It has
+   479,612 bytes, so a static one, or one from calloc, goes where a stack may be too small. */
 typedef struct kz_part {
     kz_cap table[KZ_MAX_ROWS];
     uint8_t written[KZ_WRITTEN_BYTES];
+    kz_states states;
     kz_tally tally;
 } kz_part;
 
@@ -238,6 +270,9 @@ typedef struct kz_part {
  *   KZ_DROP      name                      ends the capability and its subtree
  *   KZ_DROP_ALL  start length              ends several, which stand in a list of names beside the
  *                                          event: `length` names, from the place `start` on
+ *   KZ_MARK      name                      stores the table and the written bits in the slot `name`,
+ *                                          0 to 7, as kz_states says
+ *   KZ_BACK      name                      brings back what is stored in the slot `name`
  *
  * A read or write strikes what is touched and is neither its user nor an ancestor of its user. What it
  * then does is said here by the default sheet. Another says for each combination whether what is struck
@@ -259,8 +294,8 @@ typedef struct kz_part {
  * for nothing to be written. A fresh create that ends above 65,536 is KZ_ILLEGAL_SPAN.
  *
  * A span of length 0 touches nothing, so a create of length 0 ends nothing. Any other kind, any other
- * right than KZ_RO and KZ_RW, in a borrow any other `cap_kind` than the three, and in a create any
- * other `fresh` than 0 and 1, is KZ_MISSPELT.
+ * right than KZ_RO and KZ_RW, in a borrow any other `cap_kind` than the three, in a create any other
+ * `fresh` than 0 and 1, and in a mark or back any other slot than 0 to 7, is KZ_MISSPELT.
  *
  * A log may write out the name of what a create or borrow makes. Then `named` is not 0, and `written`
  * is that name. Where it is not the issued number plus one, as 0 never is, the event is refused
@@ -271,13 +306,13 @@ typedef struct kz_part {
  * and has the holders that the event gives. These must have the actor among them, else the event is
  * KZ_MISSPELT: so zeros are not enough for a create or borrow, and an event of domain 0 that nobody else
  * is to use says 1 in `holders_low`. kz_by sets all three words. A borrow may give holders that its parent
- * has not.
+ * has not. The slots are all domains' alike: any of them may mark and go back, whatever it holds.
  *
  * Begin with all zeros: later releases add fields, in which 0 asks for what is said here.
  */
 typedef struct kz_event {
-    uint32_t kind;         /* KZ_CREATE to KZ_DROP_ALL */
-    uint32_t name;         /* the capability that the event goes through */
+    uint32_t kind;         /* KZ_CREATE to KZ_BACK */
+    uint32_t name;         /* the capability that the event goes through, or the slot of a mark or back */
     uint32_t start;        /* the first address of its span, or the first place of its names, from 0 */
     uint32_t length;       /* how many addresses, or how many names */
     uint32_t right;        /* KZ_RO or KZ_RW */
@@ -335,7 +370,8 @@ static inline size_t kz_sheet_place(uint32_t kind, uint32_t access, uint32_t fro
  * create would end some.
  *
  * Allowed: the value is the new name for a create or borrow, else 0. The table, the written bits and
- * the tally follow the event; the tally counts the event, and not what it ended.
+ * the tally follow the event; the tally counts the event, and not what it ended. A mark changes its slot
+ * alone, and a back the table and the written bits; neither is counted.
  * Refused, with value 0: KZ_DISORDERED changes nothing. Any other refusal adds one to the refused
  * count and changes nothing else.
  */
@@ -349,15 +385,17 @@ static inline kz_answer kz_apply(const kz_lent *lent, const kz_event *event);
  *
  * `answers` gets the answer to each event, at the same place. The number of events is returned. What is
  * lent is judged once, before the first: where the table is not in order, the written bits are not
- * KZ_WRITTEN_BYTES, or the limits are refused, every answer is KZ_DISORDERED, and nothing else is
- * changed.
+ * KZ_WRITTEN_BYTES, no states are lent, or the limits are refused, every answer is KZ_DISORDERED, and
+ * nothing else is changed. A back to what does not fit is KZ_DISORDERED by itself, changes nothing, and
+ * stops nothing either.
  */
 static inline size_t kz_apply_all(const kz_lent *lent, const kz_event *events, size_t count,
                                   const uint32_t *names, size_t names_len, kz_answer *answers);
 
 /* kz_apply for each kind, with the values that the kind has, and no written name. What kz_create makes
    may be read unwritten; what kz_create_fresh makes may not. What kz_borrow makes is a reference;
-   kz_borrow_as is told the kind. All act as domain 0, which alone holds what they make. */
+   kz_borrow_as is told the kind. kz_mark and kz_back are told the slot, 0 to 7; a back to a slot in which
+   nothing is stored is KZ_NOTHING_STORED. All act as domain 0, which alone holds what they make. */
 static inline kz_answer kz_create(const kz_lent *lent, uint32_t start, uint32_t length,
                                   uint32_t right);
 static inline kz_answer kz_create_fresh(const kz_lent *lent, uint32_t start, uint32_t length,
@@ -371,6 +409,8 @@ static inline kz_answer kz_read(const kz_lent *lent, uint32_t name, uint32_t sta
 static inline kz_answer kz_write(const kz_lent *lent, uint32_t name, uint32_t start,
                                  uint32_t length);
 static inline kz_answer kz_drop(const kz_lent *lent, uint32_t name);
+static inline kz_answer kz_mark(const kz_lent *lent, uint32_t slot);
+static inline kz_answer kz_back(const kz_lent *lent, uint32_t slot);
 
 /* The same by any domain: `actor` acts, and what it makes is held by `holders`, the actor among them, as
    kz_holder(actor) | kz_holder(other) is. */
@@ -389,6 +429,8 @@ static inline kz_answer kz_read_by(const kz_lent *lent, uint32_t actor, uint32_t
 static inline kz_answer kz_write_by(const kz_lent *lent, uint32_t actor, uint32_t name,
                                     uint32_t start, uint32_t length);
 static inline kz_answer kz_drop_by(const kz_lent *lent, uint32_t actor, uint32_t name);
+static inline kz_answer kz_mark_by(const kz_lent *lent, uint32_t actor, uint32_t slot);
+static inline kz_answer kz_back_by(const kz_lent *lent, uint32_t actor, uint32_t slot);
 
 /*
  * Capabilities dropped together, as when a function returns: `names` has 1 to KZ_MAX_GROUP names,
@@ -411,13 +453,14 @@ static inline kz_answer kz_drop_all_by(const kz_lent *lent, uint32_t actor, cons
  * and `rest` addresses are left over. So the length is `share` times the number of holders, plus `rest`.
  *
  * Refused: KZ_DISORDERED for a table that is not in order, else KZ_UNISSUED or KZ_ENDED. Nothing is
- * changed, and nothing counted; neither the written bits, the limits nor who asks are looked at.
+ * changed, and nothing counted; neither the written bits, the states, the limits nor who asks are looked
+ * at.
  */
 static inline kz_shares kz_charge(const kz_lent *lent, uint32_t name);
 
 /*
- * A run of event lines, until one is refused. The table and the written bits are then as after the last
- * allowed line.
+ * A run of event lines, until one is refused. The table, the written bits and the states are then as after
+ * the last allowed line.
  *
  * In a text whose first line is KZ_NAMED_HEADER every create and borrow has its new name written out,
  * else none has: the lines are those of kz_write_event. That first line is counted as a line; it is no
@@ -425,37 +468,39 @@ static inline kz_shares kz_charge(const kz_lent *lent, uint32_t name);
  * drops them together, as kz_drop_all does.
  *
  * Allowed: the value is the number of lines. An empty text is a run of no lines.
- * Refused: the value is the number of the refused line, from 1, which adds one to the refused count;
- * KZ_DISORDERED has value 0 and changes nothing, whatever the text.
+ * Refused: the value is the number of the refused line, from 1, which adds one to the refused count.
+ * KZ_DISORDERED of what is lent has value 0 and changes nothing, whatever the text; that of a back has the
+ * value of its line, the lines before it stand, and the refused count stays.
  */
 static inline kz_answer kz_run(const kz_lent *lent, const uint8_t *text, size_t text_len);
 
 /*
  * Writes the line of an event, its newline included, to the start of `out`; the bytes after it stay.
  * What the kind lacks is not looked at. The lines are `(create START LENGTH RIGHT)`,
- * `(borrow NAME START LENGTH RIGHT)`, `(read NAME START LENGTH)`, `(write NAME START LENGTH)` and
- * `(drop NAME)`; with a written name `(create WRITTEN START LENGTH RIGHT)` and
- * `(borrow WRITTEN NAME START LENGTH RIGHT)`; and `(drop NAME .. NAME)` of a KZ_DROP_ALL, whose names
- * stand in `names` as for kz_apply_all. Of one name that is the line of KZ_DROP. Behind the right a create
- * has ` fresh` where its `fresh` is 1, and a borrow ` raw` or ` cell` where that is its `cap_kind`; that
- * it is a reference is not written, nor which mark it has from its parent. Last come the holders, as 16
- * digits 0 to 9 and a to f, the highest first; where the actor alone holds what is made they are not
- * written. The line of any other actor than 0 is `(as ACTOR LINE)`, as in `(as 3 (read 2 0 8))`. Any
- * other numbers may be written; whether they are right is judged on a table.
+ * `(borrow NAME START LENGTH RIGHT)`, `(read NAME START LENGTH)`, `(write NAME START LENGTH)`,
+ * `(drop NAME)`, `(mark SLOT)` and `(back SLOT)`; with a written name
+ * `(create WRITTEN START LENGTH RIGHT)` and `(borrow WRITTEN NAME START LENGTH RIGHT)`; and
+ * `(drop NAME .. NAME)` of a KZ_DROP_ALL, whose names stand in `names` as for kz_apply_all. Of one name
+ * that is the line of KZ_DROP. Behind the right a create has ` fresh` where its `fresh` is 1, and a borrow
+ * ` raw` or ` cell` where that is its `cap_kind`; that it is a reference is not written, nor which mark it
+ * has from its parent. Last come the holders, as 16 digits 0 to 9 and a to f, the highest first; where the
+ * actor alone holds what is made they are not written. The line of any other actor than 0 is
+ * `(as ACTOR LINE)`, as in `(as 3 (read 2 0 8))`. Any other numbers may be written; whether they are right
+ * is judged on a table.
  *
  * Allowed: the value is the length written, at most KZ_MAX_LINE, KZ_MAX_NAMED_LINE with a written
  * name, and KZ_MAX_DROP_LINE of a KZ_DROP_ALL.
  * Refused: KZ_MISGROUPED for a KZ_DROP_ALL of no name, of more than KZ_MAX_GROUP, or of names that do
- * not rise strictly; KZ_MISSPELT for an unknown kind, right or actor, for a `cap_kind` or `fresh` that
- * the event has and that is none, and for holders without the actor; else KZ_BUFFER_TOO_SHORT. `out` is
- * untouched.
+ * not rise strictly; KZ_MISSPELT for an unknown kind, right or actor, for a `cap_kind`, `fresh` or slot
+ * that the event has and that is none, and for holders without the actor; else KZ_BUFFER_TOO_SHORT. `out`
+ * is untouched.
  */
 static inline kz_answer kz_write_event(const kz_event *event, const uint32_t *names,
                                        size_t names_len, uint8_t *out, size_t out_len);
 
 /*
  * Reads exactly one line of kz_write_event, its newline included: where `named` is not 0 one of a text
- * in which new names are written out, else one of a text in which none is. Reads, writes and drops are
+ * in which new names are written out, else one of a text in which none is. All but creates and borrows are
  * the same in both. `names` has room for KZ_MAX_GROUP.
  *
  * Allowed: the value is 0. `event` gets the event, with 0 for what its kind lacks, 1 in `named` where a
@@ -474,7 +519,7 @@ static inline kz_answer kz_read_event(uint32_t named, const uint8_t *line, size_
  * start, length, right, `raw` or `cell` where that is its kind, `fresh` where it is marked, its maker,
  * its holders in 16 digits, and those borrowed from it in the same form, as in
  * `(1 0 64 rw 0 0000000000000009 (2 0 8 rw raw 3 0000000000000008))`, whose 1 was made by domain 0 for
- * itself and domain 3, and 2 by domain 3 for itself. The written bits are not in it.
+ * itself and domain 3, and 2 by domain 3 for itself. Neither the written bits nor the states are in it.
  *
  * Allowed: the value is the length written.
  * Refused: KZ_DISORDERED, else KZ_BUFFER_TOO_SHORT. `out` is untouched.
@@ -483,8 +528,8 @@ static inline kz_answer kz_write_listing(const kz_lent *lent, uint8_t *out, size
 
 /*
  * Reads a listing into a table, whose old contents are not judged, and into the tally's issued
- * number. The tally's other counts stay, and so do the written bits: they have to be those that the
- * listed table had.
+ * number. The tally's other counts stay, and so do the written bits and the states: they have to be those
+ * that the listed table had.
  *
  * Allowed: the value is 0. The whole table is written.
  * Refused: KZ_DISORDERED for more than KZ_MAX_ROWS rows, else KZ_MISSPELT when no table in order has
@@ -522,20 +567,23 @@ static inline kz_answer kz_write_sheet(const kz_sheet *sheet, uint8_t *out, size
 /*
  * Writes what the program capcheck prints for an input to the start of `out`; the bytes after it
  * stay. That is `(allowed LINES)` or `(refused NUMBER LINE)` for a run on KZ_MAX_ROWS empty rows, with
- * no address written, by the default sheet and without limits, and the listing after it, or `(long)`
- * alone for an input above KZ_MAX_INPUT bytes.
+ * no address written and nothing stored, by the default sheet and without limits, and the listing after
+ * it, or `(long)` alone for an input above KZ_MAX_INPUT bytes. `states` is its working space: whatever
+ * stands there before is not looked at, and what stands there afterwards is not said.
  *
  * Allowed: the value is the length written, whatever the run's own verdict.
  * Refused: KZ_BUFFER_TOO_SHORT. `out` is untouched.
  */
-static inline kz_answer kz_check(const uint8_t *input, size_t input_len, uint8_t *out,
-                                 size_t out_len);
+static inline kz_answer kz_check(kz_states *states, const uint8_t *input, size_t input_len,
+                                 uint8_t *out, size_t out_len);
 
 /*
  * The functions that the archives export. The calls above are made of these, which have the parts of
  * a kz_lent one by one. A language that cannot include this header declares them itself: each of their
  * structs is a run of 32-bit words without gaps, and each length is a size_t. Written bits are bytes
- * and how many they are, which must be KZ_WRITTEN_BYTES. A sheet is its bytes and how many they are:
+ * and how many they are, which must be KZ_WRITTEN_BYTES. Room for states is rows and how many they are,
+ * and bytes and how many they are, 8,200 and 65,536 as a kz_states has them: any other number of either is
+ * KZ_DISORDERED, and kz_abi_check writes `(refused 1 0)` then. A sheet is its bytes and how many they are:
  * none is the default one, of fewer than KZ_SHEET_PLACES the missing ones count as KZ_END, and of more
  * the first count. Limits are 32-bit numbers and how many they are, none or KZ_DOMAINS. An answer is one
  * number, the refusal times 2^32 plus the value; only kz_abi_apply_all writes kz_answer structs, and
@@ -546,7 +594,8 @@ static inline kz_answer kz_check(const uint8_t *input, size_t input_len, uint8_t
 
 /* kz_apply; for a KZ_DROP_ALL `names` is the list in which its names stand. */
 uint64_t kz_abi_apply(kz_cap *table, size_t rows, uint8_t *written, size_t written_size,
-                      kz_tally *tally, const uint8_t *sheet, size_t sheet_len,
+                      kz_cap *stored, size_t stored_rows, uint8_t *stored_bits,
+                      size_t stored_size, kz_tally *tally, const uint8_t *sheet, size_t sheet_len,
                       const uint32_t *limits, size_t limit_count, const kz_event *event,
                       const uint32_t *names, size_t names_len);
 
@@ -555,10 +604,11 @@ uint64_t kz_abi_apply(kz_cap *table, size_t rows, uint8_t *written, size_t writt
  * those behind stay. It returns how many events it took.
  */
 size_t kz_abi_apply_all(kz_cap *table, size_t rows, uint8_t *written, size_t written_size,
-                        kz_tally *tally, const uint8_t *sheet, size_t sheet_len,
-                        const uint32_t *limits, size_t limit_count, const kz_event *events,
-                        size_t count, const uint32_t *names, size_t names_len, kz_answer *answers,
-                        size_t answers_len);
+                        kz_cap *stored, size_t stored_rows, uint8_t *stored_bits,
+                        size_t stored_size, kz_tally *tally, const uint8_t *sheet,
+                        size_t sheet_len, const uint32_t *limits, size_t limit_count,
+                        const kz_event *events, size_t count, const uint32_t *names,
+                        size_t names_len, kz_answer *answers, size_t answers_len);
 
 /* kz_charge, which takes of the tally the issued number alone. */
 void kz_abi_charge(const kz_cap *table, size_t rows, uint32_t issued, uint32_t name,
@@ -567,6 +617,7 @@ void kz_abi_charge(const kz_cap *table, size_t rows, uint32_t issued, uint32_t n
 /* libkelzoud.a alone. */
 
 uint64_t kz_abi_run(kz_cap *table, size_t rows, uint8_t *written, size_t written_size,
+                    kz_cap *stored, size_t stored_rows, uint8_t *stored_bits, size_t stored_size,
                     kz_tally *tally, const uint8_t *sheet, size_t sheet_len, const uint32_t *limits,
                     size_t limit_count, const uint8_t *text, size_t text_len);
 
@@ -587,7 +638,8 @@ uint64_t kz_abi_read_sheet(const uint8_t *text, size_t text_len, uint8_t sheet[1
 
 uint64_t kz_abi_write_sheet(const uint8_t *sheet, size_t sheet_len, uint8_t *out, size_t out_len);
 
-uint64_t kz_abi_check(const uint8_t *input, size_t input_len, uint8_t *out, size_t out_len);
+uint64_t kz_abi_check(const uint8_t *input, size_t input_len, kz_cap *stored, size_t stored_rows,
+                      uint8_t *stored_bits, size_t stored_size, uint8_t *out, size_t out_len);
 
 /* The bodies of the calls. */
 
@@ -597,8 +649,9 @@ static inline kz_answer kz_abi_answer(uint64_t answer) {
 }
 
 static inline kz_lent kz_lend(kz_part *part) {
-    const kz_lent lent = {part->table, KZ_MAX_ROWS, part->written, KZ_WRITTEN_BYTES, &part->tally,
-                          NULL,        NULL,        0};
+    const kz_lent lent = {part->table,   KZ_MAX_ROWS,      part->written, KZ_WRITTEN_BYTES,
+                          &part->states, sizeof(kz_states), &part->tally,  NULL,
+                          NULL,          0};
     return lent;
 }
 
@@ -640,13 +693,35 @@ static inline size_t kz_abi_places(const kz_sheet *sheet) {
     return sheet == NULL ? 0 : KZ_SHEET_PLACES;
 }
 
+/* Room for states, and how many rows and bytes it has: none where it has another size. */
+static inline int kz_abi_has_states(const kz_lent *lent) {
+    return lent->states != NULL && lent->states_size == sizeof(kz_states);
+}
+
+static inline kz_cap *kz_abi_stored(const kz_lent *lent) {
+    return kz_abi_has_states(lent) ? lent->states->rows : NULL;
+}
+
+static inline size_t kz_abi_stored_rows(const kz_lent *lent) {
+    return kz_abi_has_states(lent) ? (size_t)KZ_SLOTS * (KZ_MAX_ROWS + 1) : 0;
+}
+
+static inline uint8_t *kz_abi_stored_bits(const kz_lent *lent) {
+    return kz_abi_has_states(lent) ? lent->states->written : NULL;
+}
+
+static inline size_t kz_abi_stored_size(const kz_lent *lent) {
+    return kz_abi_has_states(lent) ? (size_t)KZ_SLOTS * KZ_WRITTEN_BYTES : 0;
+}
+
 /* One event, and the list in which its names stand. */
 static inline kz_answer kz_abi_take(const kz_lent *lent, const kz_event *event,
                                     const uint32_t *names, size_t names_len) {
-    return kz_abi_answer(kz_abi_apply(lent->table, lent->rows, lent->written, lent->written_size,
-                                      lent->tally, kz_abi_results(lent->sheet),
-                                      kz_abi_places(lent->sheet), lent->limits, lent->limit_count,
-                                      event, names, names_len));
+    return kz_abi_answer(kz_abi_apply(
+        lent->table, lent->rows, lent->written, lent->written_size, kz_abi_stored(lent),
+        kz_abi_stored_rows(lent), kz_abi_stored_bits(lent), kz_abi_stored_size(lent), lent->tally,
+        kz_abi_results(lent->sheet), kz_abi_places(lent->sheet), lent->limits, lent->limit_count,
+        event, names, names_len));
 }
 
 static inline kz_answer kz_apply(const kz_lent *lent, const kz_event *event) {
@@ -655,9 +730,11 @@ static inline kz_answer kz_apply(const kz_lent *lent, const kz_event *event) {
 
 static inline size_t kz_apply_all(const kz_lent *lent, const kz_event *events, size_t count,
                                   const uint32_t *names, size_t names_len, kz_answer *answers) {
-    return kz_abi_apply_all(lent->table, lent->rows, lent->written, lent->written_size, lent->tally,
-                            kz_abi_results(lent->sheet), kz_abi_places(lent->sheet), lent->limits,
-                            lent->limit_count, events, count, names, names_len, answers, count);
+    return kz_abi_apply_all(
+        lent->table, lent->rows, lent->written, lent->written_size, kz_abi_stored(lent),
+        kz_abi_stored_rows(lent), kz_abi_stored_bits(lent), kz_abi_stored_size(lent), lent->tally,
+        kz_abi_results(lent->sheet), kz_abi_places(lent->sheet), lent->limits, lent->limit_count,
+        events, count, names, names_len, answers, count);
 }
 
 static inline kz_answer kz_create(const kz_lent *lent, uint32_t start, uint32_t length,
@@ -692,6 +769,14 @@ static inline kz_answer kz_write(const kz_lent *lent, uint32_t name, uint32_t st
 
 static inline kz_answer kz_drop(const kz_lent *lent, uint32_t name) {
     return kz_drop_by(lent, 0, name);
+}
+
+static inline kz_answer kz_mark(const kz_lent *lent, uint32_t slot) {
+    return kz_mark_by(lent, 0, slot);
+}
+
+static inline kz_answer kz_back(const kz_lent *lent, uint32_t slot) {
+    return kz_back_by(lent, 0, slot);
 }
 
 static inline kz_answer kz_create_by(const kz_lent *lent, uint32_t actor, uint64_t holders,
@@ -739,6 +824,16 @@ static inline kz_answer kz_drop_by(const kz_lent *lent, uint32_t actor, uint32_t
     return kz_apply(lent, &event);
 }
 
+static inline kz_answer kz_mark_by(const kz_lent *lent, uint32_t actor, uint32_t slot) {
+    const kz_event event = {KZ_MARK, slot, 0, 0, 0, 0, 0, 0, 0, actor, 0, 0};
+    return kz_apply(lent, &event);
+}
+
+static inline kz_answer kz_back_by(const kz_lent *lent, uint32_t actor, uint32_t slot) {
+    const kz_event event = {KZ_BACK, slot, 0, 0, 0, 0, 0, 0, 0, actor, 0, 0};
+    return kz_apply(lent, &event);
+}
+
 static inline kz_answer kz_drop_all(const kz_lent *lent, const uint32_t *names, size_t count) {
     return kz_drop_all_by(lent, 0, names, count);
 }
@@ -759,10 +854,11 @@ static inline kz_shares kz_charge(const kz_lent *lent, uint32_t name) {
 }
 
 static inline kz_answer kz_run(const kz_lent *lent, const uint8_t *text, size_t text_len) {
-    return kz_abi_answer(kz_abi_run(lent->table, lent->rows, lent->written, lent->written_size,
-                                    lent->tally, kz_abi_results(lent->sheet),
-                                    kz_abi_places(lent->sheet), lent->limits, lent->limit_count,
-                                    text, text_len));
+    return kz_abi_answer(kz_abi_run(
+        lent->table, lent->rows, lent->written, lent->written_size, kz_abi_stored(lent),
+        kz_abi_stored_rows(lent), kz_abi_stored_bits(lent), kz_abi_stored_size(lent), lent->tally,
+        kz_abi_results(lent->sheet), kz_abi_places(lent->sheet), lent->limits, lent->limit_count,
+        text, text_len));
 }
 
 static inline kz_answer kz_write_event(const kz_event *event, const uint32_t *names,
@@ -794,9 +890,11 @@ static inline kz_answer kz_write_sheet(const kz_sheet *sheet, uint8_t *out, size
         kz_abi_write_sheet(kz_abi_results(sheet), kz_abi_places(sheet), out, out_len));
 }
 
-static inline kz_answer kz_check(const uint8_t *input, size_t input_len, uint8_t *out,
-                                 size_t out_len) {
-    return kz_abi_answer(kz_abi_check(input, input_len, out, out_len));
+static inline kz_answer kz_check(kz_states *states, const uint8_t *input, size_t input_len,
+                                 uint8_t *out, size_t out_len) {
+    return kz_abi_answer(kz_abi_check(input, input_len, states->rows,
+                                      (size_t)KZ_SLOTS * (KZ_MAX_ROWS + 1), states->written,
+                                      (size_t)KZ_SLOTS * KZ_WRITTEN_BYTES, out, out_len));
 }
 
 #ifdef __cplusplus

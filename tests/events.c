@@ -29,7 +29,9 @@ static void check_sheet(void) {
         {KZ_WRITE, 2, 0, 8, 0, 0, 0, 0, 0, 0, 0, 0},
     };
     static const uint32_t names[] = {2, 3};
-    const kz_lent lent = {table, 4, written, sizeof written, &tally, &sheet, NULL, 0};
+    static kz_states states;
+    const kz_lent lent = {table,         4,      written, sizeof written, &states,
+                          sizeof states, &tally, &sheet,  NULL,           0};
     kz_answer answers[4];
     check("create by a sheet", kz_create(&lent, 0, 64, KZ_RW), 0, 1);
     check("borrow by a sheet", kz_borrow(&lent, 1, 0, 8, KZ_RW), 0, 2);
@@ -85,6 +87,52 @@ static void check_fresh(void) {
     check("read after a write", kz_read(&lent, 4, 64, 1), 0, 0);
     lent.written_size--;
     check("too few written bits", kz_write(&lent, 4, 64, 1), KZ_DISORDERED, 0);
+}
+
+/* What is stored comes back, and no name is given twice; and what is stored is judged on going back. */
+static void check_states(void) {
+    static kz_part part;
+    static const kz_event events[] = {
+        {KZ_MARK, 5, 0, 0, 0, 0, 0, 0, 0, 2, 0, 0},
+        {KZ_WRITE, 1, 0, 8, 0, 0, 0, 0, 0, 0, 0, 0},
+        {KZ_READ, 2, 0, 8, 0, 0, 0, 0, 0, 0, 0, 0},
+        {KZ_BACK, 5, 0, 0, 0, 0, 0, 0, 0, 3, 0, 0},
+        {KZ_WRITE, 2, 0, 8, 0, 0, 0, 0, 0, 0, 0, 0},
+        {KZ_BACK, 4, 0, 0, 0, 0, 0, 0, 0, 0, 0, 0},
+        {KZ_MARK, 8, 0, 0, 0, 0, 0, 0, 0, 0, 0, 0},
+        {KZ_BACK, 5, 0, 0, 0, 0, 0, 0, 0, 64, 0, 0},
+    };
+    static const kz_answer expected[] = {
+        {0, 0}, {0, 0}, {KZ_ENDED, 0}, {0, 0}, {0, 0}, {KZ_NOTHING_STORED, 0}, {KZ_MISSPELT, 0},
+        {KZ_MISSPELT, 0},
+    };
+    enum { COUNT = sizeof events / sizeof events[0] };
+    kz_lent lent = kz_lend(&part);
+    kz_answer answers[COUNT];
+    int i;
+    check("back to nothing", kz_back(&lent, 5), KZ_NOTHING_STORED, 0);
+    check("create to come back to", kz_create(&lent, 0, 64, KZ_RW), 0, 1);
+    check("borrow to come back to", kz_borrow(&lent, 1, 0, 8, KZ_RW), 0, 2);
+    if (kz_apply_all(&lent, events, COUNT, NULL, 0, answers) != COUNT) {
+        puts("events.c: not all events were taken with states");
+        failures++;
+    }
+    for (i = 0; i < COUNT; i++) {
+        check("states in many", answers[i], expected[i].refusal, expected[i].value);
+    }
+    check("mark", kz_mark(&lent, 0), 0, 0);
+    check("borrow after a mark", kz_borrow(&lent, 1, 0, 8, KZ_RW), 0, 3);
+    check("back", kz_back_by(&lent, 9, 0), 0, 0);
+    check("read of what was borrowed since", kz_read(&lent, 3, 0, 8), KZ_ENDED, 0);
+    check("borrow after a back", kz_borrow(&lent, 1, 0, 8, KZ_RW), 0, 4);
+    check("mark by another domain", kz_mark_by(&lent, 63, 0), 0, 0);
+    part.states.rows[1].right = 3;
+    check("back to what is out of order", kz_back(&lent, 0), KZ_DISORDERED, 0);
+    check("back to another slot", kz_back(&lent, 5), 0, 0);
+    lent.states_size--;
+    check("too few states", kz_write(&lent, 1, 0, 8), KZ_DISORDERED, 0);
+    lent.states = NULL;
+    check("no states", kz_mark(&lent, 0), KZ_DISORDERED, 0);
 }
 
 static void check_charge(const char *what, kz_shares charge, uint32_t refusal, uint32_t share,
@@ -181,5 +229,6 @@ int main(void) {
     check_sheet();
     check_fresh();
     check_domains();
+    check_states();
     return failures != 0;
 }

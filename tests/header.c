@@ -1,7 +1,7 @@
 /*
  * The header as C and as C++: the layout of the structs, each call, each exported function, and
  * pointers that are NULL where their length is 0. Prints each check that fails; the exit status is 0
- * when none does. Tables, written bits and tallies are static, so that they begin as zeros.
+ * when none does. Tables, written bits, states and tallies are static, so that they begin as zeros.
  */
 #include <stdio.h>
 #include <string.h>
@@ -9,6 +9,14 @@
 #include "kelzoud.h"
 
 static int failures = 0;
+
+/* Room for states that no call but a mark writes, shared by the tables that are not marked; and what
+   kz_check works in. */
+static kz_states states, work;
+
+#define LENT_STATES &states, sizeof states
+#define ROWS_OF(states) (sizeof(states).rows / sizeof(states).rows[0])
+#define STATES states.rows, ROWS_OF(states), states.written, sizeof states.written
 
 static void check_at(int line, const char *what, int holds) {
     if (!holds) {
@@ -70,7 +78,10 @@ static void check_layout(void) {
     CHECK(sizeof(kz_event) == 48);
     CHECK(sizeof(kz_answer) == 8);
     CHECK(sizeof(kz_shares) == 12);
-    CHECK(sizeof(kz_part) == KZ_MAX_ROWS * 44 + KZ_WRITTEN_BYTES + 28);
+    CHECK(sizeof(kz_part) == KZ_MAX_ROWS * 44 + KZ_WRITTEN_BYTES + 426336 + 28);
+    CHECK(sizeof(kz_states) == 426336 && sizeof(kz_part) == 479612);
+    CHECK(ROWS_OF(states) == 8200 && sizeof states.written == 65536);
+    CHECK(offsetof(kz_states, written) == 8200 * sizeof(kz_cap));
     CHECK(sizeof(kz_sheet) == KZ_SHEET_PLACES);
     CHECK(KZ_WRITTEN_ADDRESSES == 8 * KZ_WRITTEN_BYTES);
     CHECK(offsetof(kz_cap, depth) == 20);
@@ -119,6 +130,8 @@ static void check_answers(void) {
         {0x0000001100000000u, KZ_NOT_HOLDER, 0},
         {0x0000001200000000u, KZ_LIMIT_REACHED, 0},
         {0x00000012ffffffffu, KZ_LIMIT_REACHED, 4294967295u},
+        {0x0000001300000000u, KZ_NOTHING_STORED, 0},
+        {0x00000013ffffffffu, KZ_NOTHING_STORED, 4294967295u},
     };
     size_t i;
     for (i = 0; i < sizeof cases / sizeof cases[0]; i++) {
@@ -133,6 +146,7 @@ static void check_lend(void) {
     const kz_lent lent = kz_lend(&part);
     CHECK(lent.table == part.table && lent.rows == KZ_MAX_ROWS && lent.tally == &part.tally);
     CHECK(lent.written == part.written && lent.written_size == KZ_WRITTEN_BYTES);
+    CHECK(lent.states == &part.states && lent.states_size == sizeof(kz_states));
     CHECK(lent.sheet == NULL && lent.limits == NULL && lent.limit_count == 0);
     CHECK(allowed(kz_create(&lent, 0, 64, KZ_RW), 1));
     CHECK(part.table[0].name == 1 && part.tally.creates == 1);
@@ -144,8 +158,8 @@ static void check_events(void) {
     static kz_cap table[3];
     static uint8_t written[KZ_WRITTEN_BYTES];
     static kz_tally tally;
-    const kz_lent lent = {table, 3, written, sizeof written, &tally, NULL, NULL, 0};
-    kz_event event = event_of(7, 1, 0, 1, KZ_RW);
+    const kz_lent lent = {table, 3, written, sizeof written, LENT_STATES, &tally, NULL, NULL, 0};
+    kz_event event = event_of(KZ_BACK + 1, 1, 0, 1, KZ_RW);
     CHECK(allowed(kz_create(&lent, 0, 64, KZ_RW), 1));
     CHECK(allowed(kz_borrow(&lent, 1, 0, 16, KZ_RW), 2));
     CHECK(allowed(kz_borrow(&lent, 1, 0, 16, KZ_RO), 3));
@@ -172,7 +186,7 @@ static void check_reused_memory(void) {
     static kz_cap table[3];
     static uint8_t written[KZ_WRITTEN_BYTES];
     static kz_tally tally;
-    const kz_lent lent = {table, 3, written, sizeof written, &tally, NULL, NULL, 0};
+    const kz_lent lent = {table, 3, written, sizeof written, LENT_STATES, &tally, NULL, NULL, 0};
     CHECK(allowed(kz_create(&lent, 0, 64, KZ_RW), 1));
     CHECK(allowed(kz_borrow(&lent, 1, 0, 16, KZ_RW), 2));
     CHECK(allowed(kz_create(&lent, 8, 0, KZ_RW), 3));
@@ -193,7 +207,7 @@ static void check_raw(void) {
     static kz_cap table[5];
     static uint8_t written[KZ_WRITTEN_BYTES];
     static kz_tally tally;
-    const kz_lent lent = {table, 5, written, sizeof written, &tally, NULL, NULL, 0};
+    const kz_lent lent = {table, 5, written, sizeof written, LENT_STATES, &tally, NULL, NULL, 0};
     CHECK(allowed(kz_create(&lent, 0, 64, KZ_RW), 1));
     CHECK(allowed(kz_borrow(&lent, 1, 0, 16, KZ_RW), 2));
     CHECK(allowed(kz_borrow_as(&lent, 2, 0, 8, KZ_RW, KZ_RAW), 3));
@@ -235,7 +249,7 @@ static void check_cells(void) {
     static kz_cap table[5];
     static uint8_t written[KZ_WRITTEN_BYTES];
     static kz_tally tally;
-    const kz_lent lent = {table, 5, written, sizeof written, &tally, NULL, NULL, 0};
+    const kz_lent lent = {table, 5, written, sizeof written, LENT_STATES, &tally, NULL, NULL, 0};
     uint32_t i;
     CHECK(allowed(kz_create(&lent, 0, 16, KZ_RW), 1));
     CHECK(allowed(kz_borrow_as(&lent, 1, 0, 8, KZ_RW, KZ_CELL), 2));
@@ -272,7 +286,7 @@ static void check_wrong_kinds(void) {
     static kz_cap table[3];
     static uint8_t written[KZ_WRITTEN_BYTES];
     static kz_tally tally;
-    const kz_lent lent = {table, 3, written, sizeof written, &tally, NULL, NULL, 0};
+    const kz_lent lent = {table, 3, written, sizeof written, LENT_STATES, &tally, NULL, NULL, 0};
     uint8_t out[64];
     kz_event event = with_kind(event_of(KZ_CREATE, 0, 0, 64, KZ_RW), KZ_CELL);
     size_t i;
@@ -309,7 +323,7 @@ static void check_fresh(void) {
     static kz_cap table[4];
     static uint8_t written[KZ_WRITTEN_BYTES];
     static kz_tally tally;
-    const kz_lent lent = {table, 4, written, sizeof written, &tally, NULL, NULL, 0};
+    const kz_lent lent = {table, 4, written, sizeof written, LENT_STATES, &tally, NULL, NULL, 0};
     CHECK(allowed(kz_create_fresh(&lent, 64, 16, KZ_RW), 1));
     CHECK(table[0].fresh == 1 && table[0].kind == KZ_REFERENCE && table[0].right == KZ_RW);
     CHECK(refused(kz_read(&lent, 1, 64, 1), KZ_NOT_WRITTEN));
@@ -364,7 +378,7 @@ static void check_fresh_by_sheet(void) {
     static uint8_t written[KZ_WRITTEN_BYTES];
     static kz_tally tally;
     static const kz_sheet sheet = {{KZ_KEEP}};
-    const kz_lent lent = {table, 4, written, sizeof written, &tally, &sheet, NULL, 0};
+    const kz_lent lent = {table, 4, written, sizeof written, LENT_STATES, &tally, &sheet, NULL, 0};
     CHECK(allowed(kz_create_fresh(&lent, 0, 8, KZ_RO), 1));
     CHECK(refused(kz_write(&lent, 1, 0, 8), KZ_READ_ONLY));
     CHECK(refused(kz_read(&lent, 1, 0, 8), KZ_NOT_WRITTEN));
@@ -385,7 +399,7 @@ static void check_fresh_limits(void) {
     static kz_cap table[4];
     static uint8_t written[KZ_WRITTEN_BYTES];
     static kz_tally tally;
-    const kz_lent lent = {table, 4, written, sizeof written, &tally, NULL, NULL, 0};
+    const kz_lent lent = {table, 4, written, sizeof written, LENT_STATES, &tally, NULL, NULL, 0};
     const uint32_t most = 4294967295u, end = KZ_WRITTEN_ADDRESSES;
     size_t i;
     CHECK(refused(kz_create_fresh(&lent, end - 1, 2, KZ_RW), KZ_ILLEGAL_SPAN));
@@ -424,7 +438,7 @@ static void check_wrong_marks(void) {
     static kz_cap table[3];
     static uint8_t written[KZ_WRITTEN_BYTES];
     static kz_tally tally;
-    const kz_lent lent = {table, 3, written, sizeof written, &tally, NULL, NULL, 0};
+    const kz_lent lent = {table, 3, written, sizeof written, LENT_STATES, &tally, NULL, NULL, 0};
     uint8_t out[64];
     kz_event event;
     size_t i;
@@ -492,7 +506,7 @@ static void check_wrong_sizes(void) {
     static kz_cap table[2], before[2];
     static uint8_t written[KZ_WRITTEN_BYTES + 1], bits[KZ_WRITTEN_BYTES + 1];
     static kz_tally tally;
-    kz_lent lent = {table, 2, written, KZ_WRITTEN_BYTES, &tally, NULL, NULL, 0};
+    kz_lent lent = {table, 2, written, KZ_WRITTEN_BYTES, LENT_STATES, &tally, NULL, NULL, 0};
     kz_event events[2];
     kz_answer answers[2];
     uint8_t out[64];
@@ -530,6 +544,166 @@ static void check_wrong_sizes(void) {
     CHECK(written[0] == 255 && written[1] == 0x5a);
 }
 
+/* What is stored comes back, and names and tally do not. */
+static void check_states(void) {
+    static kz_part part;
+    const kz_lent lent = kz_lend(&part);
+    const kz_answer back_to_nothing = kz_back(&lent, 0);
+    uint32_t slot;
+    CHECK(refused(back_to_nothing, KZ_NOTHING_STORED) && part.tally.refused == 1);
+    CHECK(allowed(kz_create(&lent, 0, 64, KZ_RW), 1));
+    CHECK(allowed(kz_borrow(&lent, 1, 0, 8, KZ_RW), 2));
+    CHECK(allowed(kz_write(&lent, 2, 0, 8), 0));
+    CHECK(allowed(kz_mark(&lent, 7), 0));
+    CHECK(part.tally.issued == 2 && part.tally.writes == 1 && part.tally.refused == 1);
+    CHECK(allowed(kz_write(&lent, 1, 0, 64), 0));
+    CHECK(refused(kz_read(&lent, 2, 0, 8), KZ_ENDED));
+    CHECK(allowed(kz_borrow(&lent, 1, 8, 8, KZ_RW), 3));
+    CHECK(part.written[1] == 255);
+    CHECK(allowed(kz_back(&lent, 7), 0));
+    CHECK(part.written[0] == 255 && part.written[1] == 0);
+    CHECK(part.table[1].name == 2 && part.table[2].name == 0);
+    CHECK(refused(kz_write(&lent, 3, 8, 8), KZ_ENDED));
+    CHECK(allowed(kz_write(&lent, 2, 0, 8), 0));
+    CHECK(allowed(kz_borrow(&lent, 1, 8, 8, KZ_RW), 4));
+    CHECK(part.tally.issued == 4 && part.tally.creates == 1 && part.tally.borrows == 3);
+    CHECK(part.tally.writes == 3 && part.tally.refused == 3);
+    /* Each slot is by itself, and a back keeps what it has. */
+    for (slot = 0; slot < 7; slot++) CHECK(refused(kz_back(&lent, slot), KZ_NOTHING_STORED));
+    CHECK(allowed(kz_drop(&lent, 1), 0));
+    CHECK(allowed(kz_mark(&lent, 0), 0));
+    CHECK(allowed(kz_back(&lent, 7), 0) && part.table[1].name == 2);
+    CHECK(allowed(kz_back(&lent, 0), 0) && part.table[0].name == 0);
+    CHECK(allowed(kz_back(&lent, 7), 0) && part.table[1].name == 2);
+    CHECK(part.tally.drops == 1 && part.tally.refused == 10);
+    /* What is no slot, and what is no domain. */
+    CHECK(refused(kz_mark(&lent, 8), KZ_MISSPELT) && refused(kz_back(&lent, 8), KZ_MISSPELT));
+    CHECK(refused(kz_mark(&lent, 4294967295u), KZ_MISSPELT));
+    CHECK(refused(kz_mark_by(&lent, 64, 0), KZ_MISSPELT));
+    CHECK(refused(kz_back_by(&lent, 64, 6), KZ_MISSPELT));
+    CHECK(part.tally.refused == 15);
+    /* The slots are all domains', and ask for no holder. */
+    CHECK(allowed(kz_mark_by(&lent, 63, 1), 0));
+    CHECK(allowed(kz_drop(&lent, 1), 0));
+    CHECK(allowed(kz_back_by(&lent, 5, 1), 0) && part.table[0].name == 1);
+}
+
+/* Marks and backs among many events, and with words that they lack. */
+static void check_many_states(void) {
+    static const kz_answer expected[] = {
+        {0, 1}, {0, 0}, {0, 2}, {0, 0}, {KZ_ENDED, 0}, {0, 3}, {KZ_NOTHING_STORED, 0}, {KZ_MISSPELT, 0},
+    };
+    static kz_part part;
+    const kz_lent lent = kz_lend(&part);
+    kz_event events[8];
+    kz_answer answers[8];
+    memset(events, 255, sizeof events);
+    events[0] = event_of(KZ_CREATE, 0, 0, 8, KZ_RW);
+    events[1].kind = KZ_MARK;
+    events[1].name = 3;
+    events[1].actor = 9;
+    events[2] = event_of(KZ_BORROW, 1, 0, 8, KZ_RW);
+    events[3] = events[1];
+    events[3].kind = KZ_BACK;
+    events[4] = event_of(KZ_READ, 2, 0, 8, 0);
+    events[5] = event_of(KZ_CREATE, 0, 8, 8, KZ_RW);
+    events[6] = events[3];
+    events[6].name = 4;
+    events[7] = events[3];
+    events[7].name = 8;
+    CHECK(kz_apply_all(&lent, events, 8, NULL, 0, answers) == 8);
+    CHECK(memcmp(answers, expected, sizeof expected) == 0);
+    CHECK(part.table[0].name == 1 && part.table[1].name == 3 && part.table[2].name == 0);
+    CHECK(part.tally.issued == 3 && part.tally.refused == 3 && part.tally.reads == 0);
+}
+
+/* Any other size refuses every event and run, before all else, and changes nothing. What is not lent
+   states does not ask for them. */
+static void check_wrong_states(void) {
+    static const size_t wrong[] = {0, 1, sizeof(kz_states) - 1, sizeof(kz_states) + 1};
+    static const uint8_t line[] = "(mark 0)\n";
+    static const uint8_t listing[] = "(issued 1)\n(1 0 8 rw" OF_0 ")\n";
+    static kz_part part, before;
+    kz_lent lent = kz_lend(&part);
+    kz_event events[2];
+    kz_answer answers[2];
+    uint8_t out[64];
+    size_t i;
+    events[0] = event_of(KZ_CREATE, 0, 0, 8, KZ_RW);
+    events[1] = event_of(9, 0, 0, 8, KZ_RW);
+    CHECK(allowed(kz_read_listing(&lent, listing, sizeof listing - 1), 0));
+    before = part;
+    for (i = 0; i < 1 + sizeof wrong / sizeof wrong[0]; i++) {
+        /* At last a right size of nothing. */
+        const int is_last = i == sizeof wrong / sizeof wrong[0];
+        lent.states = is_last || wrong[i] == 0 ? NULL : &part.states;
+        lent.states_size = is_last ? sizeof(kz_states) : wrong[i];
+        CHECK(refused(kz_create(&lent, 8, 8, KZ_RW), KZ_DISORDERED));
+        CHECK(refused(kz_read(&lent, 1, 0, 8), KZ_DISORDERED));
+        CHECK(refused(kz_drop_all(&lent, NULL, 0), KZ_DISORDERED));
+        CHECK(refused(kz_mark(&lent, 0), KZ_DISORDERED));
+        CHECK(refused(kz_back(&lent, 9), KZ_DISORDERED));
+        CHECK(kz_apply_all(&lent, events, 2, NULL, 0, answers) == 2);
+        CHECK(refused(answers[0], KZ_DISORDERED) && refused(answers[1], KZ_DISORDERED));
+        CHECK(refused(kz_run(&lent, line, sizeof line - 1), KZ_DISORDERED));
+        CHECK(refused(kz_run(&lent, NULL, 0), KZ_DISORDERED));
+        CHECK(allowed(kz_write_listing(&lent, out, sizeof out), sizeof listing - 1));
+        CHECK(allowed(kz_read_listing(&lent, listing, sizeof listing - 1), 0));
+        CHECK(kz_charge(&lent, 1).share == 8);
+        CHECK(memcmp(&part, &before, sizeof part) == 0);
+    }
+    lent.states = &part.states;
+    CHECK(allowed(kz_mark(&lent, 0), 0));
+}
+
+/* What is stored and out of order, over a limit, or of another number of rows, is judged on going back,
+   and nowhere else. */
+static void check_stored(void) {
+    static const uint8_t lines[] = "(read 1 0 8)\n(mark 2)\n(back 1)\n(drop 1)\n";
+    static uint32_t limits[KZ_DOMAINS] = {1};
+    static kz_part part, before;
+    kz_lent lent = kz_lend(&part);
+    kz_event events[3];
+    kz_answer answers[3];
+    int i;
+    CHECK(allowed(kz_create(&lent, 0, 8, KZ_RW), 1));
+    CHECK(allowed(kz_borrow(&lent, 1, 0, 8, KZ_RW), 2));
+    CHECK(allowed(kz_mark(&lent, 1), 0));
+    CHECK(allowed(kz_drop(&lent, 2), 0));
+    before = part;
+    for (i = 0; i < 5; i++) {
+        part = before;
+        lent = kz_lend(&part);
+        /* The second slot's rows are those from 1,025 on, of which the first is its head. */
+        if (i == 0) part.states.rows[1025 + 2].right = 3;
+        if (i == 1) part.states.rows[1025].name++;
+        if (i == 2) part.states.rows[1025].parent = 4294967295u;
+        if (i == 3) lent.rows = 16;
+        if (i == 4) {
+            lent.limits = limits;
+            lent.limit_count = KZ_DOMAINS;
+        }
+        CHECK(refused(kz_back(&lent, 1), KZ_DISORDERED));
+        CHECK(refused(kz_back_by(&lent, 64, 1), KZ_DISORDERED));
+        CHECK(part.tally.refused == 0 && part.table[0].name == 1 && part.table[1].name == 0);
+        CHECK(refused(kz_back(&lent, 0), KZ_NOTHING_STORED));
+        events[0] = event_of(KZ_BACK, 1, 0, 0, 0);
+        events[1] = event_of(KZ_WRITE, 1, 0, 8, 0);
+        events[2] = event_of(KZ_MARK, 0, 0, 0, 0);
+        CHECK(kz_apply_all(&lent, events, 3, NULL, 0, answers) == 3);
+        CHECK(refused(answers[0], KZ_DISORDERED) && allowed(answers[1], 0));
+        CHECK(allowed(answers[2], 0) && allowed(kz_back(&lent, 0), 0));
+        /* In a run it has its own line, and the lines before it stand. */
+        CHECK(refused_at(kz_run(&lent, lines, sizeof lines - 1), KZ_DISORDERED, 3));
+        CHECK(part.tally.reads == 1 && part.tally.refused == 1 && part.tally.drops == 1);
+        CHECK(allowed(kz_back(&lent, 2), 0));
+    }
+    part = before;
+    lent = kz_lend(&part);
+    CHECK(allowed(kz_run(&lent, lines, sizeof lines - 1), 4));
+    CHECK(part.table[0].name == 0 && part.tally.drops == 2);
+}
+
 /* Sets of holders, and the words that an event and a row have of them. */
 static void check_holders(void) {
     static const uint32_t some[] = {63, 3, 0, 3}, wrong[] = {0, 64}, none[] = {4294967295u};
@@ -560,7 +734,7 @@ static void check_domains(void) {
     static kz_cap table[4];
     static uint8_t written[KZ_WRITTEN_BYTES];
     static kz_tally tally;
-    const kz_lent lent = {table, 4, written, sizeof written, &tally, NULL, NULL, 0};
+    const kz_lent lent = {table, 4, written, sizeof written, LENT_STATES, &tally, NULL, NULL, 0};
     const uint64_t both = kz_holder(3) | kz_holder(40);
     CHECK(allowed(kz_create_by(&lent, 3, both, 0, 64, KZ_RW), 1));
     CHECK(table[0].maker == 3 && kz_holders_of(&table[0]) == both && table[0].fresh == 0);
@@ -603,7 +777,7 @@ static void check_wrong_domains(void) {
     static kz_cap table[3], before[3];
     static uint8_t written[KZ_WRITTEN_BYTES];
     static kz_tally tally;
-    const kz_lent lent = {table, 3, written, sizeof written, &tally, NULL, NULL, 0};
+    const kz_lent lent = {table, 3, written, sizeof written, LENT_STATES, &tally, NULL, NULL, 0};
     uint8_t out[128];
     kz_event event;
     size_t i;
@@ -658,7 +832,8 @@ static void check_limits(void) {
     static kz_cap table[3];
     static uint8_t written[KZ_WRITTEN_BYTES];
     static kz_tally tally;
-    const kz_lent lent = {table, 3, written, sizeof written, &tally, NULL, limits, KZ_DOMAINS};
+    const kz_lent lent = {table,  3,    written, sizeof written, LENT_STATES,
+                          &tally, NULL, limits,  KZ_DOMAINS};
     const uint64_t all = ~(uint64_t)0;
     kz_event events[3];
     kz_answer answers[3];
@@ -697,7 +872,8 @@ static void check_wrong_limits(void) {
     static kz_cap table[4], before[4];
     static uint8_t written[KZ_WRITTEN_BYTES];
     static kz_tally tally, counted;
-    kz_lent lent = {table, 4, written, sizeof written, &tally, NULL, limits, KZ_DOMAINS};
+    kz_lent lent = {table,  4,    written, sizeof written, LENT_STATES,
+                    &tally, NULL, limits,  KZ_DOMAINS};
     kz_event events[2];
     kz_answer answers[2];
     uint8_t out[128];
@@ -749,7 +925,7 @@ static void check_charge(void) {
     static kz_cap table[5], before[5];
     static uint8_t written[KZ_WRITTEN_BYTES];
     static kz_tally tally, counted;
-    kz_lent lent = {table, 5, written, sizeof written, &tally, NULL, NULL, 0};
+    kz_lent lent = {table, 5, written, sizeof written, LENT_STATES, &tally, NULL, NULL, 0};
     CHECK(allowed(kz_create(&lent, 0, 1000, KZ_RW), 1));
     CHECK(allowed(kz_create_by(&lent, 1, kz_holder(1) | kz_holder(63), 1000, 1001, KZ_RO), 2));
     CHECK(allowed(kz_create_by(&lent, 9, ~(uint64_t)0, 3000, 4294960000u, KZ_RW), 3));
@@ -788,7 +964,7 @@ static void check_named_events(void) {
     static kz_cap table[2];
     static uint8_t written[KZ_WRITTEN_BYTES];
     static kz_tally tally;
-    const kz_lent lent = {table, 2, written, sizeof written, &tally, NULL, NULL, 0};
+    const kz_lent lent = {table, 2, written, sizeof written, LENT_STATES, &tally, NULL, NULL, 0};
     kz_event event;
     CHECK(refused(apply_named(&lent, KZ_CREATE, 0, 0, 0, 64, KZ_RW), KZ_MISNAMED));
     CHECK(refused(apply_named(&lent, KZ_CREATE, 2, 0, 0, 64, KZ_RW), KZ_MISNAMED));
@@ -820,7 +996,7 @@ static void check_grouped_events(void) {
     static kz_cap table[5];
     static uint8_t written[KZ_WRITTEN_BYTES];
     static kz_tally tally;
-    const kz_lent lent = {table, 5, written, sizeof written, &tally, NULL, NULL, 0};
+    const kz_lent lent = {table, 5, written, sizeof written, LENT_STATES, &tally, NULL, NULL, 0};
     uint32_t i;
     for (i = 0; i <= KZ_MAX_GROUP; i++) many[i] = i + 1;
     for (i = 1; i <= 3; i++) CHECK(allowed(kz_create(&lent, 8 * i, 8, KZ_RW), i));
@@ -853,7 +1029,7 @@ static void check_many_events(void) {
     static kz_cap table[4];
     static uint8_t written[KZ_WRITTEN_BYTES];
     static kz_tally tally;
-    const kz_lent lent = {table, 4, written, sizeof written, &tally, NULL, NULL, 0};
+    const kz_lent lent = {table, 4, written, sizeof written, LENT_STATES, &tally, NULL, NULL, 0};
     size_t i;
     memset(answers, 255, sizeof answers);
     events[0] = event_of(KZ_CREATE, 0, 0, 8, KZ_RW);
@@ -893,29 +1069,31 @@ static void check_exported(void) {
     memset(answers, 255, sizeof answers);
     events[0] = event_of(KZ_CREATE, 0, 0, 8, KZ_RW);
     events[1] = event_of(KZ_CREATE, 0, 8, 8, KZ_RW);
-    CHECK(kz_abi_apply_all(table, 2, written, bytes, &tally, NULL, 0, NULL, 0, events, 2, NULL, 0,
-                           answers, 1) == 1);
+    CHECK(kz_abi_apply_all(table, 2, written, bytes, STATES, &tally, NULL, 0, NULL, 0, events, 2,
+                           NULL, 0, answers, 1) == 1);
     CHECK(allowed(answers[0], 1) && answers[1].value == 4294967295u && tally.creates == 1);
-    CHECK(kz_abi_apply_all(table, 2, written, bytes, &tally, NULL, 0, NULL, 0, events + 1, 1, NULL,
-                           0, answers, 3) == 1);
+    CHECK(kz_abi_apply_all(table, 2, written, bytes, STATES, &tally, NULL, 0, NULL, 0, events + 1, 1,
+                           NULL, 0, answers, 3) == 1);
     CHECK(allowed(answers[0], 2) && answers[1].value == 4294967295u);
-    CHECK(kz_abi_apply_all(table, 2, written, bytes, &tally, NULL, 0, NULL, 0, events, 2, NULL, 0,
-                           NULL, 0) == 0);
+    CHECK(kz_abi_apply_all(table, 2, written, bytes, STATES, &tally, NULL, 0, NULL, 0, events, 2,
+                           NULL, 0, NULL, 0) == 0);
     events[0] = event_of(KZ_DROP_ALL, 0, 1, 2, 0);
-    CHECK(kz_abi_apply(table, 2, written, bytes, &tally, NULL, 0, NULL, 0, events, names, 2) ==
-          misgrouped);
-    CHECK(kz_abi_apply(table, 2, written, bytes, &tally, NULL, 0, NULL, 0, events, names, 3) == 0);
+    CHECK(kz_abi_apply(table, 2, written, bytes, STATES, &tally, NULL, 0, NULL, 0, events, names,
+                       2) == misgrouped);
+    CHECK(kz_abi_apply(table, 2, written, bytes, STATES, &tally, NULL, 0, NULL, 0, events, names,
+                       3) == 0);
     events[0].start = 4294967295u;
-    CHECK(kz_abi_apply(table, 2, written, bytes, &tally, NULL, 0, NULL, 0, events, names, 3) ==
-          misgrouped);
+    CHECK(kz_abi_apply(table, 2, written, bytes, STATES, &tally, NULL, 0, NULL, 0, events, names,
+                       3) == misgrouped);
     CHECK(table[0].name == 0 && tally.drops == 1 && tally.refused == 2);
     /* Of the bits only the number is judged. */
     events[0] = event_of(KZ_WRITE, 1, 0, 8, 0);
-    CHECK(kz_abi_apply(table, 2, NULL, 0, &tally, NULL, 0, NULL, 0, events, NULL, 0) == disordered);
-    CHECK(kz_abi_run(table, 2, NULL, 0, &tally, NULL, 0, NULL, 0, NULL, 0) == disordered);
+    CHECK(kz_abi_apply(table, 2, NULL, 0, STATES, &tally, NULL, 0, NULL, 0, events, NULL, 0) ==
+          disordered);
+    CHECK(kz_abi_run(table, 2, NULL, 0, STATES, &tally, NULL, 0, NULL, 0, NULL, 0) == disordered);
     memset(answers, 255, sizeof answers);
-    CHECK(kz_abi_apply_all(table, 2, written, bytes - 1, &tally, NULL, 0, NULL, 0, events, 1, NULL,
-                           0, answers, 3) == 1);
+    CHECK(kz_abi_apply_all(table, 2, written, bytes - 1, STATES, &tally, NULL, 0, NULL, 0, events, 1,
+                           NULL, 0, answers, 3) == 1);
     CHECK(refused(answers[0], KZ_DISORDERED) && answers[1].value == 4294967295u);
     CHECK(tally.refused == 2);
 }
@@ -931,7 +1109,7 @@ static void check_text(void) {
     static kz_cap table[2];
     static uint8_t written[KZ_WRITTEN_BYTES];
     static kz_tally tally;
-    const kz_lent lent = {table, 2, written, sizeof written, &tally, NULL, NULL, 0};
+    const kz_lent lent = {table, 2, written, sizeof written, LENT_STATES, &tally, NULL, NULL, 0};
     memset(&event, 255, sizeof event);
     names[0] = 9;
     CHECK(refused(kz_read_event(0, trace, 15, &event, names), KZ_MISSPELT));
@@ -946,7 +1124,7 @@ static void check_text(void) {
     memset(table, 255, sizeof table);
     CHECK(allowed(kz_read_listing(&lent, out, sizeof listing - 1), 0));
     CHECK(table[0].length == 8 && table[1].name == 0);
-    CHECK(allowed(kz_check(trace, length, out, sizeof out), sizeof listing - 1 + 14));
+    CHECK(allowed(kz_check(&work, trace, length, out, sizeof out), sizeof listing - 1 + 14));
     CHECK(memcmp(out, "(refused 6 2)\n", 14) == 0);
 }
 
@@ -964,7 +1142,7 @@ static void check_named_text(void) {
     static kz_cap table[2];
     static uint8_t written[KZ_WRITTEN_BYTES];
     static kz_tally tally;
-    const kz_lent lent = {table, 2, written, sizeof written, &tally, NULL, NULL, 0};
+    const kz_lent lent = {table, 2, written, sizeof written, LENT_STATES, &tally, NULL, NULL, 0};
     CHECK(allowed(kz_write_event(&event, NULL, 0, out, sizeof out), 9));
     CHECK(allowed(kz_read_event(1, out, 9, &event, names), 0));
     CHECK(same_event(&event, &dropped));
@@ -977,7 +1155,7 @@ static void check_named_text(void) {
     CHECK(refused_at(kz_run(&lent, trace, length), KZ_MISNAMED, 3));
     CHECK(tally.issued == 1 && tally.creates == 1 && tally.refused == 1);
     CHECK(allowed(kz_run(&lent, trace, sizeof KZ_NAMED_HEADER - 1), 1));
-    CHECK(allowed(kz_check(trace, length, out, sizeof out), sizeof printed - 1));
+    CHECK(allowed(kz_check(&work, trace, length, out, sizeof out), sizeof printed - 1));
     CHECK(memcmp(out, printed, sizeof printed - 1) == 0);
 }
 
@@ -995,7 +1173,7 @@ static void check_grouped_text(void) {
     static kz_cap table[2];
     static uint8_t written[KZ_WRITTEN_BYTES];
     static kz_tally tally;
-    const kz_lent lent = {table, 2, written, sizeof written, &tally, NULL, NULL, 0};
+    const kz_lent lent = {table, 2, written, sizeof written, LENT_STATES, &tally, NULL, NULL, 0};
     uint32_t form;
     for (form = 0; form < 2; form++) {
         memset(names, 255, sizeof names);
@@ -1022,8 +1200,93 @@ static void check_grouped_text(void) {
     CHECK(tally.issued == 2 && tally.drops == 1 && tally.refused == 1 && table[0].name == 0);
     CHECK(allowed(kz_run(&lent, named, sizeof named - 1), 4));
     CHECK(tally.issued == 4 && tally.drops == 2 && table[0].name == 0);
-    CHECK(allowed(kz_check(trace, sizeof trace - 1, out, sizeof out), 14 + 11));
+    CHECK(allowed(kz_check(&work, trace, sizeof trace - 1, out, sizeof out), 14 + 11));
     CHECK(memcmp(out, "(refused 5 4)\n(issued 2)\n", 14 + 11) == 0);
+}
+
+/* The lines of marks and backs, alike in both kinds of text. */
+static void check_states_text(void) {
+    static const char trace[] =
+        "(create 0 8 rw)\n(mark 0)\n(drop 1)\n(as 3 (back 0))\n(read 1 0 8)\n(back 1)\n";
+    static const char named[] =
+        KZ_NAMED_HEADER "(create 1 0 8 rw)\n(mark 0)\n(create 2 0 8 rw)\n(back 0)\n(read 2 0 8)\n";
+    static const char printed[] = "(refused 19 6)\n(issued 1)\n(1 0 8 rw" OF_0 ")\n";
+    static const char *wrong[] = {"(mark 8)\n", "(mark 03)\n", "(as 0 (mark 1))\n", "(mark 1 2)\n",
+                                  "(as 64 (mark 1))\n", "(mark)\n", "(back 1)", "(back -1)\n"};
+    kz_event event = kz_by(event_of(KZ_MARK, 3, 0, 0, 0), 2, 0), read;
+    uint32_t names[KZ_MAX_GROUP], form;
+    uint8_t out[64];
+    size_t i;
+    memset(&work, 255, sizeof work);
+    for (form = 0; form < 2; form++) {
+        const uint8_t *line = (const uint8_t *)"(as 2 (mark 3))\n";
+        memset(&read, 255, sizeof read);
+        CHECK(allowed(kz_read_event(form, line, 16, &read, names), 0));
+        CHECK(same_event(&read, &event));
+        for (i = 0; i < sizeof wrong / sizeof wrong[0]; i++) {
+            line = (const uint8_t *)wrong[i];
+            CHECK(refused(kz_read_event(form, line, strlen(wrong[i]), &read, names), KZ_MISSPELT));
+        }
+        CHECK(same_event(&read, &event));
+    }
+    /* What the kind lacks is not looked at. */
+    memset(&event, 255, sizeof event);
+    event.kind = KZ_BACK;
+    event.name = 7;
+    event.actor = 0;
+    CHECK(allowed(kz_write_event(&event, NULL, 0, out, sizeof out), 9));
+    CHECK(memcmp(out, "(back 7)\n", 9) == 0);
+    CHECK(refused(kz_write_event(&event, NULL, 0, out, 8), KZ_BUFFER_TOO_SHORT));
+    event.actor = 63;
+    CHECK(allowed(kz_write_event(&event, NULL, 0, out, sizeof out), 17));
+    CHECK(memcmp(out, "(as 63 (back 7))\n", 17) == 0);
+    event.name = 8;
+    CHECK(refused(kz_write_event(&event, NULL, 0, out, 8), KZ_MISSPELT));
+    for (i = 0; i < 2; i++) {
+        /* What stands in the memory before does not matter. */
+        CHECK(allowed(kz_check(&work, (const uint8_t *)trace, sizeof trace - 1, out, sizeof out),
+                      sizeof printed - 1));
+        CHECK(memcmp(out, printed, sizeof printed - 1) == 0);
+    }
+    CHECK(allowed(kz_check(&work, (const uint8_t *)named, sizeof named - 1, out, sizeof out),
+                  14 + 11 + 30));
+    CHECK(memcmp(out, "(refused 5 6)\n(issued 2)\n(1 0 8 rw", 14 + 11 + 9) == 0);
+}
+
+/* The exported functions with rows and bytes for states of any number. */
+static void check_states_exported(void) {
+    static const uint8_t text[] = "(mark 0)\n";
+    const uint64_t disordered = (uint64_t)KZ_DISORDERED << 32;
+    static const struct {
+        size_t rows, bytes;
+    } sizes[] = {{8200, 65536}, {8199, 65536}, {8200, 65535}, {0, 65536},
+                 {8200, 0},     {0, 0},        {1025, 8192}};
+    kz_event event = event_of(KZ_MARK, 0, 0, 0, 0);
+    static kz_cap table[2];
+    static uint8_t written[KZ_WRITTEN_BYTES];
+    static kz_tally tally;
+    kz_answer answer;
+    uint8_t out[64];
+    size_t i;
+    for (i = 0; i < sizeof sizes / sizeof sizes[0]; i++) {
+        const uint64_t expected = i == 0 ? 0 : disordered;
+        const char *printed = i == 0 ? "(allowed 1)\n(issued 0)\n" : "(refused 1 0)\n(issued 0)\n";
+        kz_cap *rows = sizes[i].rows == 0 ? NULL : work.rows;
+        uint8_t *bits = sizes[i].bytes == 0 ? NULL : work.written;
+        CHECK(kz_abi_apply(table, 2, written, KZ_WRITTEN_BYTES, rows, sizes[i].rows, bits,
+                           sizes[i].bytes, &tally, NULL, 0, NULL, 0, &event, NULL, 0) == expected);
+        CHECK(kz_abi_apply_all(table, 2, written, KZ_WRITTEN_BYTES, rows, sizes[i].rows, bits,
+                               sizes[i].bytes, &tally, NULL, 0, NULL, 0, &event, 1, NULL, 0, &answer,
+                               1) == 1);
+        CHECK(answer.refusal == (i == 0 ? 0 : KZ_DISORDERED) && answer.value == 0);
+        CHECK(kz_abi_run(table, 2, written, KZ_WRITTEN_BYTES, rows, sizes[i].rows, bits,
+                         sizes[i].bytes, &tally, NULL, 0, NULL, 0, text, sizeof text - 1) ==
+              (i == 0 ? 1 : disordered));
+        CHECK(kz_abi_check(text, sizeof text - 1, rows, sizes[i].rows, bits, sizes[i].bytes, out,
+                           sizeof out) == strlen(printed));
+        CHECK(memcmp(out, printed, strlen(printed)) == 0);
+    }
+    CHECK(tally.refused == 0);
 }
 
 static int reads_as(uint32_t named, const char *line, const kz_event *expected) {
@@ -1077,8 +1340,8 @@ static void check_kinds_text(void) {
     static kz_cap table[5], other[5];
     static uint8_t written[KZ_WRITTEN_BYTES];
     static kz_tally tally, copied;
-    const kz_lent lent = {table, 5, written, sizeof written, &tally, NULL, NULL, 0};
-    const kz_lent copy = {other, 5, written, sizeof written, &copied, NULL, NULL, 0};
+    const kz_lent lent = {table, 5, written, sizeof written, LENT_STATES, &tally, NULL, NULL, 0};
+    const kz_lent copy = {other, 5, written, sizeof written, LENT_STATES, &copied, NULL, NULL, 0};
     size_t i;
     CHECK(writes_as(&raw, "(borrow 1 0 8 rw raw)\n"));
     CHECK(reads_as(0, "(borrow 1 0 8 rw raw)\n", &raw));
@@ -1100,10 +1363,11 @@ static void check_kinds_text(void) {
     CHECK(allowed(kz_read_listing(&copy, out, length), 0));
     CHECK(memcmp(table, other, sizeof table) == 0 && copied.issued == 4);
     CHECK(refused(kz_read_listing(&copy, (const uint8_t *)root, sizeof root - 1), KZ_MISSPELT));
-    CHECK(allowed(kz_check((const uint8_t *)trace, sizeof trace - 1, out, sizeof out),
+    CHECK(allowed(kz_check(&work, (const uint8_t *)trace, sizeof trace - 1, out, sizeof out),
                   (uint32_t)(12 + length)));
     CHECK(memcmp(out, "(allowed 4)\n", 12) == 0 && memcmp(out + 12, listing, length) == 0);
-    CHECK(allowed(kz_check((const uint8_t *)named_trace, sizeof named_trace - 1, out, sizeof out),
+    CHECK(allowed(kz_check(&work, (const uint8_t *)named_trace, sizeof named_trace - 1, out,
+                           sizeof out),
                   sizeof named_output - 1));
     CHECK(memcmp(out, named_output, sizeof named_output - 1) == 0);
 }
@@ -1163,8 +1427,8 @@ static void check_fresh_text(void) {
     static kz_cap table[3], other[3];
     static uint8_t written[KZ_WRITTEN_BYTES], bits[KZ_WRITTEN_BYTES];
     static kz_tally tally, copied;
-    const kz_lent lent = {table, 3, written, sizeof written, &tally, NULL, NULL, 0};
-    const kz_lent copy = {other, 3, bits, sizeof bits, &copied, NULL, NULL, 0};
+    const kz_lent lent = {table, 3, written, sizeof written, LENT_STATES, &tally, NULL, NULL, 0};
+    const kz_lent copy = {other, 3, bits, sizeof bits, LENT_STATES, &copied, NULL, NULL, 0};
     size_t i;
     CHECK(writes_as(&fresh, "(create 0 8 rw fresh)\n"));
     CHECK(reads_as(0, "(create 0 8 rw fresh)\n", &fresh));
@@ -1202,10 +1466,11 @@ static void check_fresh_text(void) {
         CHECK(refused(kz_read_listing(&copy, text, strlen(wrong_listings[i])), KZ_MISSPELT));
     }
     /* capcheck begins with nothing written. */
-    CHECK(allowed(kz_check((const uint8_t *)trace, sizeof trace - 1, out, sizeof out),
+    CHECK(allowed(kz_check(&work, (const uint8_t *)trace, sizeof trace - 1, out, sizeof out),
                   sizeof output - 1));
     CHECK(memcmp(out, output, sizeof output - 1) == 0);
-    CHECK(allowed(kz_check((const uint8_t *)named_trace, sizeof named_trace - 1, out, sizeof out),
+    CHECK(allowed(kz_check(&work, (const uint8_t *)named_trace, sizeof named_trace - 1, out,
+                           sizeof out),
                   sizeof named_output - 1));
     CHECK(memcmp(out, named_output, sizeof named_output - 1) == 0);
 }
@@ -1305,8 +1570,8 @@ static void check_domains_text(void) {
     static kz_cap table[3], other[3];
     static uint8_t written[KZ_WRITTEN_BYTES];
     static kz_tally tally, copied;
-    const kz_lent lent = {table, 3, written, sizeof written, &tally, NULL, NULL, 0};
-    const kz_lent copy = {other, 3, written, sizeof written, &copied, NULL, NULL, 0};
+    const kz_lent lent = {table, 3, written, sizeof written, LENT_STATES, &tally, NULL, NULL, 0};
+    const kz_lent copy = {other, 3, written, sizeof written, LENT_STATES, &copied, NULL, NULL, 0};
     const size_t length = sizeof listing - 1;
     size_t i;
     CHECK(refused_at(kz_run(&lent, (const uint8_t *)trace, sizeof trace - 1), KZ_NOT_HOLDER, 4));
@@ -1319,7 +1584,7 @@ static void check_domains_text(void) {
         CHECK(refused(kz_read_listing(&copy, text, strlen(wrong_listings[i])), KZ_MISSPELT));
     }
     CHECK(memcmp(table, other, sizeof table) == 0 && copied.issued == 2);
-    CHECK(allowed(kz_check((const uint8_t *)trace, sizeof trace - 1, out, sizeof out),
+    CHECK(allowed(kz_check(&work, (const uint8_t *)trace, sizeof trace - 1, out, sizeof out),
                   (uint32_t)(15 + length)));
     CHECK(memcmp(out, "(refused 17 4)\n", 15) == 0 && memcmp(out + 15, listing, length) == 0);
 }
@@ -1345,7 +1610,7 @@ static uint32_t result_on(kz_cap table[3], const kz_sheet *sheet, uint32_t kind,
                           uint32_t from) {
     static uint8_t written[KZ_WRITTEN_BYTES];
     kz_tally tally;
-    const kz_lent lent = {table, 3, written, sizeof written, &tally, sheet, NULL, 0};
+    const kz_lent lent = {table, 3, written, sizeof written, LENT_STATES, &tally, sheet, NULL, 0};
     const uint32_t user = from == KZ_FROM_CELL ? 2 : 1;
     const uint32_t parent = from == KZ_FROM_STRANGER ? 2 : 1;
     const kz_event event = event_of(access, user, 0, 8, 0);
@@ -1428,7 +1693,7 @@ static void check_sheets_of_one_result(void) {
     static uint8_t written[KZ_WRITTEN_BYTES];
     static kz_tally tally;
     kz_sheet sheet = all_of(KZ_KEEP);
-    const kz_lent lent = {table, 6, written, sizeof written, &tally, &sheet, NULL, 0};
+    const kz_lent lent = {table, 6, written, sizeof written, LENT_STATES, &tally, &sheet, NULL, 0};
     uint32_t i;
     CHECK(allowed(kz_create(&lent, 0, 16, KZ_RW), 1));
     CHECK(allowed(kz_borrow(&lent, 1, 0, 8, KZ_RW), 2));
@@ -1469,7 +1734,7 @@ static void check_sheet_of_create(void) {
     static uint8_t written[KZ_WRITTEN_BYTES];
     static kz_tally tally;
     kz_sheet sheet = all_of(KZ_END);
-    const kz_lent lent = {table, 4, written, sizeof written, &tally, &sheet, NULL, 0};
+    const kz_lent lent = {table, 4, written, sizeof written, LENT_STATES, &tally, &sheet, NULL, 0};
     CHECK(allowed(kz_create(&lent, 0, 16, KZ_RW), 1));
     CHECK(allowed(kz_borrow_as(&lent, 1, 0, 8, KZ_RW, KZ_RAW), 2));
     CHECK(allowed(kz_borrow_as(&lent, 1, 0, 8, KZ_RW, KZ_CELL), 3));
@@ -1546,19 +1811,19 @@ static void check_sheet_bytes(void) {
         memset(written, 0, sizeof written);
         memset(tallies, 0, sizeof tallies);
         for (j = 0; j < 3; j++) {
-            CHECK(kz_abi_run(tables[j], 3, written[j], size, &tallies[j], bytes, length, NULL, 0,
-                             made, sizeof made - 1) == 3);
+            CHECK(kz_abi_run(tables[j], 3, written[j], size, STATES, &tallies[j], bytes, length,
+                             NULL, 0, made, sizeof made - 1) == 3);
         }
-        CHECK(kz_abi_apply(tables[0], 3, written[0], size, tallies, bytes, length, NULL, 0,
+        CHECK(kz_abi_apply(tables[0], 3, written[0], size, STATES, tallies, bytes, length, NULL, 0,
                            &events[0], NULL, 0) == 0);
         CHECK(tables[0][1].right == cases[i].between);
-        CHECK(kz_abi_apply(tables[0], 3, written[0], size, tallies, bytes, length, NULL, 0,
+        CHECK(kz_abi_apply(tables[0], 3, written[0], size, STATES, tallies, bytes, length, NULL, 0,
                            &events[1], NULL, 0) == 0);
         for (j = 0; j < 3; j++) CHECK(tables[0][j].name == cases[i].after[j]);
-        CHECK(kz_abi_apply_all(tables[1], 3, written[1], size, &tallies[1], bytes, length, NULL, 0,
-                               events, 2, NULL, 0, answers, 2) == 2);
-        CHECK(kz_abi_run(tables[2], 3, written[2], size, &tallies[2], bytes, length, NULL, 0,
-                         uses, sizeof uses - 1) == 2);
+        CHECK(kz_abi_apply_all(tables[1], 3, written[1], size, STATES, &tallies[1], bytes, length,
+                               NULL, 0, events, 2, NULL, 0, answers, 2) == 2);
+        CHECK(kz_abi_run(tables[2], 3, written[2], size, STATES, &tallies[2], bytes, length, NULL,
+                         0, uses, sizeof uses - 1) == 2);
         for (j = 1; j < 3; j++) {
             CHECK(memcmp(tables[0], tables[j], sizeof tables[0]) == 0);
             CHECK(memcmp(&tallies[0], &tallies[j], sizeof tallies[0]) == 0);
@@ -1691,7 +1956,7 @@ static void check_null(void) {
     uint8_t out[64];
     static uint8_t written[KZ_WRITTEN_BYTES];
     static kz_tally tally;
-    const kz_lent lent = {NULL, 0, written, sizeof written, &tally, NULL, NULL, 0};
+    const kz_lent lent = {NULL, 0, written, sizeof written, LENT_STATES, &tally, NULL, NULL, 0};
     CHECK(refused(kz_create(&lent, 0, 64, KZ_RW), KZ_TABLE_FULL));
     CHECK(refused(kz_create_fresh(&lent, 0, 64, KZ_RW), KZ_TABLE_FULL));
     CHECK(refused(apply_named(&lent, KZ_CREATE, 1, 0, 0, 64, KZ_RW), KZ_TABLE_FULL));
@@ -1711,8 +1976,8 @@ static void check_null(void) {
     CHECK(refused(kz_write_listing(&lent, NULL, 0), KZ_BUFFER_TOO_SHORT));
     CHECK(refused(kz_read_listing(&lent, NULL, 0), KZ_MISSPELT));
     CHECK(allowed(kz_read_listing(&lent, text, sizeof listing - 1), 0));
-    CHECK(refused(kz_check(NULL, 0, NULL, 0), KZ_BUFFER_TOO_SHORT));
-    CHECK(allowed(kz_check(NULL, 0, out, sizeof out), sizeof listing - 1 + 12));
+    CHECK(refused(kz_check(&work, NULL, 0, NULL, 0), KZ_BUFFER_TOO_SHORT));
+    CHECK(allowed(kz_check(&work, NULL, 0, out, sizeof out), sizeof listing - 1 + 12));
 }
 
 /* A table whose listing is as long as a listing can be, and the longest lines. No root has a kind to
@@ -1771,6 +2036,12 @@ static void check_longest(void) {
     CHECK(event.kind == KZ_DROP_ALL && event.length == KZ_MAX_GROUP);
 }
 
+/* No table that shares this room was marked. */
+static void check_states_untouched(void) {
+    static kz_states zeros;
+    CHECK(memcmp(&states, &zeros, sizeof zeros) == 0);
+}
+
 int main(void) {
     check_layout();
     check_answers();
@@ -1785,6 +2056,10 @@ int main(void) {
     check_fresh_limits();
     check_wrong_marks();
     check_wrong_sizes();
+    check_states();
+    check_many_states();
+    check_wrong_states();
+    check_stored();
     check_holders();
     check_domains();
     check_wrong_domains();
@@ -1798,6 +2073,8 @@ int main(void) {
     check_text();
     check_named_text();
     check_grouped_text();
+    check_states_text();
+    check_states_exported();
     check_kinds_text();
     check_fresh_text();
     check_domains_lines();
@@ -1812,5 +2089,6 @@ int main(void) {
     check_wrong_sheet_text();
     check_null();
     check_longest();
+    check_states_untouched();
     return failures != 0;
 }

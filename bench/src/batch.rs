@@ -2,11 +2,11 @@
 
 use std::hint::black_box;
 
-use interface::{Interface, MAX_GROUP, SHEET_PLACES, WRITTEN_BYTES, Words};
+use interface::{Interface, MAX_GROUP, SHEET_PLACES, Words};
 
-use crate::shape::{Lent, READ_WRITE};
+use crate::shape::{Lent, READ_WRITE, Shared};
 use crate::timing::Batch;
-use crate::workload::{self, BORROW, CREATE, DROP, READ, WRITE};
+use crate::workload::{self, BORROW, CREATE, DROP, MARK, READ, WRITE};
 
 /// About so many bytes of tables stand in a batch, few enough for the second cache.
 const BATCH_BYTES: usize = 128 * 1024;
@@ -14,14 +14,14 @@ const BATCH_BYTES: usize = 128 * 1024;
 /// How many lines, or rows of listings, stand in a batch.
 const BATCH_LINES: usize = 4 * 1024;
 
-type LentCall = Box<dyn FnMut(&dyn Interface, &mut Lent, &mut [u8])>;
+type LentCall = Box<dyn FnMut(&dyn Interface, &mut Lent, &mut Shared)>;
 
 /// Calls that change what is lent: each has a copy of its own, made anew before every batch.
 struct OnCopies {
     original: Lent,
     copies: Vec<Lent>,
-    /// The written bits, which all copies share: no call clears any, so that each finds them all set.
-    written: Vec<u8>,
+    /// What all copies share: no call clears a written bit, so that each finds them all set, and none marks.
+    shared: Shared,
     /// How many calls, or events of one call, are timed on a copy.
     on_each: usize,
     call: LentCall,
@@ -31,11 +31,11 @@ fn on_copies(
     original: Lent,
     copies: usize,
     on_each: usize,
-    call: impl FnMut(&dyn Interface, &mut Lent, &mut [u8]) + 'static,
+    call: impl FnMut(&dyn Interface, &mut Lent, &mut Shared) + 'static,
 ) -> Box<dyn Batch> {
     Box::new(OnCopies {
         copies: vec![original.clone(); copies],
-        written: vec![u8::MAX; WRITTEN_BYTES],
+        shared: Shared::new(),
         original,
         on_each,
         call: Box::new(call),
@@ -52,7 +52,7 @@ impl Batch for OnCopies {
 
     fn call(&mut self, implementation: &dyn Interface) {
         for copy in &mut self.copies {
-            (self.call)(implementation, copy, &mut self.written);
+            (self.call)(implementation, copy, &mut self.shared);
         }
     }
 
@@ -113,8 +113,8 @@ pub fn apply(event: Words, lent: Lent) -> Box<dyn Batch> {
 pub fn apply_refused(refusal: u64, event: Words, lent: Lent) -> Box<dyn Batch> {
     let bytes = lent.table.len() * size_of::<interface::Cap>();
     let copies = BATCH_BYTES / bytes;
-    on_copies(lent, copies, 1, move |implementation, lent, written| {
-        let answer = implementation.apply_words(lent.memory(written), &event, &[]);
+    on_copies(lent, copies, 1, move |implementation, lent, shared| {
+        let answer = implementation.apply_words(lent.memory(shared), &event, &[]);
         refused(refusal, answer);
     })
 }
@@ -122,9 +122,9 @@ pub fn apply_refused(refusal: u64, event: Words, lent: Lent) -> Box<dyn Batch> {
 /// Each event by a call of its own.
 pub fn apply_each(events: Vec<Words>, lent: Lent) -> Box<dyn Batch> {
     let count = events.len();
-    on_copies(lent, 1, count, move |implementation, lent, written| {
+    on_copies(lent, 1, count, move |implementation, lent, shared| {
         for event in &events {
-            allowed(implementation.apply_words(lent.memory(written), event, &[]));
+            allowed(implementation.apply_words(lent.memory(shared), event, &[]));
         }
     })
 }
@@ -133,17 +133,51 @@ pub fn apply_each(events: Vec<Words>, lent: Lent) -> Box<dyn Batch> {
 pub fn apply_all(events: Vec<Words>, lent: Lent) -> Box<dyn Batch> {
     let mut answers = vec![[0; 2]; events.len()];
     let count = events.len();
-    on_copies(lent, 1, count, move |implementation, lent, written| {
-        let memory = lent.memory(written);
+    on_copies(lent, 1, count, move |implementation, lent, shared| {
+        let memory = lent.memory(shared);
         let taken = implementation.apply_all(memory, &events, &[], &mut answers);
         assert_eq!(taken, events.len());
         assert!(black_box(&answers).iter().all(|answer| answer[0] == 0));
     })
 }
 
+/// How many marks, backs or copies stand in a batch.
+const BATCH_STATES: usize = 256;
+
+/// A mark, or a back to what is stored, which is what the table is already: all stays as it is.
+pub fn turn(kind: u32, mut lent: Lent) -> Box<dyn Batch> {
+    let mut shared = Shared::new();
+    let of = |kind| Words {
+        kind,
+        name: 5,
+        ..Words::default()
+    };
+    let (mark, event) = (of(MARK), of(kind));
+    allowed(interface::baseline().apply_words(lent.memory(&mut shared), &mark, &[]));
+    repeated(BATCH_STATES, move |implementation, _| {
+        implementation.apply_words(lent.memory(&mut shared), &event, &[])
+    })
+}
+
+/// A copy of the live rows of a table and of its written bits, to where a slot has them.
+pub fn copy(lent: Lent) -> Box<dyn Batch> {
+    let mut shared = Shared::new();
+    let live = lent.table.iter().take_while(|row| row.name != 0).count();
+    repeated(BATCH_STATES, move |_, _| {
+        let Shared {
+            written,
+            stored,
+            stored_bits,
+        } = black_box(&mut shared);
+        stored[..live].copy_from_slice(&black_box(&lent.table)[..live]);
+        stored_bits[..written.len()].copy_from_slice(written);
+        0
+    })
+}
+
 pub fn run(lent: Lent, text: Vec<u8>) -> Box<dyn Batch> {
-    on_copies(lent, 1, 1, move |implementation, lent, written| {
-        allowed(implementation.run(lent.memory(written), &text));
+    on_copies(lent, 1, 1, move |implementation, lent, shared| {
+        allowed(implementation.run(lent.memory(shared), &text));
     })
 }
 

@@ -1,9 +1,9 @@
 //! Times each call of the C interface, the library beside the baseline where this was built with
 //! `KELZOUD_LIB` set: how the times grow with the rows, how they depend on the table's shape, what is
-//! gained by many events in one call, how the times grow with the written bits, and what domains and limits
-//! cost.
+//! gained by many events in one call, how the times grow with the written bits, what domains and limits cost,
+//! and what a mark and a back cost beside a copy of what they store.
 //!
-//! `bench [rows] [shapes] [many] [bits] [domains]`: with words only those tables are made.
+//! `bench [rows] [shapes] [many] [bits] [domains] [states]`: with words only those tables are made.
 
 mod batch;
 mod clock;
@@ -20,10 +20,10 @@ use shape::{
     Case, Shape, cells, chains, domains, marked, random_trees, roots, shared_slots, spread_star,
     star, two_trees,
 };
-use timing::{Batch, Contenders, median_times};
+use timing::{Batch, Contenders, median_times, median_times_beside};
 use workload::{
-    BORROW, CREATE, DROP, READ, ROUND_EVENTS, ROUND_ROWS, WRITE, beside, event_on_user, rounds,
-    steady_text,
+    BACK, BORROW, CREATE, DROP, MARK, READ, ROUND_EVENTS, ROUND_ROWS, WRITE, beside, event_on_user,
+    rounds, steady_text,
 };
 
 const SIZES: [usize; 4] = [16, 64, 256, 1_024];
@@ -172,6 +172,10 @@ const ON_SHARED_LINES: [LineMeasurement; 2] = [
     ("read_event", batch::read_shared_event),
 ];
 
+/// A mark and a back, on so many live rows of so many lent.
+const TURNS: [(&str, u32); 2] = [("mark", MARK), ("back", BACK)];
+const LIVE_OF: [(usize, usize); 3] = [(16, 16), (16, MOST_ROWS), (MOST_ROWS, MOST_ROWS)];
+
 const NO_HOLDER: u64 = 17;
 const LIMIT_REACHED: u64 = 18;
 
@@ -216,18 +220,24 @@ made. 'no holder' is a read through a row of domain 0 alone by another, 'limit r
 domain that has no row left; 'charge' is of a row in the middle. The lines are as above, but by domain
 63, and what they make is for others too.";
 
+const STATES_NOTES: &str = "\
+A mark and a back on the two trees, beside a copy of the same bytes, the live rows and 8,192 bytes of
+written bits, that takes its turn with them: 'copies' is the time over that of the copy. The back goes to
+what the table is already. Both judge the order of the table, and the back that of what is stored.";
+
 fn main() {
     let contenders: Vec<_> = interface::library()
         .into_iter()
         .chain([interface::baseline()])
         .collect();
     let wanted: Vec<String> = env::args().skip(1).collect();
-    let tables: [Table; 5] = [
+    let tables: [Table; 6] = [
         ("rows", NOTES, growth_by_rows),
         ("shapes", SHAPE_NOTES, ratios_by_shape),
         ("many", MANY_NOTES, many_events),
         ("bits", BITS_NOTES, growth_by_bits),
         ("domains", DOMAINS_NOTES, growth_by_domains),
+        ("states", STATES_NOTES, beside_a_copy),
     ];
     for (name, notes, table) in tables {
         if wanted.is_empty() || wanted.iter().any(|word| word == name) {
@@ -294,6 +304,20 @@ fn growth_by_domains(contenders: &Contenders) {
     }
     for (name, batch) in ON_DOMAINS {
         growth_rows(contenders, name, domains, batch);
+    }
+}
+
+fn beside_a_copy(contenders: &Contenders) {
+    print::copy_heading(contenders);
+    for (name, kind) in TURNS {
+        for (live, lent) in LIVE_OF {
+            let shape = two_trees;
+            let case = Case { shape, live, lent };
+            let mut turn = batch::turn(kind, case.with_room(0));
+            let mut copy = batch::copy(case.with_room(0));
+            let (times, copied) = median_times_beside(contenders, &mut *turn, &mut *copy);
+            print::copy_row(name, live, lent, &times, copied);
+        }
     }
 }
 

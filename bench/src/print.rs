@@ -68,6 +68,24 @@ pub fn many_row(name: &str, rows: usize, each: &[f64], all: &[f64]) {
     println!("{:>14}{:>8}", ratio(each), ratio(all));
 }
 
+pub fn copy_heading(contenders: &Contenders) {
+    print!("{:<14}{:>6}{:>6}", "call", "live", "rows");
+    for contender in contenders {
+        print!("{:>15}{:>8}", contender.name(), "copies");
+    }
+    let ratio = if contenders.len() > 1 { "ratio" } else { "" };
+    println!("{:>12}{ratio:>8}", "copy");
+}
+
+/// A call's times with so many live rows, each over that of a copy.
+pub fn copy_row(name: &str, live: usize, rows: usize, times: &[f64], copy: f64) {
+    print!("{name:<14}{live:>6}{rows:>6}");
+    for time in times {
+        print!("{:>15}{:>8.2}", in_units(*time), time / copy);
+    }
+    println!("{:>12}{:>8}", in_units(copy), ratio(times));
+}
+
 /// The library's time over the baseline's, where there are both.
 fn ratio(times: &[f64]) -> String {
     match times {

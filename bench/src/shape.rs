@@ -1,6 +1,8 @@
 //! Tables to time the calls on: who is borrowed from whom, and which names they have.
 
-use interface::{CELL, Cap, DOMAINS, FRESH, Memory, REFERENCE, Tally};
+use interface::{
+    CELL, Cap, DOMAINS, FRESH, Memory, REFERENCE, STORED_BYTES, STORED_ROWS, Tally, WRITTEN_BYTES,
+};
 
 use crate::random::Random;
 
@@ -26,12 +28,32 @@ pub struct Lent {
     pub limits: Vec<u32>,
 }
 
+/// What is lent besides, and that many tables may share: written bits, all of them set, and room for states, of
+/// which none is stored.
+pub struct Shared {
+    pub written: Vec<u8>,
+    pub stored: Vec<Cap>,
+    pub stored_bits: Vec<u8>,
+}
+
+impl Shared {
+    pub fn new() -> Shared {
+        Shared {
+            written: vec![u8::MAX; WRITTEN_BYTES],
+            stored: vec![Cap::default(); STORED_ROWS],
+            stored_bits: vec![0; STORED_BYTES],
+        }
+    }
+}
+
 impl Lent {
-    /// The same with written bits.
-    pub fn memory<'a>(&'a mut self, written: &'a mut [u8]) -> Memory<'a> {
+    /// The same with written bits and room for states.
+    pub fn memory<'a>(&'a mut self, shared: &'a mut Shared) -> Memory<'a> {
         Memory {
             table: &mut self.table,
-            written,
+            written: &mut shared.written,
+            stored: &mut shared.stored,
+            stored_bits: &mut shared.stored_bits,
             tally: &mut self.tally,
             limits: &self.limits,
         }

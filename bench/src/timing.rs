@@ -40,6 +40,28 @@ pub fn median_times(contenders: &Contenders, batch: &mut dyn Batch) -> Vec<f64> 
         .collect()
 }
 
+/// The same, and the time of a batch that no contender has part in and that takes its turn with them.
+pub fn median_times_beside(
+    contenders: &Contenders,
+    batch: &mut dyn Batch,
+    beside: &mut dyn Batch,
+) -> (Vec<f64>, f64) {
+    let mut times = vec![Vec::with_capacity(BATCHES); contenders.len()];
+    let mut beside_times = Vec::with_capacity(BATCHES);
+    for _ in 0..BATCHES {
+        for (contender, times) in contenders.iter().zip(&mut times) {
+            times.push(time(*contender, batch));
+        }
+        beside_times.push(time(contenders[0], beside));
+    }
+    let per_call = |time: Duration, calls: usize| time.as_nanos() as f64 / calls as f64;
+    let of_contenders = times
+        .into_iter()
+        .map(|times| per_call(median(times), batch.calls()));
+    let of_beside = per_call(median(beside_times), beside.calls());
+    (of_contenders.collect(), of_beside)
+}
+
 fn time(implementation: &dyn Interface, batch: &mut dyn Batch) -> Duration {
     batch.prepare();
     let start = clock::now();

@@ -10,6 +10,8 @@ pub const BORROW: u32 = 2;
 pub const READ: u32 = 3;
 pub const WRITE: u32 = 4;
 pub const DROP: u32 = 5;
+pub const MARK: u32 = 7;
+pub const BACK: u32 = 8;
 
 /// The row that events go through: the first, or where there is a cell the deepest row inside it.
 fn user(lent: &Lent) -> Cap {

@@ -2,6 +2,7 @@
 
 use crate::domain::{alone, holds, is_domain};
 use crate::event::{Event, Kind, Refusal};
+use crate::states::is_slot;
 use crate::text::{Reader, Writer};
 
 /// Whether creates and borrows are spelt with their new names.
@@ -28,7 +29,7 @@ pub fn write_event(event: Event, spelling: Spelling, out: &mut [u8]) -> Result<u
     if let (true, Some(written)) = (kind.makes(), event.written) {
         writer.next_number(written);
     }
-    if kind.has_name() {
+    if kind.has_name() || kind.has_slot() {
         writer.next_number(event.name);
     }
     if kind.has_span() {
@@ -84,6 +85,8 @@ fn opening(kind: Kind) -> &'static [u8] {
         Kind::Read => b"(read",
         Kind::Write => b"(write",
         Kind::Drop => b"(drop",
+        Kind::Mark => b"(mark",
+        Kind::Back => b"(back",
     }
 }
 
@@ -102,7 +105,7 @@ pub fn read_event(line: &[u8], spelling: Spelling) -> Result<Event, Refusal> {
 #[inline]
 pub(crate) fn next_event(reader: &mut Reader, spelling: Spelling) -> Option<Event> {
     let actor = next_actor(reader)?;
-    // The letter after the bracket tells the kinds apart.
+    // The letter after the bracket tells the kinds apart, but for a borrow and a back.
     let mut event = match reader.peek(1)? {
         b'c' => Event {
             kind: next_kind(reader, Kind::Create)?,
@@ -114,6 +117,7 @@ pub(crate) fn next_event(reader: &mut Reader, spelling: Spelling) -> Option<Even
             holders: next_holders(reader, actor)?,
             ..Event::default()
         },
+        b'b' if reader.peek(2)? == b'a' => next_turn(reader, Kind::Back)?,
         b'b' => Event {
             kind: next_kind(reader, Kind::Borrow)?,
             written: next_written(reader, spelling)?,
@@ -132,6 +136,7 @@ pub(crate) fn next_event(reader: &mut Reader, spelling: Spelling) -> Option<Even
             name: reader.next_number()?,
             ..Event::default()
         },
+        b'm' => next_turn(reader, Kind::Mark)?,
         _ => return None,
     };
     next_end(reader, actor)?;
@@ -176,6 +181,15 @@ fn next_access(reader: &mut Reader, kind: Kind) -> Option<Event> {
         length: reader.next_number()?,
         ..Event::default()
     })
+}
+
+fn next_turn(reader: &mut Reader, kind: Kind) -> Option<Event> {
+    let event = Event {
+        kind: next_kind(reader, kind)?,
+        name: reader.next_number()?,
+        ..Event::default()
+    };
+    is_slot(event.name).then_some(event)
 }
 
 #[inline]

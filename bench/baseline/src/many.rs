@@ -1,4 +1,4 @@
-//! Many events on a lent table, written bits and tally.
+//! Many events on a lent table, written bits, states and tally.
 
 use crate::event::{DROP_ALL, Event, Refusal};
 use crate::group::drop_names;
@@ -66,7 +66,10 @@ fn names_of<'a>(event: &Event, names: &'a [u32]) -> &'a [u32] {
 #[cfg(test)]
 mod tests {
     use super::*;
-    use crate::{Cap, DOMAINS, MAX_ROWS, SHEET_PLACES, Tally, WRITTEN_BYTES, apply, drop_all};
+    use crate::{
+        BACK, Cap, DOMAINS, MARK, MAX_ROWS, SHEET_PLACES, STORED_BYTES, STORED_ROWS, Tally,
+        WRITTEN_BYTES, apply, drop_all,
+    };
 
     /// Numbers that look random and are the same each time (xorshift).
     struct Random(u64);
@@ -120,8 +123,11 @@ mod tests {
 
         /// An event through one of the last names, mostly within the row of that name.
         fn event(&mut self, table: &[Cap], issued: u32) -> Event {
-            let kind = self.pick(&[0, 1, 1, 2, 2, 2, 2, 2, 3, 4, 5, DROP_ALL]);
-            let name = (issued + 1).saturating_sub(self.below(12));
+            let kind = self.pick(&[0, 1, 1, 2, 2, 2, 2, 2, 3, 4, 5, DROP_ALL, MARK, BACK]);
+            let name = match kind {
+                MARK | BACK => self.pick(&[0, 0, 3, 7, 8]),
+                _ => (issued + 1).saturating_sub(self.below(12)),
+            };
             let row = table.iter().find(|row| row.name == name);
             let fresh = self.pick(&[0, 0, 0, 1, 1, 1, 2, 255]);
             let (start, length) = match (kind, row) {
@@ -158,6 +164,8 @@ mod tests {
     struct Part {
         table: Vec<Cap>,
         written: Vec<u8>,
+        stored: Vec<Cap>,
+        stored_bits: Vec<u8>,
         tally: Tally,
         sheet: Vec<u8>,
         limits: Vec<u32>,
@@ -168,6 +176,8 @@ mod tests {
             Part {
                 table: vec![Cap::default(); rows],
                 written: vec![0; WRITTEN_BYTES],
+                stored: vec![Cap::default(); STORED_ROWS],
+                stored_bits: vec![0; STORED_BYTES],
                 tally: Tally::default(),
                 sheet: Vec::new(),
                 limits: Vec::new(),
@@ -178,6 +188,8 @@ mod tests {
             Lent {
                 table: &mut self.table,
                 written: &mut self.written,
+                stored: &mut self.stored,
+                stored_bits: &mut self.stored_bits,
                 tally: &mut self.tally,
                 sheet: &self.sheet,
                 limits: &self.limits,
@@ -206,7 +218,7 @@ mod tests {
     #[test]
     fn many_events_are_as_one_after_the_other() {
         let mut random = Random(1);
-        let mut met = [0; 19];
+        let mut met = [0; 20];
         for rows in [0, 1, 5, 16, 17, 64, 65, 256, 257, MAX_ROWS, MAX_ROWS + 1] {
             for _ in 0..40 {
                 let mut part = Part::empty(rows);
@@ -220,7 +232,7 @@ mod tests {
             }
         }
         // A depth of 64 and a million names are not reached here, and no buffer is written.
-        for refusal in [0, 1, 2, 3, 4, 5, 6, 7, 10, 12, 13, 16, 17, 18] {
+        for refusal in [0, 1, 2, 3, 4, 5, 6, 7, 10, 12, 13, 16, 17, 18, 19] {
             assert!(met[refusal] > 0, "refusal {refusal} was not met: {met:?}");
         }
     }
@@ -340,16 +352,102 @@ mod tests {
         assert_eq!(names, [1, 3, 4]);
     }
 
-    /// A table that is not in order, bits of another length, and limits that need more rows.
+    /// What is stored comes back with its bits, its parents and the room of its makers, and the names stay.
+    #[test]
+    fn states_come_back() {
+        let turn = |kind, name| Event {
+            kind,
+            name,
+            ..Event::default()
+        };
+        let mut part = Part::empty(3);
+        part.limits = vec![0; DOMAINS];
+        part.limits[0] = 3;
+        assert_eq!(part.one(&turn(BACK, 7), &[]), [19, 0]);
+        assert_eq!(part.one(&create(0, 8), &[]), [0, 1]);
+        let borrow = Event {
+            kind: 2,
+            name: 1,
+            ..create(0, 8)
+        };
+        assert_eq!(part.one(&borrow, &[]), [0, 2]);
+        let write = Event {
+            kind: 4,
+            name: 2,
+            ..create(0, 8)
+        };
+        assert_eq!(part.one(&write, &[]), [0, 0]);
+        let before = part.clone();
+        assert_eq!(part.one(&turn(MARK, 7), &[]), [0, 0]);
+        assert_eq!(part.one(&create(0, 8), &[]), [0, 3]);
+        assert_eq!(part.table[1], Cap::default());
+        assert_eq!(part.written[0], 0);
+        let mut answers = [[7, 7]; 4];
+        let events = [turn(BACK, 7), borrow, borrow, turn(BACK, 8)];
+        part.all(&events, &[], &mut answers);
+        assert_eq!(answers, [[0, 0], [0, 4], [18, 0], [2, 0]]);
+        assert_eq!(part.table[..2], before.table[..2]);
+        assert_eq!((part.written, part.tally.issued), (before.written, 4));
+    }
+
+    /// What is stored and does not fit is 1 by itself, and those behind it are taken.
+    #[test]
+    fn states_are_judged_on_going_back() {
+        let turn = |kind| Event {
+            kind,
+            ..Event::default()
+        };
+        let mut whole = Part::empty(3);
+        whole.one(&create(0, 8), &[]);
+        whole.one(&turn(MARK), &[]);
+        let changes: [fn(&mut Part); 6] = [
+            |part| part.stored[0].name = 5,
+            |part| part.stored[0].parent = 4,
+            |part| part.stored[1].right = 3,
+            |part| part.stored[0].name = u32::MAX,
+            |part| part.table.truncate(2),
+            |part| {
+                part.one(
+                    &Event {
+                        kind: 5,
+                        name: 1,
+                        ..Event::default()
+                    },
+                    &[],
+                );
+                part.limits = vec![0; DOMAINS];
+            },
+        ];
+        for change in changes {
+            let mut part = whole.clone();
+            change(&mut part);
+            let before = part.clone();
+            let mut answers = [[7, 7]; 2];
+            let other = Event {
+                actor: 64,
+                ..turn(BACK)
+            };
+            part.all(&[turn(BACK), other], &[], &mut answers);
+            assert_eq!(answers, [[1, 0]; 2]);
+            assert_eq!(part, before);
+        }
+        assert_eq!(whole.one(&turn(BACK), &[]), [0, 0]);
+    }
+
+    /// A table that is not in order, bits and memory of another length, and limits that need more rows.
     #[test]
     fn disordered_memory_refuses_all() {
         let mut disordered = Part::empty(4);
         disordered.table[1].name = 1;
         let mut short = Part::empty(4);
         short.written.pop();
+        let mut few_stored = Part::empty(4);
+        few_stored.stored.pop();
+        let mut more_bits = Part::empty(4);
+        more_bits.stored_bits.push(0);
         let mut limited = Part::empty(63);
         limited.limits = vec![1; DOMAINS];
-        for mut part in [disordered, short, limited] {
+        for mut part in [disordered, short, few_stored, more_bits, limited] {
             let before = part.clone();
             let mut answers = [[7, 7]; 3];
             let taken = part.all(&[Event::default(); 2], &[], &mut answers);

@@ -4,7 +4,8 @@ use crate::event::Refusal;
 use crate::group::{MAX_GROUP, next_group};
 use crate::lines::{Spelling, next_event};
 use crate::listing::write_after;
-use crate::order::{EMPTY, Index, MAX_ROWS};
+use crate::order::{Cap, EMPTY, Index, MAX_ROWS};
+use crate::states::States;
 use crate::step::{Lent, Ordered, Tally, Work, in_order};
 use crate::text::{Reader, Writer};
 use crate::written::{WRITTEN_BYTES, Written};
@@ -66,8 +67,14 @@ fn drop_next<const ROWS: usize>(
     }
 }
 
-/// Writes what `capcheck` prints for an input: its length, or the refusal.
-pub fn check(input: &[u8], out: &mut [u8]) -> Result<u32, Refusal> {
+/// Writes what `capcheck` prints for an input: its length, or the refusal. The memory for states is its working
+/// space; without it nothing is run.
+pub fn check(
+    input: &[u8],
+    stored: &mut [Cap],
+    stored_bits: &mut [u8],
+    out: &mut [u8],
+) -> Result<u32, Refusal> {
     if input.len() > MAX_INPUT {
         let text = b"(long)\n";
         let target = out.get_mut(..text.len()).ok_or(Refusal::BufferTooShort)?;
@@ -78,15 +85,22 @@ pub fn check(input: &[u8], out: &mut [u8]) -> Result<u32, Refusal> {
     let mut index = Index::<MAX_ROWS>::EMPTY;
     let mut written = [0; WRITTEN_BYTES];
     let mut tally = Tally::default();
-    let ordered = Ordered {
-        table: &mut table,
-        index: &mut index,
-        written: Written::of(&mut written),
-        tally: &mut tally,
-        sheet: None,
-        room: None,
+    let answer = match States::lent(stored, stored_bits) {
+        Some(states) => {
+            let ordered = Ordered {
+                table: &mut table,
+                index: &mut index,
+                written: Written::of(&mut written),
+                states: states.cleared(),
+                tally: &mut tally,
+                sheet: None,
+                limits: &[],
+                room: None,
+            };
+            run_lines(ordered, input)
+        }
+        None => Err((Refusal::Disordered, 0)),
     };
-    let answer = run_lines(ordered, input);
     let mut line = [0; 32];
     let length = put_verdict(&mut Writer::new(&mut line), answer);
     write_after(&line[..length], &table, &index, tally.issued, out)

@@ -1,11 +1,12 @@
-//! Events on a lent table, written bits and tally, one or many.
+//! Events on a lent table, written bits, states and tally, one or many.
 
 use crate::domain::{Room, holds};
-use crate::event::{Event, Kind, Refusal};
+use crate::event::{BACK, Event, Kind, MARK, Refusal};
 use crate::order::{
     CELL, Cap, EMPTY, Index, MAX_DEPTH, MAX_NAME, MAX_ROWS, RAW, REFERENCE, SLOTS, Span, find,
 };
 use crate::sheet::{Sheet, Take};
+use crate::states::{States, Stored, is_slot};
 use crate::written::{FRESH, Written};
 
 #[repr(C)]
@@ -28,6 +29,7 @@ impl Tally {
             Kind::Read => &mut self.reads,
             Kind::Write => &mut self.writes,
             Kind::Drop => &mut self.drops,
+            Kind::Mark | Kind::Back => return,
         };
         *count = count.saturating_add(1);
     }
@@ -37,6 +39,9 @@ impl Tally {
 pub struct Lent<'a> {
     pub table: &'a mut [Cap],
     pub written: &'a mut [u8],
+    /// The memory for states: rows, and their written bits.
+    pub stored: &'a mut [Cap],
+    pub stored_bits: &'a mut [u8],
     pub tally: &'a mut Tally,
     /// The conflict sheet, none of it for the default one.
     pub sheet: &'a [u8],
@@ -52,7 +57,8 @@ pub(crate) trait Work {
 }
 
 /// Checks the order of a lent table once and works on it by the sheet and within the limits; nothing where
-/// the table is disordered, the written bits are not as many as there have to be, or the limits are refused.
+/// the table is disordered, the written bits or the memory for states are not as many as there have to be, or the
+/// limits are refused.
 /// What is kept beside the table is as large as the table needs: clearing it is a good part of the
 /// time for few rows.
 pub(crate) fn in_order<W: Work>(lent: Lent, work: W) -> Option<W::Answer> {
@@ -70,6 +76,7 @@ fn in_rows<const ROWS: usize, const SLOTS: usize, W: Work>(
     work: W,
 ) -> Option<W::Answer> {
     let written = Written::lent(lent.written)?;
+    let states = States::lent(lent.stored, lent.stored_bits)?;
     let sheet = Sheet::lent(lent.sheet);
     let mut index = Index::<ROWS>::of::<SLOTS>(lent.table, lent.tally.issued)?;
     let mut room = match lent.limits {
@@ -83,8 +90,10 @@ fn in_rows<const ROWS: usize, const SLOTS: usize, W: Work>(
         table: lent.table,
         index: &mut index,
         written,
+        states,
         tally: lent.tally,
         sheet: sheet.as_ref(),
+        limits: lent.limits,
         room: room.as_mut(),
     }))
 }
@@ -111,9 +120,12 @@ pub(crate) struct Ordered<'a, const ROWS: usize> {
     pub(crate) table: &'a mut [Cap],
     pub(crate) index: &'a mut Index<ROWS>,
     pub(crate) written: Written<'a>,
+    pub(crate) states: States<'a>,
     pub(crate) tally: &'a mut Tally,
     /// The sheet by which events are carried out, where it is not the default one.
     pub(crate) sheet: Option<&'a Sheet>,
+    /// The limits, none where none are lent.
+    pub(crate) limits: &'a [u32],
     /// What the limits leave to each domain, where limits are lent. It follows the table.
     pub(crate) room: Option<&'a mut Room>,
 }
@@ -201,6 +213,11 @@ fn none(_: &Cap, _: u8, _: u8) -> u8 {
 impl<const ROWS: usize> Ordered<'_, ROWS> {
     #[inline]
     pub(crate) fn step(&mut self, event: Event) -> Result<u32, Refusal> {
+        match event.kind {
+            MARK => return self.store(event),
+            BACK => return self.go_back(event),
+            _ => {}
+        }
         match self.judge(event) {
             Ok((kind, user)) => Ok(self.carry_out(event, kind, user)),
             Err(refusal) => Err(self.refuse(refusal)),
@@ -223,6 +240,66 @@ impl<const ROWS: usize> Ordered<'_, ROWS> {
         self.tally.count_allowed(Kind::Drop);
         self.remove::<false>(&mut marks, first, none);
         Ok(())
+    }
+
+    /// Stores the table and its written bits.
+    #[inline(never)]
+    fn store(&mut self, event: Event) -> Result<u32, Refusal> {
+        if event.known_kind().is_none() {
+            return Err(self.refuse(Refusal::Misspelt));
+        }
+        let live = &self.table[..self.index.live];
+        let (slot, rows) = (event.name as usize, self.table.len());
+        self.states.store(slot, live, rows, self.written.bytes());
+        Ok(0)
+    }
+
+    /// Brings back what is stored, which is judged before the event is.
+    #[inline(never)]
+    fn go_back(&mut self, event: Event) -> Result<u32, Refusal> {
+        let slot = event.name as usize;
+        let is_stored = is_slot(event.name) && self.states.is_stored(slot);
+        let fitting = match is_stored {
+            true => Some(self.fitting(slot).ok_or(Refusal::Disordered)?),
+            false => None,
+        };
+        if event.known_kind().is_none() {
+            return Err(self.refuse(Refusal::Misspelt));
+        }
+        let (Some((index, room)), Some(stored)) = (fitting, self.states.stored(slot)) else {
+            return Err(self.refuse(Refusal::NothingStored));
+        };
+        let (kept, live) = (stored.kept.len(), self.index.live);
+        self.table[..kept].copy_from_slice(stored.kept);
+        self.table[kept..live.max(kept)].fill(EMPTY);
+        self.written.copy_from(self.states.written(slot));
+        *self.index = index;
+        if let (Some(present), Some(room)) = (&mut self.room, room) {
+            **present = room;
+        }
+        Ok(0)
+    }
+
+    /// The index of a stored table and the room that the limits leave beside it; nothing where it has another
+    /// number of rows, is not in order, or exceeds the limits.
+    fn fitting(&self, slot: usize) -> Option<(Index<ROWS>, Option<Room>)> {
+        let Stored { rows, kept } = self.states.stored(slot)?;
+        if rows != self.table.len() {
+            return None;
+        }
+        let issued = self.tally.issued;
+        // Two slots for a row, as where the table is lent.
+        let index = match ROWS {
+            16 => Index::of::<32>(kept, issued)?,
+            64 => Index::of::<128>(kept, issued)?,
+            256 => Index::of::<512>(kept, issued)?,
+            _ => Index::of::<SLOTS>(kept, issued)?,
+        };
+        let room = match self.limits {
+            [] => None,
+            limits => Some(Room::of(limits, &kept[..index.live], rows)?),
+        };
+        Some((index, room))
     }
 
     /// Counts a refusal.

@@ -58,6 +58,16 @@ impl<'a> Written<'a> {
         Written(bytes)
     }
 
+    /// The bytes.
+    pub(crate) fn bytes(&self) -> &[u8; WRITTEN_BYTES] {
+        self.0
+    }
+
+    /// Gives all bits those of as many bytes.
+    pub(crate) fn copy_from(&mut self, bytes: &[u8]) {
+        self.0.copy_from_slice(bytes);
+    }
+
     /// Sets the bits of a span.
     pub(crate) fn set(&mut self, span: Span) {
         self.put(span, 0xff);

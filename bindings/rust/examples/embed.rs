@@ -2,8 +2,8 @@
 //! both print the same.
 
 use kelzoud::{
-    apply, write_listing, Addr, Answer, Cap, Event, Kind, Name, Right, Span, Tally, Written,
-    MAX_LISTING,
+    apply, write_listing, Addr, Answer, Cap, Event, Kind, Name, Right, Span, States, Tally,
+    Written, MAX_LISTING,
 };
 
 const ROWS: usize = 16;
@@ -84,6 +84,7 @@ const ENTRIES: [Entry; 13] = [
 struct Simulator {
     table: [Cap; ROWS],
     written: Written,
+    states: Box<States>,
     tally: Tally,
     /// The name of the capability in each register.
     names: [Name; REGISTERS],
@@ -94,6 +95,7 @@ impl Simulator {
         Simulator {
             table: [Cap::EMPTY; ROWS],
             written: Written::NONE,
+            states: Box::new(States::NOTHING),
             tally: Tally::default(),
             names: [Name(0); REGISTERS],
         }
@@ -132,7 +134,14 @@ impl Simulator {
     fn take(&mut self, (pc, operation, start, length): Entry) {
         let start = Addr(start);
         let event = self.event(operation, Span { start, length });
-        let answer = apply(&mut self.table, &mut self.written, &mut self.tally, event);
+        let Simulator {
+            table,
+            written,
+            states,
+            tally,
+            ..
+        } = self;
+        let answer = apply(table, written, states, tally, event);
         match (answer, operation) {
             (Answer::Allowed(Some(made)), Allocate { to } | Borrow { to, .. }) => {
                 self.names[to] = made;
@@ -167,7 +176,7 @@ impl Simulator {
 /// The capability that an event goes through.
 fn user(event: Event) -> Name {
     match event {
-        Event::Create { .. } => Name(0),
+        Event::Create { .. } | Event::Mark { .. } | Event::Back { .. } => Name(0),
         Event::Borrow { parent: name, .. }
         | Event::Read { name, .. }
         | Event::Write { name, .. }

@@ -12,7 +12,9 @@ use crate::Name;
 #[non_exhaustive]
 pub enum Refusal {
     /// The table is not in order, or has more than [`MAX_ROWS`](crate::MAX_ROWS) rows; or the limits that
-    /// are lent with it need more rows, or some domain has made more live rows than its limit.
+    /// are lent with it need more rows, or some domain has made more live rows than its limit. Or what a
+    /// [back](crate::Event::Back) goes to is not in order, exceeds the limits, or has another number of
+    /// rows.
     Disordered = 1,
     /// A list of names to drop together is empty, longer than [`MAX_GROUP`](crate::MAX_GROUP) or not
     /// strictly rising.
@@ -24,6 +26,8 @@ pub enum Refusal {
     GivenTwice = 14,
     /// A sheet's text leaves a combination out.
     NotGiven = 15,
+    /// A back to a slot in which nothing is stored.
+    NothingStored = 19,
     /// An end is above 4,294,967,296, or of a fresh create above
     /// [`WRITTEN_ADDRESSES`](crate::WRITTEN_ADDRESSES).
     IllegalSpan = 3,
@@ -57,7 +61,7 @@ pub enum Refusal {
 }
 
 impl Refusal {
-    /// The refusal's number, 1 to 18.
+    /// The refusal's number, 1 to 19.
     pub const fn number(self) -> u8 {
         self as u8
     }
@@ -83,17 +87,19 @@ impl Refusal {
             16 => Refusal::NotWritten,
             17 => Refusal::NotHolder,
             18 => Refusal::LimitReached,
+            19 => Refusal::NothingStored,
             _ => return None,
         })
     }
 
     const fn reason(self) -> &'static str {
         match self {
-            Refusal::Disordered => "the table is not in order, or not within its limits",
+            Refusal::Disordered => "a table is not in order, or not within its limits",
             Refusal::Misgrouped => "the names are not 1 to 64, strictly rising",
             Refusal::Misspelt => "not in the one spelling",
             Refusal::GivenTwice => "the sheet's text gives a combination twice",
             Refusal::NotGiven => "the sheet's text leaves a combination out",
+            Refusal::NothingStored => "nothing is stored in the slot",
             Refusal::IllegalSpan => "the span is not legal",
             Refusal::Unissued => "the name was never issued",
             Refusal::Ended => "the capability has ended",
@@ -175,7 +181,7 @@ pub enum RunAnswer {
     Refused {
         /// Why.
         refusal: Refusal,
-        /// The line, from 1; 0 for [`Refusal::Disordered`].
+        /// The line, from 1; 0 for [`Refusal::Disordered`] of what is lent.
         line: u32,
     },
 }
@@ -191,7 +197,7 @@ impl From<Answer> for Result<Option<Name>, Refusal> {
 
 /// The refusal of a number that the library gave.
 pub(crate) fn numbered(number: u32) -> Refusal {
-    Refusal::from_number(number).expect("refusals are numbered 1 to 18")
+    Refusal::from_number(number).expect("refusals are numbered 1 to 19")
 }
 
 /// An answer of the C interface taken apart: its value, or its refusal with its value.

@@ -3,8 +3,8 @@
 //!
 //! Safety, of each call below: a slice is a pointer to as many elements as its length says, an
 //! exclusive one overlaps nothing else, `Cap`, `Tally`, `Request` and `Outcome` are laid out as the C
-//! structs are, a `Name` as its number is and `Written` as its bytes are, and the library follows no
-//! pointer whose length is 0.
+//! structs are, a `Name` as its number is, `Written` as its bytes are and `States` as its rows and bytes
+//! are, and the library follows no pointer whose length is 0.
 
 use core::mem::size_of;
 use core::ptr;
@@ -12,7 +12,7 @@ use core::ptr;
 use crate::answers::{numbered, value};
 use crate::{
     ffi, Answer, Cap, Charge, Domain, Lent, Line, Name, Outcome, Refusal, Request, RunAnswer,
-    Sheet, Spelling, Tally, Written, MAX_GROUP,
+    Sheet, Spelling, States, Tally, Written, MAX_GROUP,
 };
 
 /// Each is cast to the other, where it is passed.
@@ -26,24 +26,25 @@ fn length(answer: u64) -> Result<usize, Refusal> {
     value(answer).map(|length| length as usize)
 }
 
-/// One event on a lent table, written bits and tally, which follow it, by the default sheet and without
-/// limits: an [`Event`](crate::Event), which is domain 0's, or one [by](crate::Event::by) any domain.
-/// [`Lent::apply`] is the same by any sheet and within limits.
+/// One event on a lent table, written bits, states and tally, which follow it, by the default sheet and
+/// without limits: an [`Event`](crate::Event), which is domain 0's, or one [by](crate::Event::by) any
+/// domain. [`Lent::apply`] is the same by any sheet and within limits.
 ///
 /// [`Refusal::Disordered`] changes nothing; any other refusal adds one to the refused count and
 /// changes nothing else.
 pub fn apply(
     table: &mut [Cap],
     written: &mut Written,
+    states: &mut States,
     tally: &mut Tally,
     event: impl Into<Request>,
 ) -> Answer {
-    Lent::new(table, written, tally).apply(event)
+    Lent::new(table, written, states, tally).apply(event)
 }
 
-/// Many requests on a lent table, written bits and tally, each in its turn on what those before it left,
-/// by the default sheet and without limits; a refused one stops nothing. [`Lent::apply_all`] is the same
-/// by any sheet and within limits.
+/// Many requests on a lent table, written bits, states and tally, each in its turn on what those before it
+/// left, by the default sheet and without limits; a refused one stops nothing. [`Lent::apply_all`] is the
+/// same by any sheet and within limits.
 ///
 /// In `names` stand the names of every [`Request::drop_all`], which is taken as [`drop_all`] takes it;
 /// several may share names.
@@ -52,13 +53,15 @@ pub fn apply(
 /// is shorter than the requests, those that it has no room for are not taken; the entries behind the
 /// answers stay.
 ///
-/// On a table that is not in order every answer is [`Refusal::Disordered`], and nothing else changes.
+/// On a table that is not in order every answer is [`Refusal::Disordered`], and nothing else changes. A
+/// [back](crate::Event::Back) to what does not fit is refused so by itself.
 ///
 /// ```
 /// use kelzoud::*;
 ///
 /// let mut table = [Cap::EMPTY; 16];
 /// let mut written = Written::NONE;
+/// let mut states = Box::new(States::NOTHING);
 /// let mut tally = Tally::default();
 /// let create = |start| Event::Create {
 ///     written: None,
@@ -72,8 +75,9 @@ pub fn apply(
 /// requests[0] = create(0).into();
 /// requests[1] = create(8).into();
 /// let mut answers = [Outcome::EMPTY; 4];
-/// let answers =
-///     apply_all(&mut table, &mut written, &mut tally, &requests, &names, &mut answers);
+/// let answers = apply_all(
+///     &mut table, &mut written, &mut states, &mut tally, &requests, &names, &mut answers,
+/// );
 /// assert_eq!(answers[1].answer(), Answer::Allowed(Some(Name(2))));
 /// assert_eq!(answers[2].answer(), Answer::Allowed(None));
 /// assert_eq!(answers[3].answer(), Answer::Refused(Refusal::Ended));
@@ -81,12 +85,13 @@ pub fn apply(
 pub fn apply_all<'a>(
     table: &mut [Cap],
     written: &mut Written,
+    states: &mut States,
     tally: &mut Tally,
     requests: &[Request],
     names: &[Name],
     answers: &'a mut [Outcome],
 ) -> &'a [Outcome] {
-    Lent::new(table, written, tally).apply_all(requests, names, answers)
+    Lent::new(table, written, states, tally).apply_all(requests, names, answers)
 }
 
 /// Capabilities dropped together, as when a function returns: 1 to [`MAX_GROUP`] names, each above the
@@ -101,24 +106,32 @@ pub fn apply_all<'a>(
 pub fn drop_all(
     table: &mut [Cap],
     written: &mut Written,
+    states: &mut States,
     tally: &mut Tally,
     names: &[Name],
 ) -> Answer {
-    Lent::new(table, written, tally).drop_all(names)
+    Lent::new(table, written, states, tally).drop_all(names)
 }
 
-/// A run of event lines on a lent table, written bits and tally, until one is refused, by the default
-/// sheet and without limits. [`Lent::run`] is the same by any sheet and within limits.
+/// A run of event lines on a lent table, written bits, states and tally, until one is refused, by the
+/// default sheet and without limits. [`Lent::run`] is the same by any sheet and within limits.
 ///
 /// In a text whose first line is [`NAMED_HEADER`](crate::NAMED_HEADER) every create and borrow has its
 /// new name written out, else none has: the lines are those of [`write_event`]. That first line is
 /// counted as a line; it is no event and raises no count. Anywhere else it is refused. In both, a line
 /// of [`write_drop`] drops its names together.
 ///
-/// The table and the written bits are then as after the last allowed line. The refused line adds one to
-/// the refused count; [`Refusal::Disordered`] changes nothing.
-pub fn run(table: &mut [Cap], written: &mut Written, tally: &mut Tally, text: &[u8]) -> RunAnswer {
-    Lent::new(table, written, tally).run(text)
+/// The table, the written bits and the states are then as after the last allowed line. The refused line
+/// adds one to the refused count; [`Refusal::Disordered`] of what is lent changes nothing and has line 0,
+/// and that of a [back](crate::Event::Back) has its own line, and the lines before it stand.
+pub fn run(
+    table: &mut [Cap],
+    written: &mut Written,
+    states: &mut States,
+    tally: &mut Tally,
+    text: &[u8],
+) -> RunAnswer {
+    Lent::new(table, written, states, tally).run(text)
 }
 
 /// What the holders of a live capability of a table, with so many names issued, are charged for it: its
@@ -183,7 +196,7 @@ fn write_request(request: Request, names: &[Name], out: &mut [u8]) -> Result<usi
 }
 
 /// Reads exactly one line of a text in this spelling, its newline included: an event, or names that are
-/// dropped together. Reads, writes and drops are the same in both spellings.
+/// dropped together. All but creates and borrows are the same in both spellings.
 ///
 /// ```
 /// use kelzoud::{read_event, Domain, Event, Line, Name, Refusal, Spelling};
@@ -236,8 +249,8 @@ pub fn write_listing(table: &[Cap], issued: u32, out: &mut [u8]) -> Result<usize
 }
 
 /// Reads a listing into a table, whose old contents are not judged, and into the tally's issued
-/// number. The tally's other counts stay. Written bits are not in a listing: those that the listed table
-/// had are lent with the read one.
+/// number. The tally's other counts stay. Written bits and states are not in a listing: those that the
+/// listed table had are lent with the read one.
 ///
 /// # Errors
 ///
@@ -296,14 +309,25 @@ impl Sheet {
 }
 
 /// Writes what the program `capcheck` prints for an input to the start of the buffer, and answers
-/// its length. The bytes after it stay. It begins with [no address written](Written::NONE), and has no
-/// limits.
+/// its length. The bytes after it stay. It begins with [no address written](Written::NONE) and
+/// [nothing stored](States::NOTHING), and has no limits. The states are its working space: what stands
+/// there before is not looked at, and what stands there afterwards is not said.
 ///
 /// # Errors
 ///
 /// [`Refusal::BufferTooShort`], with the buffer untouched.
-pub fn check(input: &[u8], out: &mut [u8]) -> Result<usize, Refusal> {
-    let size = out.len();
-    let out = out.as_mut_ptr();
-    length(unsafe { ffi::kz_abi_check(input.as_ptr(), input.len(), out, size) })
+pub fn check(states: &mut States, input: &[u8], out: &mut [u8]) -> Result<usize, Refusal> {
+    let answer = unsafe {
+        ffi::kz_abi_check(
+            input.as_ptr(),
+            input.len(),
+            states.rows.as_mut_ptr(),
+            States::ROWS,
+            states.written.as_mut_ptr(),
+            States::BYTES,
+            out.as_mut_ptr(),
+            out.len(),
+        )
+    };
+    length(answer)
 }

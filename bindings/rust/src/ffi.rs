@@ -17,6 +17,10 @@ unsafe extern "C" {
         rows: usize,
         written: *mut u8,
         written_size: usize,
+        stored: *mut Cap,
+        stored_rows: usize,
+        stored_bits: *mut u8,
+        stored_size: usize,
         tally: *mut Tally,
         sheet: *const u8,
         sheet_len: usize,
@@ -32,6 +36,10 @@ unsafe extern "C" {
         rows: usize,
         written: *mut u8,
         written_size: usize,
+        stored: *mut Cap,
+        stored_rows: usize,
+        stored_bits: *mut u8,
+        stored_size: usize,
         tally: *mut Tally,
         sheet: *const u8,
         sheet_len: usize,
@@ -58,6 +66,10 @@ unsafe extern "C" {
         rows: usize,
         written: *mut u8,
         written_size: usize,
+        stored: *mut Cap,
+        stored_rows: usize,
+        stored_bits: *mut u8,
+        stored_size: usize,
         tally: *mut Tally,
         sheet: *const u8,
         sheet_len: usize,
@@ -108,5 +120,14 @@ unsafe extern "C" {
         out_len: usize,
     ) -> u64;
 
-    pub fn kz_abi_check(input: *const u8, input_len: usize, out: *mut u8, out_len: usize) -> u64;
+    pub fn kz_abi_check(
+        input: *const u8,
+        input_len: usize,
+        stored: *mut Cap,
+        stored_rows: usize,
+        stored_bits: *mut u8,
+        stored_size: usize,
+        out: *mut u8,
+        out_len: usize,
+    ) -> u64;
 }

@@ -8,20 +8,21 @@ use core::ptr;
 use crate::answers::{split, value};
 use crate::{
     charge, ffi, Answer, Cap, Charge, Domain, Limits, Name, Outcome, Refusal, Request, RunAnswer,
-    Sheet, Tally, Written, DOMAINS, WRITTEN_BYTES,
+    Sheet, States, Tally, Written, DOMAINS, WRITTEN_BYTES,
 };
 
-/// What is lent for events: a table, its written bits, its tally, the conflict sheet by which events are
-/// carried out, and the limits of the domains that act. Each call is the function of its name, by this
-/// sheet and within these limits.
+/// What is lent for events: a table, its written bits, room for its states, its tally, the conflict sheet
+/// by which events are carried out, and the limits of the domains that act. Each call is the function of
+/// its name, by this sheet and within these limits.
 ///
 /// ```
-/// use kelzoud::{Cap, Lent, Refusal, RunAnswer, Sheet, Tally, Written};
+/// use kelzoud::{Cap, Lent, Refusal, RunAnswer, Sheet, States, Tally, Written};
 ///
 /// let mut table = [Cap::EMPTY; 16];
 /// let mut written = Written::NONE;
+/// let mut states = Box::new(States::NOTHING);
 /// let mut tally = Tally::default();
-/// let mut lent = Lent::new(&mut table, &mut written, &mut tally);
+/// let mut lent = Lent::new(&mut table, &mut written, &mut states, &mut tally);
 /// lent.sheet = Sheet::read(
 ///     b"(rule (holder reference raw cell) (access read write) (from cell kin stranger) end)\n",
 /// )?;
@@ -36,7 +37,7 @@ use crate::{
 /// ```
 /// use kelzoud::{
 ///     Addr, Answer, Cap, Charge, Domain, Event, Holders, Kind, Lent, Limits, Name, Refusal, Right, Span,
-///     Tally, Written,
+///     States, Tally, Written,
 /// };
 ///
 /// let (zero, three) = (Domain::ZERO, Domain::new(3).unwrap());
@@ -44,10 +45,11 @@ use crate::{
 /// (limits[zero], limits[three]) = (2, 2);
 /// let mut table = [Cap::EMPTY; 4];
 /// let mut written = Written::NONE;
+/// let mut states = Box::new(States::NOTHING);
 /// let mut tally = Tally::default();
 /// let mut lent = Lent {
 ///     limits: Some(&limits),
-///     ..Lent::new(&mut table, &mut written, &mut tally)
+///     ..Lent::new(&mut table, &mut written, &mut states, &mut tally)
 /// };
 /// let (span, right) = (Span { start: Addr(0), length: 65 }, Right::ReadWrite);
 /// let both = Some(Holders::of(zero).with(three));
@@ -72,6 +74,8 @@ pub struct Lent<'a> {
     pub table: &'a mut [Cap],
     /// Its written bits, the same in all calls with this table.
     pub written: &'a mut Written,
+    /// Room for its states, the same in all calls with this table.
+    pub states: &'a mut States,
     /// Its tally.
     pub tally: &'a mut Tally,
     /// The sheet, one and the same in all calls with this table.
@@ -81,12 +85,18 @@ pub struct Lent<'a> {
 }
 
 impl<'a> Lent<'a> {
-    /// A table, its written bits and its tally, lent with the [default sheet](Sheet::DEFAULT) and without
-    /// limits.
-    pub fn new(table: &'a mut [Cap], written: &'a mut Written, tally: &'a mut Tally) -> Lent<'a> {
+    /// A table, its written bits, room for its states and its tally, lent with the
+    /// [default sheet](Sheet::DEFAULT) and without limits.
+    pub fn new(
+        table: &'a mut [Cap],
+        written: &'a mut Written,
+        states: &'a mut States,
+        tally: &'a mut Tally,
+    ) -> Lent<'a> {
         Lent {
             table,
             written,
+            states,
             tally,
             sheet: Sheet::DEFAULT,
             limits: None,
@@ -136,6 +146,10 @@ impl<'a> Lent<'a> {
                 self.table.len(),
                 self.written.0.as_mut_ptr(),
                 WRITTEN_BYTES,
+                self.states.rows.as_mut_ptr(),
+                States::ROWS,
+                self.states.written.as_mut_ptr(),
+                States::BYTES,
                 self.tally,
                 self.sheet.as_bytes().as_ptr(),
                 Sheet::PLACES,
@@ -163,6 +177,10 @@ impl<'a> Lent<'a> {
                 self.table.len(),
                 self.written.0.as_mut_ptr(),
                 WRITTEN_BYTES,
+                self.states.rows.as_mut_ptr(),
+                States::ROWS,
+                self.states.written.as_mut_ptr(),
+                States::BYTES,
                 self.tally,
                 self.sheet.as_bytes().as_ptr(),
                 Sheet::PLACES,
@@ -188,6 +206,10 @@ impl<'a> Lent<'a> {
                 self.table.len(),
                 self.written.0.as_mut_ptr(),
                 WRITTEN_BYTES,
+                self.states.rows.as_mut_ptr(),
+                States::ROWS,
+                self.states.written.as_mut_ptr(),
+                States::BYTES,
                 self.tally,
                 self.sheet.as_bytes().as_ptr(),
                 Sheet::PLACES,

@@ -1,72 +1,80 @@
 //! Run-time borrow checking with capabilities that are revoked on use.
 //!
-//! The caller lends a table of capabilities, written bits and a tally. Each event (create, borrow,
-//! read, write, drop) is allowed or refused, and the table follows the allowed ones: a read lowers to
+//! The caller lends a table of capabilities, written bits, room for states to come back to, and a
+//! tally. Each event (create, borrow, read, write, drop) is allowed or refused, and the table follows the allowed ones: a read lowers to
 //! read-only, and a write ends, every capability that it touches and that is neither its user nor an
 //! ancestor of its user, with their subtrees. A create is a new allocation and ends every capability
 //! that it touches. Nothing is taken away when a borrow is made. Borrows that stand for raw pointers and
 //! cells say so, and are struck by less, or strike less ([`Kind`]).
 //!
 //! ```
-//! use kelzoud::{apply, Addr, Answer, Cap, Event, Kind, Name, Refusal, Right, Span, Tally, Written};
+//! use kelzoud::{
+//!     apply, Addr, Answer, Cap, Event, Kind, Name, Refusal, Right, Span, States, Tally, Written,
+//! };
 //!
 //! let mut table = [Cap::EMPTY; 16];
 //! let mut written = Written::NONE;
+//! let mut states = Box::new(States::NOTHING);
 //! let mut tally = Tally::default();
 //! let span = Span { start: Addr(0), length: 64 };
 //!
 //! let (right, holders) = (Right::ReadWrite, None);
+//! let mut apply = |event| apply(&mut table, &mut written, &mut states, &mut tally, event);
 //! let create = Event::Create { written: None, span, right, fresh: false, holders };
-//! assert_eq!(apply(&mut table, &mut written, &mut tally, create), Answer::Allowed(Some(Name(1))));
+//! assert_eq!(apply(create), Answer::Allowed(Some(Name(1))));
 //!
 //! let (parent, kind) = (Name(1), Kind::Reference);
 //! let borrow = Event::Borrow { written: None, parent, span, right, kind, holders };
-//! assert_eq!(apply(&mut table, &mut written, &mut tally, borrow), Answer::Allowed(Some(Name(2))));
+//! assert_eq!(apply(borrow), Answer::Allowed(Some(Name(2))));
 //!
 //! // A write through the parent ends the borrow.
 //! let write = Event::Write { name: Name(1), span };
-//! assert_eq!(apply(&mut table, &mut written, &mut tally, write), Answer::Allowed(None));
+//! assert_eq!(apply(write), Answer::Allowed(None));
 //! let read = Event::Read { name: Name(2), span };
-//! assert_eq!(apply(&mut table, &mut written, &mut tally, read), Answer::Refused(Refusal::Ended));
+//! assert_eq!(apply(read), Answer::Refused(Refusal::Ended));
 //! ```
 //!
 //! Memory that is handed out again, without a drop, leaves no stale capability behind:
 //!
 //! ```
-//! use kelzoud::{run, Cap, Refusal, RunAnswer, Tally, Written};
+//! use kelzoud::{run, Cap, Refusal, RunAnswer, States, Tally, Written};
 //!
 //! let mut table = [Cap::EMPTY; 16];
 //! let mut written = Written::NONE;
+//! let mut states = Box::new(States::NOTHING);
 //! let mut tally = Tally::default();
 //! let text = b"(create 0 64 rw)\n(borrow 1 0 8 rw)\n(create 32 16 rw)\n(read 2 0 8)\n";
-//! let answer = run(&mut table, &mut written, &mut tally, text);
+//! let answer = run(&mut table, &mut written, &mut states, &mut tally, text);
 //! assert_eq!(answer, RunAnswer::Refused { refusal: Refusal::Ended, line: 4 });
 //! ```
 //!
 //! A log may write out the name of what each create and borrow makes, and is then checked for it:
 //!
 //! ```
-//! use kelzoud::{run, Cap, Refusal, RunAnswer, Tally, Written};
+//! use kelzoud::{run, Cap, Refusal, RunAnswer, States, Tally, Written};
 //!
 //! let mut table = [Cap::EMPTY; 16];
 //! let mut written = Written::NONE;
+//! let mut states = Box::new(States::NOTHING);
 //! let mut tally = Tally::default();
 //! let text = b"(trace 2)\n(create 1 0 64 rw)\n(borrow 3 1 0 8 rw)\n";
-//! let answer = run(&mut table, &mut written, &mut tally, text);
+//! let answer = run(&mut table, &mut written, &mut states, &mut tally, text);
 //! assert_eq!(answer, RunAnswer::Refused { refusal: Refusal::Misnamed, line: 3 });
 //! ```
 //!
 //! A function's return drops all its objects at once, which a log writes as one line:
 //!
 //! ```
-//! use kelzoud::{drop_all, run, Answer, Cap, Name, Refusal, RunAnswer, Tally, Written};
+//! use kelzoud::{drop_all, run, Answer, Cap, Name, Refusal, RunAnswer, States, Tally, Written};
 //!
 //! let mut table = [Cap::EMPTY; 16];
 //! let mut written = Written::NONE;
+//! let mut states = Box::new(States::NOTHING);
 //! let mut tally = Tally::default();
 //! let text = b"(create 0 8 rw)\n(create 8 8 rw)\n(create 16 8 rw)\n(drop 1 3)\n";
-//! assert_eq!(run(&mut table, &mut written, &mut tally, text), RunAnswer::Allowed { lines: 4 });
-//! let answer = drop_all(&mut table, &mut written, &mut tally, &[Name(1), Name(2)]);
+//! let answer = run(&mut table, &mut written, &mut states, &mut tally, text);
+//! assert_eq!(answer, RunAnswer::Allowed { lines: 4 });
+//! let answer = drop_all(&mut table, &mut written, &mut states, &mut tally, &[Name(1), Name(2)]);
 //! assert_eq!(answer, Answer::Refused(Refusal::Ended));
 //! assert_eq!((table[0].name, tally.drops), (2, 1));
 //! ```
@@ -75,15 +83,18 @@
 //! `*mut` made from it; a write through 1, from which the `&mut` was borrowed, ends both:
 //!
 //! ```
-//! use kelzoud::{run, Cap, Refusal, RunAnswer, Tally, Written};
+//! use kelzoud::{run, Cap, Refusal, RunAnswer, States, Tally, Written};
 //!
 //! let mut table = [Cap::EMPTY; 16];
 //! let mut written = Written::NONE;
+//! let mut states = Box::new(States::NOTHING);
 //! let mut tally = Tally::default();
 //! let text = b"(create 0 64 rw)\n(borrow 1 0 8 rw)\n(borrow 2 0 8 rw raw)\n\
 //!     (write 3 0 8)\n(write 2 0 8)\n(write 3 0 8)\n";
-//! assert_eq!(run(&mut table, &mut written, &mut tally, text), RunAnswer::Allowed { lines: 6 });
-//! let answer = run(&mut table, &mut written, &mut tally, b"(write 1 0 8)\n(read 3 0 8)\n");
+//! let answer = run(&mut table, &mut written, &mut states, &mut tally, text);
+//! assert_eq!(answer, RunAnswer::Allowed { lines: 6 });
+//! let text = b"(write 1 0 8)\n(read 3 0 8)\n";
+//! let answer = run(&mut table, &mut written, &mut states, &mut tally, text);
 //! assert_eq!(answer, RunAnswer::Refused { refusal: Refusal::Ended, line: 2 });
 //! ```
 //!
@@ -92,14 +103,15 @@
 //! and 3 is borrowed from it; only the first four bytes are written since:
 //!
 //! ```
-//! use kelzoud::{run, Cap, Refusal, RunAnswer, Tally, Written};
+//! use kelzoud::{run, Cap, Refusal, RunAnswer, States, Tally, Written};
 //!
 //! let mut table = [Cap::EMPTY; 16];
 //! let mut written = Written::NONE;
+//! let mut states = Box::new(States::NOTHING);
 //! let mut tally = Tally::default();
 //! let text = b"(create 0 8 rw)\n(write 1 0 8)\n(create 0 8 rw fresh)\n\
 //!     (write 2 0 4)\n(borrow 2 0 8 ro)\n(read 3 0 4)\n(read 3 0 8)\n";
-//! let answer = run(&mut table, &mut written, &mut tally, text);
+//! let answer = run(&mut table, &mut written, &mut states, &mut tally, text);
 //! assert_eq!(answer, RunAnswer::Refused { refusal: Refusal::NotWritten, line: 7 });
 //! ```
 //!
@@ -109,13 +121,16 @@
 //! what the default sheet lets it lower:
 //!
 //! ```
-//! use kelzoud::{Access, Cap, Effect, Kind, Lent, Origin, Refusal, RunAnswer, Sheet, Tally, Written};
+//! use kelzoud::{
+//!     Access, Cap, Effect, Kind, Lent, Origin, Refusal, RunAnswer, Sheet, States, Tally, Written,
+//! };
 //!
 //! let sheet = Sheet::DEFAULT.with(Kind::Reference, Access::Read, Origin::Kin, Effect::End);
 //! let mut table = [Cap::EMPTY; 16];
 //! let mut written = Written::NONE;
+//! let mut states = Box::new(States::NOTHING);
 //! let mut tally = Tally::default();
-//! let mut lent = Lent { sheet, ..Lent::new(&mut table, &mut written, &mut tally) };
+//! let mut lent = Lent { sheet, ..Lent::new(&mut table, &mut written, &mut states, &mut tally) };
 //! let answer = lent.run(b"(create 0 64 rw)\n(borrow 1 0 8 rw)\n(read 1 0 8)\n(read 2 0 8)\n");
 //! assert_eq!(answer, RunAnswer::Refused { refusal: Refusal::Ended, line: 4 });
 //! ```
@@ -127,15 +142,33 @@
 //! capability pay for it. Here domain 1 lets domain 2 read, and nobody else:
 //!
 //! ```
-//! use kelzoud::{run, Cap, Refusal, RunAnswer, Tally, Written};
+//! use kelzoud::{run, Cap, Refusal, RunAnswer, States, Tally, Written};
 //!
 //! let mut table = [Cap::EMPTY; 16];
 //! let mut written = Written::NONE;
+//! let mut states = Box::new(States::NOTHING);
 //! let mut tally = Tally::default();
 //! let text = b"(as 1 (create 0 64 rw))\n(as 1 (borrow 1 0 8 ro 0000000000000006))\n\
 //!     (as 2 (read 2 0 8))\n(read 2 0 8)\n";
-//! let answer = run(&mut table, &mut written, &mut tally, text);
+//! let answer = run(&mut table, &mut written, &mut states, &mut tally, text);
 //! assert_eq!(answer, RunAnswer::Refused { refusal: Refusal::NotHolder, line: 4 });
+//! ```
+//!
+//! A debugger steps back. [`Event::Mark`] stores the table and the written bits in one of eight
+//! [slots](Slot) of the lent [`States`], and [`Event::Back`] brings them back. The tally and the names
+//! given out are never turned back, so that no name is given twice:
+//!
+//! ```
+//! use kelzoud::{run, Cap, Refusal, RunAnswer, States, Tally, Written};
+//!
+//! let mut table = [Cap::EMPTY; 16];
+//! let mut written = Written::NONE;
+//! let mut states = Box::new(States::NOTHING);
+//! let mut tally = Tally::default();
+//! let text = b"(create 0 64 rw)\n(mark 0)\n(borrow 1 0 8 rw)\n(back 0)\n(borrow 1 0 8 rw)\n\
+//!     (write 3 0 8)\n(write 2 0 8)\n";
+//! let answer = run(&mut table, &mut written, &mut states, &mut tally, text);
+//! assert_eq!(answer, RunAnswer::Refused { refusal: Refusal::Ended, line: 7 });
 //! ```
 //!
 //! Many events are handed over in one call by [`apply_all`], and a log is read line by line by
@@ -154,6 +187,7 @@ mod ffi;
 mod lent;
 mod requests;
 mod sheets;
+mod states;
 mod values;
 
 pub use answers::{Answer, Outcome, Refusal, RunAnswer};
@@ -165,6 +199,7 @@ pub use domains::{Charge, Domain, Holders, HoldersIter, Limits};
 pub use lent::Lent;
 pub use requests::{Group, Line, Request, Spelling};
 pub use sheets::{Access, Effect, Origin, Sheet};
+pub use states::{Slot, States};
 pub use values::{Addr, Cap, Event, Kind, Name, Right, Span, Tally, Written};
 
 /// The most rows of a table.
@@ -181,6 +216,9 @@ pub const MAX_GROUP: usize = 64;
 
 /// How many domains there are, from 0 on.
 pub const DOMAINS: usize = 64;
+
+/// How many slots there are for states to come back to, from 0 on.
+pub const SLOTS: usize = 8;
 
 /// How many bytes of written bits a table has.
 pub const WRITTEN_BYTES: usize = 8_192;

@@ -4,7 +4,7 @@
 use core::fmt;
 use core::ops::{Deref, Range};
 
-use crate::{Addr, Domain, Event, Holders, Kind, Name, Right, Span, MAX_GROUP};
+use crate::{Addr, Domain, Event, Holders, Kind, Name, Right, Slot, Span, MAX_GROUP};
 
 const CREATE: u32 = 1;
 const BORROW: u32 = 2;
@@ -12,6 +12,8 @@ const READ: u32 = 3;
 const WRITE: u32 = 4;
 const DROP: u32 = 5;
 const DROP_ALL: u32 = 6;
+const MARK: u32 = 7;
+const BACK: u32 = 8;
 
 /// What a domain asks for: an [`Event`], or names that are dropped together, which stand in a list beside
 /// the requests. It is made of one or the other, and laid out as `kz_event` is.
@@ -80,7 +82,7 @@ impl Request {
     }
 
     /// What a line asks for that was read into this request and these names; nothing for a kind, right,
-    /// kind of capability, mark or domain that no line has.
+    /// kind of capability, mark, domain or slot that no line has.
     pub(crate) fn line(self, names: [Name; MAX_GROUP]) -> Option<Line> {
         let actor = Domain::new(self.actor)?;
         if self.kind == DROP_ALL {
@@ -125,6 +127,12 @@ impl Request {
             READ => Event::Read { name, span },
             WRITE => Event::Write { name, span },
             DROP => Event::Drop { name },
+            MARK => Event::Mark {
+                slot: Slot::new(self.name)?,
+            },
+            BACK => Event::Back {
+                slot: Slot::new(self.name)?,
+            },
             _ => return None,
         })
     }
@@ -166,6 +174,9 @@ impl Event {
             Event::Read { name, span } => (READ, name, span, 0),
             Event::Write { name, span } => (WRITE, name, span, 0),
             Event::Drop { name } => (DROP, name, none, 0),
+            // The slot stands in the place of the name.
+            Event::Mark { slot } => (MARK, Name(slot.number()), none, 0),
+            Event::Back { slot } => (BACK, Name(slot.number()), none, 0),
         };
         let holders = match self.makes() {
             true => self.holders().unwrap_or(Holders::of(actor)),

@@ -57,21 +57,24 @@ impl Effect {
 ///
 /// ```
 /// use kelzoud::{
-///     run, Access, Cap, Effect, Kind, Lent, Origin, Refusal, RunAnswer, Sheet, Tally, Written,
+///     run, Access, Cap, Effect, Kind, Lent, Origin, Refusal, RunAnswer, Sheet, States, Tally,
+///     Written,
 /// };
 ///
 /// let text = b"(create 0 64 rw)\n(borrow 1 0 8 rw)\n(read 1 0 8)\n(write 2 0 8)\n";
 /// let mut table = [Cap::EMPTY; 16];
 /// let mut written = Written::NONE;
+/// let mut states = Box::new(States::NOTHING);
 /// let mut tally = Tally::default();
-/// let answer = run(&mut table, &mut written, &mut tally, text);
+/// let answer = run(&mut table, &mut written, &mut states, &mut tally, text);
 /// assert_eq!(answer, RunAnswer::Refused { refusal: Refusal::ReadOnly, line: 4 });
 ///
 /// let sheet = Sheet::DEFAULT.with(Kind::Reference, Access::Read, Origin::Kin, Effect::Keep);
 /// let mut table = [Cap::EMPTY; 16];
 /// let mut written = Written::NONE;
+/// let mut states = Box::new(States::NOTHING);
 /// let mut tally = Tally::default();
-/// let mut lent = Lent { sheet, ..Lent::new(&mut table, &mut written, &mut tally) };
+/// let mut lent = Lent { sheet, ..Lent::new(&mut table, &mut written, &mut states, &mut tally) };
 /// assert_eq!(lent.run(text), RunAnswer::Allowed { lines: 4 });
 /// ```
 #[derive(Clone, Copy, Debug, PartialEq, Eq, Hash)]

@@ -1,6 +1,6 @@
 //! What is lent and what is asked.
 
-use crate::{Holders, WRITTEN_ADDRESSES, WRITTEN_BYTES};
+use crate::{Holders, Slot, WRITTEN_ADDRESSES, WRITTEN_BYTES};
 
 /// The name of a capability: 1 to [`MAX_NAME`](crate::MAX_NAME), given out in order, never twice.
 #[derive(Clone, Copy, Debug, PartialEq, Eq, PartialOrd, Ord, Hash)]
@@ -148,6 +148,20 @@ pub enum Event {
         /// The capability.
         name: Name,
     },
+    /// Stores the table and the written bits in a slot of the lent [`States`](crate::States), over
+    /// whatever is stored there. Any domain may, whatever it holds. It is not counted in the tally.
+    Mark {
+        /// The slot.
+        slot: Slot,
+    },
+    /// Brings back the table and the written bits that are stored in a slot, and keeps them there. The
+    /// tally stays, and with it the names given out: those given since the mark have ended. Where nothing
+    /// is stored it is refused [`NothingStored`](crate::Refusal::NothingStored), and where what is stored
+    /// does not fit [`Disordered`](crate::Refusal::Disordered).
+    Back {
+        /// The slot.
+        slot: Slot,
+    },
 }
 
 impl Event {
@@ -250,16 +264,17 @@ impl Cap {
 ///
 /// A table has the same bits throughout, and begins with [none](Written::NONE). Tables that stand for
 /// parts of one memory, each with its own allocations, share them. They are not in a listing, so a tool
-/// that keeps listings to come back to keeps them too.
+/// that keeps listings to come back to keeps them too. [`States`](crate::States) have them.
 ///
 /// ```
-/// use kelzoud::{run, Addr, Cap, Refusal, RunAnswer, Tally, Written};
+/// use kelzoud::{run, Addr, Cap, Refusal, RunAnswer, States, Tally, Written};
 ///
 /// let mut table = [Cap::EMPTY; 16];
 /// let mut written = Written::NONE;
+/// let mut states = Box::new(States::NOTHING);
 /// let mut tally = Tally::default();
 /// let text = b"(create 0 8 rw fresh)\n(write 1 0 4)\n(read 1 0 4)\n(read 1 0 8)\n";
-/// let answer = run(&mut table, &mut written, &mut tally, text);
+/// let answer = run(&mut table, &mut written, &mut states, &mut tally, text);
 /// let refusal = Refusal::NotWritten;
 /// assert_eq!(answer, RunAnswer::Refused { refusal, line: 4 });
 /// // Which address it was.

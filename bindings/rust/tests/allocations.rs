@@ -3,7 +3,7 @@
 
 use kelzoud::{
     Access, Addr, Answer, Cap, Domain, Effect, Event, Holders, Kind, Lent, Name, Origin, Refusal,
-    Request, Right, Sheet, Span, Tally, Written, MAX_ROWS,
+    Request, Right, Sheet, Span, States, Tally, Written, MAX_ROWS,
 };
 
 /// Numbers that look random and are the same each time (xorshift).
@@ -56,7 +56,22 @@ impl Random {
     }
 }
 
-/// A table with its tally; written bits stand apart.
+/// What all tables share: the written bits, and room for states, of which none is stored.
+struct Shared {
+    written: Written,
+    states: Box<States>,
+}
+
+impl Shared {
+    fn new() -> Shared {
+        Shared {
+            written: Written::NONE,
+            states: Box::new(States::NOTHING),
+        }
+    }
+}
+
+/// A table with its tally.
 struct Part {
     table: Vec<Cap>,
     tally: Tally,
@@ -70,8 +85,9 @@ impl Part {
         }
     }
 
-    fn take(&mut self, written: &mut Written, sheet: Sheet, request: Request) -> Answer {
-        let lent = Lent::new(&mut self.table, written, &mut self.tally);
+    fn take(&mut self, shared: &mut Shared, sheet: Sheet, request: Request) -> Answer {
+        let Shared { written, states } = shared;
+        let lent = Lent::new(&mut self.table, written, states, &mut self.tally);
         Lent { sheet, ..lent }.apply(request)
     }
 
@@ -86,7 +102,7 @@ const ROWS: usize = 64;
 /// A table for each allocation, and one array of written bits for all.
 struct Apart {
     parts: Vec<Part>,
-    written: Written,
+    shared: Shared,
     /// The allocation and the name in its table of each name in the one table, from 1 on.
     known: Vec<(usize, Name)>,
 }
@@ -100,7 +116,7 @@ impl Apart {
     fn new() -> Apart {
         Apart {
             parts: Vec::new(),
-            written: Written::NONE,
+            shared: Shared::new(),
             known: vec![(0, Name(0))],
         }
     }
@@ -109,7 +125,7 @@ impl Apart {
     /// made them.
     fn create(&mut self, sheet: Sheet, create: Request, span: Span) -> Result<(), Refusal> {
         let mut part = Part::new(ROWS);
-        let made = outcome(part.take(&mut self.written, sheet, create))?;
+        let made = outcome(part.take(&mut self.shared, sheet, create))?;
         for old in &mut self.parts {
             let root = old.table[0];
             if root.name != 0 && touches(&root, span) {
@@ -118,7 +134,7 @@ impl Apart {
                 };
                 let maker = Domain::new(root.maker).unwrap();
                 assert_eq!(
-                    old.take(&mut self.written, sheet, drop.by(maker)),
+                    old.take(&mut self.shared, sheet, drop.by(maker)),
                     Answer::Allowed(None)
                 );
             }
@@ -135,7 +151,7 @@ impl Apart {
         }
         let (place, name) = self.known[name_of(event).0 as usize];
         let request = with_name(event, name).by(actor);
-        let answer = self.parts[place].take(&mut self.written, sheet, request);
+        let answer = self.parts[place].take(&mut self.shared, sheet, request);
         if let Some(made) = outcome(answer)? {
             self.known.push((place, made));
         }
@@ -168,7 +184,7 @@ fn touches(row: &Cap, span: Span) -> bool {
 
 fn name_of(event: Event) -> Name {
     match event {
-        Event::Create { .. } => Name(0),
+        Event::Create { .. } | Event::Mark { .. } | Event::Back { .. } => Name(0),
         Event::Borrow { parent: name, .. }
         | Event::Read { name, .. }
         | Event::Write { name, .. }
@@ -197,7 +213,7 @@ fn with_name(event: Event, name: Name) -> Event {
         Event::Read { span, .. } => Event::Read { name, span },
         Event::Write { span, .. } => Event::Write { name, span },
         Event::Drop { .. } => Event::Drop { name },
-        create => create,
+        other => other,
     }
 }
 
@@ -242,16 +258,16 @@ fn event(random: &mut Random, whole: &Part, holders: Option<Holders>) -> Event {
 }
 
 /// A list of events on one table and on many, and how often each refusal was met.
-fn run(seed: u64, met: &mut [u32; 19]) {
+fn run(seed: u64, met: &mut [u32; 20]) {
     let mut random = Random(seed);
     let sheet = random.sheet();
     let mut whole = Part::new(MAX_ROWS);
-    let mut written = Written::NONE;
+    let mut shared = Shared::new();
     let mut apart = Apart::new();
     for _ in 0..200 {
         let (actor, holders) = random.domain();
         let event = event(&mut random, &whole, holders);
-        let answer = whole.take(&mut written, sheet, event.by(actor));
+        let answer = whole.take(&mut shared, sheet, event.by(actor));
         let refusal = outcome(answer).map(|_| ());
         met[refusal.map_or_else(|refusal| refusal.number().into(), |()| 0)] += 1;
         assert_eq!(
@@ -267,13 +283,14 @@ fn run(seed: u64, met: &mut [u32; 19]) {
             whole.live().copied().eq(apart.rows()),
             "{event:?} by {actor}"
         );
-        assert_eq!(written, apart.written);
+        assert_eq!(shared.written, apart.shared.written);
     }
+    assert!(*apart.shared.states == States::NOTHING);
 }
 
 #[test]
 fn a_table_for_each_allocation_is_as_one_for_all() {
-    let mut met = [0; 19];
+    let mut met = [0; 20];
     for seed in 1..=60_u64 {
         run(seed.wrapping_mul(0x9E37_79B9_7F4A_7C15), &mut met);
     }

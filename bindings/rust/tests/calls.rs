@@ -3,9 +3,9 @@
 use kelzoud::{
     apply, apply_all, check, drop_all, read_event, read_listing, run, write_drop, write_drop_by,
     write_event, write_listing, Addr, Answer, Cap, Domain, Event, Holders, Kind, Line, Name,
-    Outcome, Refusal, Request, Right, RunAnswer, Span, Spelling, Tally, Written, MAX_CHECK,
-    MAX_DROP_LINE, MAX_GROUP, MAX_LINE, MAX_LISTING, MAX_NAMED_LINE, MAX_ROWS, NAMED_HEADER,
-    WRITTEN_ADDRESSES, WRITTEN_BYTES,
+    Outcome, Refusal, Request, Right, RunAnswer, Slot, Span, Spelling, States, Tally, Written,
+    MAX_CHECK, MAX_DROP_LINE, MAX_GROUP, MAX_LINE, MAX_LISTING, MAX_NAMED_LINE, MAX_ROWS,
+    NAMED_HEADER, WRITTEN_ADDRESSES, WRITTEN_BYTES,
 };
 
 fn span(start: u32, length: u32) -> Span {
@@ -16,7 +16,7 @@ fn span(start: u32, length: u32) -> Span {
 }
 
 /// Events of each kind, each with its line, and its line with the name 40 written out.
-fn spellings() -> [(Event, &'static str, &'static str); 8] {
+fn spellings() -> [(Event, &'static str, &'static str); 10] {
     let name = Name(7);
     let wide = span(0, 64);
     let created = |right, fresh| Event::Create {
@@ -42,6 +42,10 @@ fn spellings() -> [(Event, &'static str, &'static str); 8] {
     let read = Event::Read { name, span: wide };
     let write = Event::Write { name, span: wide };
     let drop = Event::Drop { name };
+    let mark = Event::Mark {
+        slot: Slot::new(7).unwrap(),
+    };
+    let back = Event::Back { slot: Slot::ZERO };
     [
         (create, "(create 0 64 rw)\n", "(create 40 0 64 rw)\n"),
         (
@@ -59,6 +63,8 @@ fn spellings() -> [(Event, &'static str, &'static str); 8] {
         (read, "(read 7 0 64)\n", "(read 7 0 64)\n"),
         (write, "(write 7 0 64)\n", "(write 7 0 64)\n"),
         (drop, "(drop 7)\n", "(drop 7)\n"),
+        (mark, "(mark 7)\n", "(mark 7)\n"),
+        (back, "(back 0)\n", "(back 0)\n"),
     ]
 }
 
@@ -179,8 +185,9 @@ fn lines_have_their_longest_lengths() {
 fn events_change_the_table() {
     let mut table = [Cap::EMPTY; 2];
     let mut written = Written::NONE;
+    let mut states = Box::new(States::NOTHING);
     let mut tally = Tally::default();
-    let mut take = |event| apply(&mut table, &mut written, &mut tally, event);
+    let mut take = |event| apply(&mut table, &mut written, &mut states, &mut tally, event);
     let right = Right::ReadWrite;
     let whole = span(0, 8);
     let root = Event::Create {
@@ -212,8 +219,9 @@ fn events_change_the_table() {
 fn written_names_are_judged() {
     let mut table = [Cap::EMPTY; 2];
     let mut written = Written::NONE;
+    let mut states = Box::new(States::NOTHING);
     let mut tally = Tally::default();
-    let mut take = |event| apply(&mut table, &mut written, &mut tally, event);
+    let mut take = |event| apply(&mut table, &mut written, &mut states, &mut tally, event);
     let root = Event::Create {
         written: None,
         span: span(0, 8),
@@ -243,8 +251,9 @@ fn written_names_are_judged() {
 fn a_create_ends_what_it_touches() {
     let mut table = [Cap::EMPTY; 3];
     let mut written = Written::NONE;
+    let mut states = Box::new(States::NOTHING);
     let mut tally = Tally::default();
-    let mut take = |event| apply(&mut table, &mut written, &mut tally, event);
+    let mut take = |event| apply(&mut table, &mut written, &mut states, &mut tally, event);
     let create = |start, length| Event::Create {
         written: None,
         span: span(start, length),
@@ -281,6 +290,7 @@ fn a_create_ends_what_it_touches() {
 struct Part {
     table: [Cap; 8],
     written: Written,
+    states: Box<States>,
     tally: Tally,
 }
 
@@ -293,6 +303,7 @@ impl Part {
         let mut part = Part {
             table: [Cap::EMPTY; 8],
             written: Written::NONE,
+            states: Box::new(States::NOTHING),
             tally: Tally::default(),
         };
         assert_eq!(part.create(0, 16, fresh), Answer::Allowed(Some(Name(1))));
@@ -300,7 +311,13 @@ impl Part {
     }
 
     fn take(&mut self, event: Event) -> Answer {
-        apply(&mut self.table, &mut self.written, &mut self.tally, event)
+        apply(
+            &mut self.table,
+            &mut self.written,
+            &mut self.states,
+            &mut self.tally,
+            event,
+        )
     }
 
     fn create(&mut self, start: u32, length: u32, fresh: bool) -> Answer {
@@ -500,16 +517,17 @@ fn rows_of_wrong_marks_are_disordered() {
 fn names_are_dropped_together() {
     let mut table = [Cap::EMPTY; 4];
     let mut written = Written::NONE;
+    let mut states = Box::new(States::NOTHING);
     let mut tally = Tally::default();
     let text = b"(create 0 8 rw)\n(borrow 1 0 4 rw)\n(create 8 8 rw)\n(create 16 8 rw)\n";
     let lines = 4;
     assert_eq!(
-        run(&mut table, &mut written, &mut tally, text),
+        run(&mut table, &mut written, &mut states, &mut tally, text),
         RunAnswer::Allowed { lines }
     );
     let mut take = |names: &[u32]| {
         let names: Vec<Name> = names.iter().copied().map(Name).collect();
-        drop_all(&mut table, &mut written, &mut tally, &names)
+        drop_all(&mut table, &mut written, &mut states, &mut tally, &names)
     };
     assert_eq!(take(&[1, 3, 5]), Answer::Refused(Refusal::Unissued));
     assert_eq!(take(&[1, 2, 3]), Answer::Allowed(None));
@@ -519,11 +537,17 @@ fn names_are_dropped_together() {
     }
     assert_eq!((table[0].name, table[1]), (4, Cap::EMPTY));
     assert_eq!((tally.drops, tally.refused), (1, 6));
-    let answer = run(&mut table, &mut written, &mut tally, b"(drop 4 5)\n");
+    let answer = run(
+        &mut table,
+        &mut written,
+        &mut states,
+        &mut tally,
+        b"(drop 4 5)\n",
+    );
     let refusal = Refusal::Unissued;
     assert_eq!(answer, RunAnswer::Refused { refusal, line: 1 });
     table[3].name = 1;
-    let answer = drop_all(&mut table, &mut written, &mut tally, &[]);
+    let answer = drop_all(&mut table, &mut written, &mut states, &mut tally, &[]);
     assert_eq!(answer, Answer::Refused(Refusal::Disordered));
     assert_eq!(tally.refused, 7);
 }
@@ -559,6 +583,7 @@ fn names_dropped_together_are_written_and_read() {
 fn many_requests_are_taken_in_turn() {
     let mut table = [Cap::EMPTY; 3];
     let mut written = Written::NONE;
+    let mut states = Box::new(States::NOTHING);
     let mut tally = Tally::default();
     let create = |start| Event::Create {
         written: None,
@@ -598,6 +623,7 @@ fn many_requests_are_taken_in_turn() {
     let answers = apply_all(
         &mut table,
         &mut written,
+        &mut states,
         &mut tally,
         &requests,
         &names,
@@ -610,6 +636,7 @@ fn many_requests_are_taken_in_turn() {
     let answers = apply_all(
         &mut table,
         &mut written,
+        &mut states,
         &mut tally,
         &requests,
         &names,
@@ -617,12 +644,21 @@ fn many_requests_are_taken_in_turn() {
     );
     assert_eq!(answers.len(), 1);
     assert_eq!(answers[0].answer(), Answer::Allowed(Some(Name(4))));
-    let answers = apply_all(&mut table, &mut written, &mut tally, &[], &[], &mut room);
+    let answers = apply_all(
+        &mut table,
+        &mut written,
+        &mut states,
+        &mut tally,
+        &[],
+        &[],
+        &mut room,
+    );
     assert_eq!((answers.len(), tally.issued), (0, 4));
     table[2].name = 1;
     let answers = apply_all(
         &mut table,
         &mut written,
+        &mut states,
         &mut tally,
         &requests,
         &names,
@@ -638,10 +674,12 @@ fn many_requests_are_taken_in_turn() {
 fn runs_stop_at_a_refusal() {
     let mut table = vec![Cap::EMPTY; 4];
     let mut written = Written::NONE;
+    let mut states = Box::new(States::NOTHING);
     let mut tally = Tally::default();
     let answer = run(
         &mut table,
         &mut written,
+        &mut states,
         &mut tally,
         b"(create 0 8 rw)\n(drop 1)\n",
     );
@@ -649,20 +687,27 @@ fn runs_stop_at_a_refusal() {
     let answer = run(
         &mut table,
         &mut written,
+        &mut states,
         &mut tally,
         b"(create 0 8 ro)\n(write 2 0 8)\n",
     );
     let refusal = Refusal::ReadOnly;
     assert_eq!(answer, RunAnswer::Refused { refusal, line: 2 });
     let named = b"(trace 2)\n(create 3 0 8 rw)\n(create 5 0 8 rw)\n";
-    let answer = run(&mut table, &mut written, &mut tally, named);
+    let answer = run(&mut table, &mut written, &mut states, &mut tally, named);
     let refusal = Refusal::Misnamed;
     assert_eq!(answer, RunAnswer::Refused { refusal, line: 3 });
-    let answer = run(&mut table, &mut written, &mut tally, NAMED_HEADER);
+    let answer = run(
+        &mut table,
+        &mut written,
+        &mut states,
+        &mut tally,
+        NAMED_HEADER,
+    );
     assert_eq!(answer, RunAnswer::Allowed { lines: 1 });
     table[3].name = 1;
     let refusal = Refusal::Disordered;
-    let answer = run(&mut table, &mut written, &mut tally, b"");
+    let answer = run(&mut table, &mut written, &mut states, &mut tally, b"");
     assert_eq!(answer, RunAnswer::Refused { refusal, line: 0 });
 }
 
@@ -761,9 +806,10 @@ fn listings_have_marks() {
     }
     // The bits are not in a listing: here they are those of a table that wrote the first four.
     let mut written = Written::NONE;
+    let mut states = Box::new(States::NOTHING);
     written.0[0] = 0x0f;
     let text = b"(read 2 0 4)\n(read 1 0 8)\n";
-    let answer = run(&mut table, &mut written, &mut tally, text);
+    let answer = run(&mut table, &mut written, &mut states, &mut tally, text);
     let refusal = Refusal::NotWritten;
     assert_eq!(answer, RunAnswer::Refused { refusal, line: 2 });
     assert_eq!(written.0[0], 0x0f);
@@ -772,23 +818,26 @@ fn listings_have_marks() {
 #[test]
 fn capcheck_prints_the_verdict_and_the_listing() {
     let mut out = vec![0; MAX_CHECK];
-    let length = check(b"(create 0 8 rw)\n", &mut out).unwrap();
+    let mut states = Box::new(States::NOTHING);
+    let length = check(&mut states, b"(create 0 8 rw)\n", &mut out).unwrap();
     let expected = b"(allowed 1)\n(issued 1)\n(1 0 8 rw 0 0000000000000001)\n";
     assert_eq!(&out[..length], expected);
-    let length = check(b"(create 0 8 rw fresh)\n(read 1 0 8)\n", &mut out).unwrap();
+    let input = b"(create 0 8 rw fresh)\n(read 1 0 8)\n";
+    let length = check(&mut states, input, &mut out).unwrap();
     let expected = b"(refused 16 2)\n(issued 1)\n(1 0 8 rw fresh 0 0000000000000001)\n";
     assert_eq!(&out[..length], expected);
-    assert_eq!(check(b"", &mut []), Err(Refusal::BufferTooShort));
+    let short = check(&mut states, b"", &mut []);
+    assert_eq!(short, Err(Refusal::BufferTooShort));
 }
 
 #[test]
 fn refusals_have_their_numbers() {
-    for number in 1..=18 {
+    for number in 1..=19 {
         let refusal = Refusal::from_number(number).unwrap();
         assert_eq!(u32::from(refusal.number()), number);
     }
     assert_eq!(Refusal::from_number(0), None);
-    assert_eq!(Refusal::from_number(19), None);
+    assert_eq!(Refusal::from_number(20), None);
     assert_eq!(
         Refusal::Ended.to_string(),
         "refusal 5, the capability has ended"
@@ -804,5 +853,9 @@ fn refusals_have_their_numbers() {
     assert_eq!(
         Refusal::LimitReached.to_string(),
         "refusal 18, the domain has reached its limit"
+    );
+    assert_eq!(
+        Refusal::NothingStored.to_string(),
+        "refusal 19, nothing is stored in the slot"
     );
 }

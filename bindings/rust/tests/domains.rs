@@ -3,7 +3,7 @@
 use kelzoud::{
     apply, charge, read_event, read_listing, run, write_drop_by, write_event, write_listing, Addr,
     Answer, Cap, Charge, Domain, Event, Holders, Kind, Lent, Limits, Line, Name, Outcome, Refusal,
-    Request, Right, RunAnswer, Span, Spelling, Tally, Written, DOMAINS, MAX_LINE, MAX_ROWS,
+    Request, Right, RunAnswer, Span, Spelling, States, Tally, Written, DOMAINS, MAX_LINE, MAX_ROWS,
 };
 
 fn domain(number: u32) -> Domain {
@@ -80,6 +80,7 @@ const fn refused(refusal: Refusal) -> Answer {
 struct Part {
     table: [Cap; 8],
     written: Written,
+    states: Box<States>,
     tally: Tally,
     limits: Option<Limits>,
 }
@@ -89,6 +90,7 @@ impl Part {
         Part {
             table: [Cap::EMPTY; 8],
             written: Written::NONE,
+            states: Box::new(States::NOTHING),
             tally: Tally::default(),
             limits: None,
         }
@@ -97,7 +99,12 @@ impl Part {
     fn lend(&mut self) -> Lent<'_> {
         Lent {
             limits: self.limits.as_ref(),
-            ..Lent::new(&mut self.table, &mut self.written, &mut self.tally)
+            ..Lent::new(
+                &mut self.table,
+                &mut self.written,
+                &mut self.states,
+                &mut self.tally,
+            )
         }
     }
 
@@ -587,6 +594,7 @@ fn no_other_line_is_read() {
         let answer = run(
             &mut part.table,
             &mut part.written,
+            &mut part.states,
             &mut part.tally,
             line.as_bytes(),
         );
@@ -692,7 +700,13 @@ fn domain_0_acts_where_nothing_is_said() {
         write(1, WHOLE),
         drop(1),
     ] {
-        let answer = apply(&mut one.table, &mut one.written, &mut one.tally, event);
+        let answer = apply(
+            &mut one.table,
+            &mut one.written,
+            &mut one.states,
+            &mut one.tally,
+            event,
+        );
         assert_eq!(other.take(0, event), answer);
         assert_eq!(one, other);
     }

@@ -2,7 +2,8 @@
 
 use kelzoud::{
     apply, apply_all, drop_all, run, Access, Addr, Answer, Cap, Effect, Event, Kind, Lent, Name,
-    Origin, Outcome, Refusal, Request, Right, RunAnswer, Sheet, Span, Tally, Written, MAX_SHEET,
+    Origin, Outcome, Refusal, Request, Right, RunAnswer, Sheet, Span, States, Tally, Written,
+    MAX_SHEET,
 };
 
 const KINDS: [Kind; 3] = [Kind::Reference, Kind::Raw, Kind::Cell];
@@ -68,6 +69,7 @@ fn used(access: Access, name: u32) -> Event {
 struct Part {
     table: [Cap; 4],
     written: Written,
+    states: Box<States>,
     tally: Tally,
 }
 
@@ -75,7 +77,12 @@ impl Part {
     fn lend(&mut self, sheet: Sheet) -> Lent<'_> {
         Lent {
             sheet,
-            ..Lent::new(&mut self.table, &mut self.written, &mut self.tally)
+            ..Lent::new(
+                &mut self.table,
+                &mut self.written,
+                &mut self.states,
+                &mut self.tally,
+            )
         }
     }
 
@@ -362,13 +369,25 @@ fn without_a_sheet_it_is_the_default_one() {
         }
         let mut part = Part::default();
         for event in events {
-            apply(&mut part.table, &mut part.written, &mut part.tally, event);
+            apply(
+                &mut part.table,
+                &mut part.written,
+                &mut part.states,
+                &mut part.tally,
+                event,
+            );
         }
         assert_eq!(part, expected);
 
         let mut part = Part::default();
         for event in events {
-            Lent::new(&mut part.table, &mut part.written, &mut part.tally).apply(event);
+            Lent::new(
+                &mut part.table,
+                &mut part.written,
+                &mut part.states,
+                &mut part.tally,
+            )
+            .apply(event);
         }
         assert_eq!(part, expected);
 
@@ -378,6 +397,7 @@ fn without_a_sheet_it_is_the_default_one() {
         apply_all(
             &mut part.table,
             &mut part.written,
+            &mut part.states,
             &mut part.tally,
             &requests,
             &[],
@@ -388,6 +408,7 @@ fn without_a_sheet_it_is_the_default_one() {
             drop_all(
                 &mut part.table,
                 &mut part.written,
+                &mut part.states,
                 &mut part.tally,
                 &[Name(1)]
             ),
@@ -399,7 +420,13 @@ fn without_a_sheet_it_is_the_default_one() {
     let text = b"(create 0 8 rw)\n(borrow 1 0 8 rw)\n(read 1 0 8)\n(write 2 0 8)\n";
     let refusal = Refusal::ReadOnly;
     assert_eq!(
-        run(&mut part.table, &mut part.written, &mut part.tally, text),
+        run(
+            &mut part.table,
+            &mut part.written,
+            &mut part.states,
+            &mut part.tally,
+            text
+        ),
         RunAnswer::Refused { refusal, line: 4 }
     );
 }

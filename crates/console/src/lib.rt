@@ -3,6 +3,7 @@
 use libc::STDERR_FILENO;
 use libc::STDIN_FILENO;
 use libc::STDOUT_FILENO;
+use table::WIDTH;
 ghost use Rattle.console.specs.Read.{ReadInto};
 
 // What came of reading an input: so many bytes, or a read that failed.
@@ -13,7 +14,9 @@ enum Input {
 
 // Prints what `capcheck` prints of an input, or says on standard error that it could not.
 pub fn print_check(input: &[u8]) {
-    let printed = trace::check_text(input);
+    let mut stored = [[0u32; WIDTH]; 8200];
+    let mut copies = [0u8; 65536];
+    let printed = trace::check_text(input, &mut stored, &mut copies);
     let bytes = printed.bytes;
     let length = printed.length;
     if !io::write_all(STDOUT_FILENO, &bytes[..length]) {

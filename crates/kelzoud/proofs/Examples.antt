@@ -15,6 +15,7 @@ use Rattle.text.specs.Mask.{hex, hexFrom}
 use Rattle.text.specs.Write.{written, stored, writeEvent}
 use Rattle.text.specs.Read.{same, guess, readEvent}
 use Rattle.text.specs.Group.{spellGroup, namesFrom, guessNames, readGroup, writeGroup}
+use Rattle.text.specs.State.{spellSlot, readState, writeSlot}
 use Rattle.text.specs.Request.{readRequest, writeRequest}
 use Rattle.kelzoud_events.specs.Interface.{packed, eventWith, eventIn, askedIn, part, requestIn, wordsOf}
 use Rattle.kelzoud.specs.Interface.{packedResult, packedRead, spellingIn, eventAfter, groupAfter}
@@ -29,7 +30,7 @@ read-create : (reading 0 "(create 16 64 rw)\n" ≡ (0, 1 ∷ 0 ∷ 16 ∷ 64 ∷
     × (reading 1 "(create 16 64 rw)\n" ≡ (2 * 4294967296, replicate 12 5, replicate 4 5))
     × (reading 0 "(create 16 64 rw fresh)\n" ≡ (0, 1 ∷ 0 ∷ 16 ∷ 64 ∷ 2 ∷ 0 ∷ 0 ∷ 0 ∷ 1 ∷ 0 ∷ 1 ∷ 0 ∷ [], replicate 4 5))
     × (reading 1 "(create 3 16 64 ro fresh)\n" ≡ (0, 1 ∷ 0 ∷ 16 ∷ 64 ∷ 1 ∷ 1 ∷ 3 ∷ 0 ∷ 1 ∷ 0 ∷ 1 ∷ 0 ∷ [], replicate 4 5))
-unfolding packed wordsOf readEvent guess through classOf numberFrom same hasSpelling writesName spell form spaced hex hexFrom hasBit decimal numeral risesAbove risesStrictly isGroup spellGroup namesFrom guessNames readGroup
+unfolding packed wordsOf readEvent guess through classOf numberFrom same hasSpelling writesName spell form spaced hex hexFrom hasBit decimal numeral risesAbove risesStrictly isGroup spellGroup namesFrom guessNames readGroup spellSlot readState
 read-create = (refl, refl, refl, refl, refl)
 
 -- a borrow of each kind; a kind that has no word is not read, nor a mark
@@ -38,14 +39,14 @@ read-borrow : (reading 0 "(borrow 1 0 8 ro)\n" ≡ (0, 2 ∷ 1 ∷ 0 ∷ 8 ∷ 1
     × (reading 1 "(borrow 2 1 0 8 rw cell)\n" ≡ (0, 2 ∷ 1 ∷ 0 ∷ 8 ∷ 2 ∷ 1 ∷ 2 ∷ 2 ∷ 0 ∷ 0 ∷ 1 ∷ 0 ∷ [], replicate 4 5))
     × (reading 0 "(borrow 1 0 8 rw reference)\n" ≡ (2 * 4294967296, replicate 12 5, replicate 4 5))
     × (reading 0 "(borrow 1 0 8 rw fresh)\n" ≡ (2 * 4294967296, replicate 12 5, replicate 4 5))
-unfolding packed wordsOf readEvent guess through classOf numberFrom same hasSpelling writesName spell form spaced hex hexFrom hasBit decimal numeral risesAbove risesStrictly isGroup spellGroup namesFrom guessNames readGroup
+unfolding packed wordsOf readEvent guess through classOf numberFrom same hasSpelling writesName spell form spaced hex hexFrom hasBit decimal numeral risesAbove risesStrictly isGroup spellGroup namesFrom guessNames readGroup spellSlot readState
 read-borrow = (refl, refl, refl, refl, refl)
 
 -- one name is a drop, two are dropped together; names that do not rise are refused, and leave all
 read-drop : (reading 0 "(drop 8)\n" ≡ (0, 5 ∷ 8 ∷ 0 ∷ 0 ∷ 0 ∷ 0 ∷ 0 ∷ 0 ∷ 0 ∷ 0 ∷ 0 ∷ 0 ∷ [], replicate 4 5))
     × (reading 1 "(drop 8 9)\n" ≡ (0, 6 ∷ 0 ∷ 0 ∷ 2 ∷ 0 ∷ 0 ∷ 0 ∷ 0 ∷ 0 ∷ 0 ∷ 0 ∷ 0 ∷ [], 8 ∷ 9 ∷ 5 ∷ 5 ∷ []))
     × (reading 0 "(drop 9 8)\n" ≡ (2 * 4294967296, replicate 12 5, replicate 4 5))
-unfolding packed wordsOf readEvent guess through classOf numberFrom same hasSpelling writesName spell form spaced hex hexFrom hasBit decimal numeral risesAbove risesStrictly isGroup spellGroup namesFrom guessNames readGroup
+unfolding packed wordsOf readEvent guess through classOf numberFrom same hasSpelling writesName spell form spaced hex hexFrom hasBit decimal numeral risesAbove risesStrictly isGroup spellGroup namesFrom guessNames readGroup spellSlot readState
 read-drop = (refl, refl, refl)
 
 -- who acts, and to whom a create or a borrow gives: the maker alone where the line has no mask
@@ -53,7 +54,7 @@ read-domains : (reading 0 "(as 3 (create 0 8 rw))\n" ≡ (0, 1 ∷ 0 ∷ 0 ∷ 8
     × (reading 0 "(as 63 (borrow 1 0 8 rw 8000000300000000))\n" ≡ (0, 2 ∷ 1 ∷ 0 ∷ 8 ∷ 2 ∷ 0 ∷ 0 ∷ 0 ∷ 0 ∷ 63 ∷ 0 ∷ 2147483651 ∷ [], replicate 4 5))
     × (reading 0 "(as 7 (drop 8 9))\n" ≡ (0, 6 ∷ 0 ∷ 0 ∷ 2 ∷ 0 ∷ 0 ∷ 0 ∷ 0 ∷ 0 ∷ 7 ∷ 0 ∷ 0 ∷ [], 8 ∷ 9 ∷ 5 ∷ 5 ∷ []))
     × (reading 0 "(as 64 (drop 8))\n" ≡ (2 * 4294967296, replicate 12 5, replicate 4 5))
-unfolding packed wordsOf readEvent guess through classOf numberFrom same hasSpelling writesName spell form spaced hex hexFrom hasBit decimal numeral risesAbove risesStrictly isGroup spellGroup namesFrom guessNames readGroup
+unfolding packed wordsOf readEvent guess through classOf numberFrom same hasSpelling writesName spell form spaced hex hexFrom hasBit decimal numeral risesAbove risesStrictly isGroup spellGroup namesFrom guessNames readGroup spellSlot readState
 read-domains = (refl, refl, refl, refl)
 
 -- what the words of an event write into twenty bytes: the answer, and the buffer
@@ -87,7 +88,7 @@ unfolding packed askedIn eventIn eventWith part writeEvent writeGroup written st
 written-marks = (refl, refl, refl, refl, refl)
 
 -- 2 for an unknown kind and an unknown right, 13 for names past the end of their list, and 11 where the line is too long; the buffer stays
-refused-lines : (writing (7 ∷ 0 ∷ 16 ∷ 64 ∷ 2 ∷ 0 ∷ 0 ∷ 0 ∷ 0 ∷ 0 ∷ 0 ∷ 0 ∷ []) ≡ (2 * 4294967296, bytes "...................."))
+refused-lines : (writing (9 ∷ 0 ∷ 16 ∷ 64 ∷ 2 ∷ 0 ∷ 0 ∷ 0 ∷ 0 ∷ 0 ∷ 0 ∷ 0 ∷ []) ≡ (2 * 4294967296, bytes "...................."))
     × (writing (1 ∷ 0 ∷ 16 ∷ 64 ∷ 258 ∷ 1 ∷ 3 ∷ 0 ∷ 0 ∷ 0 ∷ 1 ∷ 0 ∷ []) ≡ (2 * 4294967296, bytes "...................."))
     × (writing (6 ∷ 0 ∷ 1 ∷ 2 ∷ 0 ∷ 0 ∷ 0 ∷ 0 ∷ 0 ∷ 0 ∷ 0 ∷ 0 ∷ []) ≡ (13 * 4294967296, bytes "...................."))
     × (writing (1 ∷ 0 ∷ 16 ∷ 64 ∷ 2 ∷ 1 ∷ 33 ∷ 0 ∷ 0 ∷ 0 ∷ 1 ∷ 0 ∷ []) ≡ (11 * 4294967296, bytes "...................."))
@@ -104,3 +105,17 @@ written-domains : (writing (5 ∷ 8 ∷ 0 ∷ 0 ∷ 0 ∷ 0 ∷ 0 ∷ 0 ∷ 0 �
     × (writing (1 ∷ 0 ∷ 0 ∷ 8 ∷ 2 ∷ 0 ∷ 0 ∷ 0 ∷ 0 ∷ 0 ∷ 3 ∷ 0 ∷ []) ≡ (11 * 4294967296, bytes "...................."))
 unfolding packed askedIn eventIn eventWith part writeEvent writeGroup written stored hasSpelling writesName spell form spaced hex hexFrom hasBit decimal numeral risesAbove risesStrictly isGroup spellGroup
 written-domains = (refl, refl, refl, refl, refl, refl)
+
+-- a mark and a back, in both kinds of texts, and who acts; a slot above 7 is refused, and leaves all
+read-states : (reading 0 "(mark 3)\n" ≡ (0, 7 ∷ 3 ∷ 0 ∷ 0 ∷ 0 ∷ 0 ∷ 0 ∷ 0 ∷ 0 ∷ 0 ∷ 0 ∷ 0 ∷ [], replicate 4 5))
+    × (reading 1 "(as 63 (back 7))\n" ≡ (0, 8 ∷ 7 ∷ 0 ∷ 0 ∷ 0 ∷ 0 ∷ 0 ∷ 0 ∷ 0 ∷ 63 ∷ 0 ∷ 0 ∷ [], replicate 4 5))
+    × (reading 0 "(mark 8)\n" ≡ (2 * 4294967296, replicate 12 5, replicate 4 5))
+unfolding packed wordsOf readEvent guess through classOf numberFrom same hasSpelling writesName spell form spaced hex hexFrom hasBit decimal numeral risesAbove risesStrictly isGroup spellGroup namesFrom guessNames readGroup spellSlot readState
+read-states = (refl, refl, refl)
+
+-- they are written so, whatever stands in the words that they lack
+written-states : (writing (7 ∷ 3 ∷ 9 ∷ 9 ∷ 9 ∷ 9 ∷ 9 ∷ 9 ∷ 9 ∷ 0 ∷ 9 ∷ 9 ∷ []) ≡ (9, bytes "(mark 3)\n..........."))
+    × (writing (8 ∷ 0 ∷ 0 ∷ 0 ∷ 0 ∷ 0 ∷ 0 ∷ 0 ∷ 0 ∷ 1 ∷ 0 ∷ 0 ∷ []) ≡ (16, bytes "(as 1 (back 0))\n...."))
+    × (writing (8 ∷ 8 ∷ 0 ∷ 0 ∷ 0 ∷ 0 ∷ 0 ∷ 0 ∷ 0 ∷ 0 ∷ 0 ∷ 0 ∷ []) ≡ (2 * 4294967296, bytes "...................."))
+unfolding packed askedIn eventIn eventWith part writeEvent writeGroup writeSlot written stored hasSpelling writesName spell form spaced hex hexFrom hasBit decimal numeral risesAbove risesStrictly isGroup spellGroup spellSlot
+written-states = (refl, refl, refl)

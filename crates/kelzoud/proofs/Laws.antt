@@ -1,18 +1,23 @@
--- The answer of a run, taken apart, and how many names a line reads as.
+-- The answer of a run, taken apart, how many names a line reads as, and that a mark or back reads as none.
 -- Assumes nothing.
 use mathlib.Core.Path.{_≡_, refl, sym, ap, _∙_}
 use mathlib.Core.List.{List}
 use Prim.Native.Nat.{ℕ, _≤_}
 use native.Mathlib.Omega.{arith}
 use lib.ListN.{length}
+use Rattle.model.specs.declared.Asked.{Asked}
+use Rattle.model.specs.declared.Asked.the-variants as asked
+use Rattle.model.specs.declared.Work.the-variants as work
+use Rattle.model.specs.Requests.{Unlimited}
 use Rattle.model.specs.Step.{State}
 use Rattle.text.specs.Result.{Result, value, refused}
 use Rattle.text.specs.Group.{readGroup, countOf}
+use Rattle.text.specs.Request.{stateOf}
 use Rattle.text.proofs.Offered.{group-few, read-group-is-spelling}
 use Rattle.trace.specs.declared.run.RunAnswer.{RunAnswer}
 use Rattle.trace.specs.declared.run.RunAnswer.the-variants.{Allowed, Refused}
 use Rattle.trace.specs.Run.{Ran, ranOf}
-use Rattle.kelzoud.specs.Interface.{packedRan, packedRun}
+use Rattle.kelzoud.specs.Interface.{packedRan, packedRun, groupAfter}
 
 -- what a run answers and leaves, taken apart
 pub ran-parts : (a : RunAnswer) (h : State) (x : Ran State) → ranOf a h ≡ x → (h ≡ x .state) × (packedRun a ≡ packedRan x)
@@ -50,3 +55,11 @@ unread line k = go (readGroup line) refl
     go : (r : Result (ℕ × List ℕ)) → readGroup line ≡ r → refused k ≡ countOf r → readGroup line ≡ refused k
     go (value g) is e = absurd (let z : _≡_ {A = ℕ} 0 1 = cc in omega arith)
     go (refused x) is e = let h : x ≡ k = cc in is ∙ ap (λ (n : ℕ). refused n) h
+
+-- a mark or back leaves the names that are lent, and so does what is asked with none
+pub state-names : (r : Result Asked) (before : List ℕ) → before ≡ groupAfter (stateOf Unlimited r) before
+state-names (value (asked.Work (work.Single actor e))) before = refl
+state-names (value (asked.Work (work.Group actor))) before = refl
+state-names (value (asked.Mark actor k)) before = refl
+state-names (value (asked.Back actor k)) before = refl
+state-names (refused x) before = refl

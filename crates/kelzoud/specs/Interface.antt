@@ -7,7 +7,7 @@ use mathlib.Core.List.{List}
 use lib.Dec.{eqb}
 use lib.Seq.{sets}
 use Rattle.model.specs.Answers.{number}
-use Rattle.model.specs.Requests.{Request, Single, Group}
+use Rattle.model.specs.Requests.{Request, Single, Group, Mark, Back}
 use Rattle.model.specs.Step.{State}
 use Rattle.text.specs.Result.{Result, value, refused}
 use Rattle.text.specs.declared.spelling.Spelling.{Spelling}
@@ -44,8 +44,10 @@ abbrev pub eventAfter : Result Request → List ℕ → List ℕ
 eventAfter (value q) before = wordsOf q
 eventAfter (refused k) before = before
 
--- the names after it: those that are dropped together first, and the later ones as they were; a single event and a refusal leave all
+-- the names after it: those that are dropped together first, and the later ones as they were; whatever else is read, and a refusal, leaves all
 abbrev pub groupAfter : Result Request → List ℕ → List ℕ
 groupAfter (value (Single by e)) before = before
 groupAfter (value (Group by names)) before = sets before 0 names
+groupAfter (value (Mark by k)) before = before
+groupAfter (value (Back by k)) before = before
 groupAfter (refused k) before = before

@@ -32,32 +32,37 @@ ghost use Rattle.table.specs.Words.{rowsIn};
 ghost use Rattle.table.specs.Sheets.{bytesOf, sheetLent};
 ghost use Rattle.table.specs.Limits.{limitsIn};
 ghost use Rattle.table.specs.Lent.{tallyIn, lent};
+ghost use Rattle.table.specs.States.{statesIn, emptied};
 ghost use Rattle.text.specs.Request.{readRequest, writeRequest};
-ghost use Rattle.text.specs.Write.{written, stored};
-ghost use Rattle.trace.specs.Check.{checkText};
+ghost use Rattle.text.specs.Write;
+ghost use Rattle.text.specs.Write.{written};
+ghost use Rattle.trace.specs.Check.{checkWith, storedWith};
 ghost use Rattle.trace.specs.Run;
 
 mod answers;
 mod requests;
 
-// A run of a text on the table, the bits and the tally that are lent, by the sheet that is lent, card 6's where no byte of one is, with the limits that
-// are lent, none where no number is.
+// A run of a text on the table, the bits, the memory for states and the tally that are lent, by the sheet that is lent, card 6's where no byte of
+// one is, with the limits that are lent, none where no number is.
 #[no_mangle]
 pub extern "C" fn kz_abi_run(
     table: &mut [Row],
     bits: &mut [u8],
+    stored: &mut [Row],
+    copies: &mut [u8],
     tally: &mut [u32; 7],
     sheet: &[u8],
     limits: &[u32],
     text: &[u8],
 ) -> u64
-    ensures { λ r. ⌜ (rowsIn (now (table .exit)) ≡ Run.run (sheetLent (now (sheet .entry))) (limitsIn (now (limits .entry))) (lent (now (table .entry)) (now (bits .entry)) (now (tally .entry))) (now (text .entry)) .state .memory .table)
-        × (now (bits .exit) ≡ Run.run (sheetLent (now (sheet .entry))) (limitsIn (now (limits .entry))) (lent (now (table .entry)) (now (bits .entry)) (now (tally .entry))) (now (text .entry)) .state .memory .bits)
-        × (tallyIn (now (tally .exit)) ≡ Run.run (sheetLent (now (sheet .entry))) (limitsIn (now (limits .entry))) (lent (now (table .entry)) (now (bits .entry)) (now (tally .entry))) (now (text .entry)) .state .tally)
-        × (r ≡ packedRan (Run.run (sheetLent (now (sheet .entry))) (limitsIn (now (limits .entry))) (lent (now (table .entry)) (now (bits .entry)) (now (tally .entry))) (now (text .entry)))) ⌝ }
+    ensures { λ r. ⌜ (rowsIn (now (table .exit)) ≡ Run.run (sheetLent (now (sheet .entry))) (limitsIn (now (limits .entry))) (lent (now (table .entry)) (now (bits .entry)) (now (stored .entry)) (now (copies .entry)) (now (tally .entry))) (now (text .entry)) .state .memory .table)
+        × (now (bits .exit) ≡ Run.run (sheetLent (now (sheet .entry))) (limitsIn (now (limits .entry))) (lent (now (table .entry)) (now (bits .entry)) (now (stored .entry)) (now (copies .entry)) (now (tally .entry))) (now (text .entry)) .state .memory .bits)
+        × (statesIn (now (stored .exit)) (now (copies .exit)) ≡ Run.run (sheetLent (now (sheet .entry))) (limitsIn (now (limits .entry))) (lent (now (table .entry)) (now (bits .entry)) (now (stored .entry)) (now (copies .entry)) (now (tally .entry))) (now (text .entry)) .state .slots)
+        × (tallyIn (now (tally .exit)) ≡ Run.run (sheetLent (now (sheet .entry))) (limitsIn (now (limits .entry))) (lent (now (table .entry)) (now (bits .entry)) (now (stored .entry)) (now (copies .entry)) (now (tally .entry))) (now (text .entry)) .state .tally)
+        × (r ≡ packedRan (Run.run (sheetLent (now (sheet .entry))) (limitsIn (now (limits .entry))) (lent (now (table .entry)) (now (bits .entry)) (now (stored .entry)) (now (copies .entry)) (now (tally .entry))) (now (text .entry)))) ⌝ }
 {
     let bytes = sheet_lent(sheet);
-    let answer = run(table, bits, tally, &bytes, limits, text);
+    let answer = run(table, bits, stored, copies, tally, &bytes, limits, text);
     packed_run(answer)
 }
 
@@ -132,12 +137,18 @@ pub extern "C" fn kz_abi_write_sheet(sheet: &[u8], out: &mut [u8]) -> u64
     packed_written(answer)
 }
 
-// Writes what `capcheck` prints of an input.
+// Writes what `capcheck` prints of an input. The memory for states is lent to work in: it is emptied first, and has then what the run stored.
 #[no_mangle]
-pub extern "C" fn kz_abi_check(input: &[u8], out: &mut [u8]) -> u64
-    ensures { λ r. ⌜ (r ≡ packedResult (written true (checkText (now (input .entry))) (now (out .entry))))
-        × (now (out .exit) ≡ stored true (checkText (now (input .entry))) (now (out .entry))) ⌝ }
+pub extern "C" fn kz_abi_check(
+    input: &[u8],
+    stored: &mut [Row],
+    copies: &mut [u8],
+    out: &mut [u8],
+) -> u64
+    ensures { λ r. ⌜ (r ≡ packedResult (written true (checkWith (emptied (statesIn (now (stored .entry)) (now (copies .entry)))) (now (input .entry))) (now (out .entry))))
+        × (now (out .exit) ≡ Write.stored true (checkWith (emptied (statesIn (now (stored .entry)) (now (copies .entry)))) (now (input .entry))) (now (out .entry)))
+        × (statesIn (now (stored .exit)) (now (copies .exit)) ≡ storedWith (emptied (statesIn (now (stored .entry)) (now (copies .entry)))) (now (input .entry))) ⌝ }
 {
-    let answer = check(input, out);
+    let answer = check(input, stored, copies, out);
     packed_written(answer)
 }

@@ -2,24 +2,34 @@
 use kelzoud_events::answers::pack;
 use kelzoud_events::answers::pack_refusal;
 use kelzoud_events::events::Words;
+use kelzoud_events::events::back_words;
 use kelzoud_events::events::group_words;
+use kelzoud_events::events::mark_words;
 use kelzoud_events::events::words_of;
 use model::Asked;
 use model::Event;
 use model::NewName;
+use model::Work;
 use text::group::GroupRead;
 use text::group::read_group;
 use text::group::write_group;
 use text::read::EventRead;
 use text::read::read_event;
 use text::spelling::Spelling;
+use text::states::StateRead;
+use text::states::read_state;
+use text::states::write_back;
+use text::states::write_mark;
 use text::write::Written;
 use text::write::write_event;
 ghost use mathlib.Core.Path.{_≡_};
-ghost use Rattle.model.specs.Requests.{Unlimited, requestOf};
+ghost use mathlib.Core.List.{[]};
+ghost use Rattle.model.specs.Requests.{Unlimited, workOf, requestOf};
 ghost use Rattle.text.specs.Group.{readGroup};
-ghost use Rattle.text.specs.Request.{groupOf, readRequest, spellingWith, spellingOf, writeRequest};
+ghost use Rattle.text.specs.State.{readState};
+ghost use Rattle.text.specs.Request.{stateOf, orState, readRequest, spellingWith, spellingOf, writeRequest};
 ghost use Rattle.text.specs.Write.{outcome};
+ghost use Rattle.kelzoud_events.specs.Interface.{wordsOf};
 ghost use Rattle.kelzoud.specs.Interface.{packedRead, spellingIn, eventAfter, groupAfter};
 
 // The spelling that C asks for.
@@ -55,21 +65,68 @@ fn spelling_of(event: Event) -> Spelling
     }
 }
 
+// Writes the line of work.
+fn write_work(work: Work, names: &[u32], out: &mut [u8]) -> Written
+    ensures { λ r. ⌜ outcome r (now (out .exit)) ≡ writeRequest (workOf Unlimited work (now (names .entry))) (now (out .entry)) ⌝ }
+{
+    match work {
+        Work::Single(actor, event) => write_event(spelling_of(event), actor, event, out),
+        Work::Group(actor) => write_group(actor, names, out),
+    }
+}
+
 // Writes the line of what is asked.
 pub fn write_request(asked: Asked, names: &[u32], out: &mut [u8]) -> Written
     ensures { λ r. ⌜ outcome r (now (out .exit)) ≡ writeRequest (requestOf Unlimited asked (now (names .entry))) (now (out .entry)) ⌝ }
 {
     match asked {
-        Asked::Single(actor, event) => write_event(spelling_of(event), actor, event, out),
-        Asked::Group(actor) => write_group(actor, names, out),
+        Asked::Work(work) => write_work(work, names, out),
+        Asked::Mark(actor, slot) => write_mark(actor, slot, out),
+        Asked::Back(actor, slot) => write_back(actor, slot, out),
     }
 }
 
-// Reads a line that is no event: the names that it drops together.
+// The words of work with no names.
+fn work_words(work: Work) -> Words
+    ensures { λ r. ⌜ r ≡ wordsOf (workOf Unlimited work []) ⌝ }
+{
+    match work {
+        Work::Single(actor, event) => words_of(actor, event),
+        Work::Group(actor) => group_words(actor, 0),
+    }
+}
+
+// The words of what is asked with no names.
+fn asked_words(asked: Asked) -> Words
+    ensures { λ r. ⌜ r ≡ wordsOf (requestOf Unlimited asked []) ⌝ }
+{
+    match asked {
+        Asked::Work(work) => work_words(work),
+        Asked::Mark(actor, slot) => mark_words(actor, slot),
+        Asked::Back(actor, slot) => back_words(actor, slot),
+    }
+}
+
+// Reads a line that is no event and drops no names together: a mark or a back.
+fn read_slot(line: &[u8], event: &mut Words) -> u64
+    ensures { λ r. ⌜ (r ≡ packedRead (stateOf Unlimited (readState (now (line .entry)))))
+        × (now (event .exit) ≡ eventAfter (stateOf Unlimited (readState (now (line .entry)))) (now (event .entry))) ⌝ }
+{
+    let found = read_state(line);
+    match found {
+        StateRead::Asked(asked) => {
+            *event = asked_words(asked);
+            pack(0, 0)
+        }
+        StateRead::Refused(refusal) => pack_refusal(refusal, 0),
+    }
+}
+
+// Reads a line that is no event: the names that it drops together, or a mark or a back.
 fn read_names(line: &[u8], event: &mut Words, names: &mut [u32; 64]) -> u64
-    ensures { λ r. ⌜ (r ≡ packedRead (groupOf Unlimited (readGroup (now (line .entry)))))
-        × (now (event .exit) ≡ eventAfter (groupOf Unlimited (readGroup (now (line .entry)))) (now (event .entry)))
-        × (now (names .exit) ≡ groupAfter (groupOf Unlimited (readGroup (now (line .entry)))) (now (names .entry))) ⌝ }
+    ensures { λ r. ⌜ (r ≡ packedRead (orState Unlimited (now (line .entry)) (readGroup (now (line .entry)))))
+        × (now (event .exit) ≡ eventAfter (orState Unlimited (now (line .entry)) (readGroup (now (line .entry)))) (now (event .entry)))
+        × (now (names .exit) ≡ groupAfter (orState Unlimited (now (line .entry)) (readGroup (now (line .entry)))) (now (names .entry))) ⌝ }
 {
     let found = read_group(line, names);
     match found {
@@ -77,11 +134,11 @@ fn read_names(line: &[u8], event: &mut Words, names: &mut [u32; 64]) -> u64
             *event = group_words(actor, count as u32);
             pack(0, 0)
         }
-        GroupRead::Refused(refusal) => pack_refusal(refusal, 0),
+        GroupRead::Refused(_) => read_slot(line, event),
     }
 }
 
-// Reads a line: the event that it spells, or the names that it drops together.
+// Reads a line: the event that it spells, or the names that it drops together, or the mark or the back.
 pub fn read_request(
     spelling: Spelling,
     line: &[u8],

@@ -1,4 +1,4 @@
--- The numbers of answers: no refusal's is above 18, and a refusal and a value that are packed into one number are found again in it. And the
+-- The numbers of answers: no refusal's is above 19, and a refusal and a value that are packed into one number are found again in it. And the
 -- words of a request stand for it.
 -- Assumes nothing.
 use mathlib.Core.Path.{_≡_, refl, sym, ap, ap₂, _∙_}
@@ -14,14 +14,14 @@ use Rattle.model.specs.declared.NewName.{NewName}
 use Rattle.model.specs.declared.NewName.the-variants.{Unwritten, Written}
 use Rattle.model.specs.declared.Event.{Event}
 use Rattle.model.specs.declared.Event.the-variants.{Create, Borrow, Read, Write, Drop}
-use Rattle.model.specs.Requests.{Limits, Caller, Single, Group, caller}
+use Rattle.model.specs.Requests.{Limits, Caller, Single, Group, Mark, Back, caller}
 use Rattle.table.specs.Words.{maskOf, lowHalf, highHalf}
 use Rattle.model.specs.declared.Refusal.{Refusal}
-use Rattle.model.specs.declared.Refusal.the-variants.{Disordered, Misspelt, IllegalSpan, Unissued, Ended, OutsideSpan, ReadOnly, TooDeep, NamesSpent, TableFull, BufferTooShort, Misnamed, Misgrouped, GivenTwice, NotGiven, NotWritten, NoHolder, LimitReached}
+use Rattle.model.specs.declared.Refusal.the-variants.{Disordered, Misspelt, IllegalSpan, Unissued, Ended, OutsideSpan, ReadOnly, TooDeep, NamesSpent, TableFull, BufferTooShort, Misnamed, Misgrouped, GivenTwice, NotGiven, NotWritten, NoHolder, LimitReached, NothingStored}
 use Rattle.model.specs.Answers.{number}
 use Rattle.kelzoud_events.specs.Interface.{packed, rootTerms, childTerms, eventWith, rightIn, kindIn, freshIn, newIn, eventIn, askedIn, part, requestIn, namedOf, writtenOf, wordsOf}
 
-pub number-small : (r : Refusal) → number r ≤ 18
+pub number-small : (r : Refusal) → number r ≤ 19
 number-small Disordered = omega arith
 number-small Misspelt = omega arith
 number-small IllegalSpan = omega arith
@@ -40,6 +40,7 @@ number-small NotGiven = omega arith
 number-small NotWritten = omega arith
 number-small NoHolder = omega arith
 number-small LimitReached = omega arith
+number-small NothingStored = omega arith
 
 -- ---- a refusal and a value in one number
 
@@ -117,3 +118,12 @@ event-back by limits (Drop n) names h = refl
 pub group-back : (by : Caller) (limits : Limits) (names rest : List ℕ) → requestIn limits (wordsOf (Group by names)) (names ++ rest) ≡ Group (caller (by .actor) limits) names
 unfolding wordsOf askedIn part
 group-back by limits names rest = rw (le-leb (0 + length names) (length (names ++ rest)) (omega (arith, length-append names rest)), take-append-seam names rest)
+
+-- and the slot of a mark or a back is found again
+pub mark-back : (by : Caller) (limits : Limits) (k : ℕ) (names : List ℕ) → requestIn limits (wordsOf (Mark by k)) names ≡ Mark (caller (by .actor) limits) k
+unfolding wordsOf askedIn
+mark-back by limits k names = refl
+
+pub back-back : (by : Caller) (limits : Limits) (k : ℕ) (names : List ℕ) → requestIn limits (wordsOf (Back by k)) names ≡ Back (caller (by .actor) limits) k
+unfolding wordsOf askedIn
+back-back by limits k names = refl

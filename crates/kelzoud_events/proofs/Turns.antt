@@ -1,7 +1,7 @@
 -- Requests in turn: one more, and all of them on what is refused as it is lent.
 -- Assumes nothing.
 use mathlib.Core.Path.{_≡_, refl, sym, ap, ap₂, _∙_}
-use mathlib.Core.Bool.{true}
+use mathlib.Core.Bool.{true, or-true}
 use mathlib.Core.List.{List, [], _∷_, _++_, map, map-append}
 use Prim.Native.Nat.{ℕ, zero, suc, _+_, _≤_, _<_}
 use native.Mathlib.Numerals.{add-one}
@@ -10,6 +10,7 @@ use lib.ListN.{length, getD, set, drop, replicate, length-map, length-replicate,
 use lib.Seq.{take-suc, drop-cons, set-at, append-snoc, length-take-le}
 use Rattle.model.specs.declared.Asked.{Asked}
 use Rattle.model.specs.declared.Asked.the-variants as ask
+use Rattle.model.specs.declared.Work.the-variants as work
 use Rattle.model.specs.Requests.{Limits, Request, callerOf, requestOf}
 use Rattle.model.specs.Lists.{final, answers}
 use Rattle.model.specs.Refusals.{unfit, refusals, judge}
@@ -17,6 +18,7 @@ use Rattle.model.specs.declared.Sheet.{Sheet}
 use Rattle.model.specs.Step.{State, view, after, answer}
 use Rattle.model.proofs.Offered.{final-append, answers-append}
 use Rattle.table.specs.Words.{rowsIn}
+use Rattle.table.specs.States.{statesIn}
 use Rattle.table.specs.Lent.{tallyIn, lent}
 use Rattle.kelzoud_events.specs.Interface.{answerWords, askedIn, namesIn, requestIn}
 use Rattle.kelzoud_events.specs.Batch.{requestsIn, afterFirst, answersFirst, Ran}
@@ -74,12 +76,14 @@ module _ (limits : Limits) (names : List ℕ) where
 module _ (sheet : Sheet) (limits : Limits) (h : State) (d : unfit limits (view h) ≡ true) where
   unchanged : (q : Request) → callerOf q .limits ≡ limits → (after sheet h q ≡ h) × (answerWords (answer h q) ≡ one)
   unfolding judge refusals after answer
-  unchanged q l = (rw (l, d), rw (l, d))
+  unchanged q l = (rw (l, d, or-true), rw (l, d, or-true))
 
   -- the limits of each are those that are lent
   lent-with : (a : Asked) (ns : List ℕ) → callerOf (requestOf limits a ns) .limits ≡ limits
-  lent-with (ask.Single actor e) ns = refl
-  lent-with (ask.Group actor) ns = refl
+  lent-with (ask.Work (work.Single actor e)) ns = refl
+  lent-with (ask.Work (work.Group actor)) ns = refl
+  lent-with (ask.Mark actor k) ns = refl
+  lent-with (ask.Back actor k) ns = refl
 
   all-unchanged : (ws : List (List ℕ)) (names : List ℕ) (m : ℕ) → (final (after sheet) h (requestsIn limits ws names m) ≡ h) × (map answerWords (answers (after sheet) answer h (requestsIn limits ws names m)) ≡ replicate (length (requestsIn limits ws names m)) one)
   all-unchanged ws names zero = (refl, refl)
@@ -99,10 +103,10 @@ pub refused-more : (i : ℕ) (out out₁ : List (List ℕ)) → i < length out �
 refused-more i out out₁ l q = put (replicate i one) out out₁ i one (length-replicate {A = List ℕ} i one) l q ∙ ap (λ (x : List (List ℕ)). x ++ drop (i + 1) out) (replicate-append-replicate {A = List ℕ} i 1 one)
 
 -- what a batch leaves, part by part
-abbrev pub Left : Sheet → Limits → State → List (List ℕ) → List ℕ → ℕ → List (List ℕ) → List (List ℕ) → List ℕ → List ℕ → List (List ℕ) → Type 0
-Left sheet limits h events names m out ws′ bs′ w′ out′ =
-    (rowsIn ws′ ≡ afterFirst sheet limits h events names m .memory .table) × (bs′ ≡ afterFirst sheet limits h events names m .memory .bits) × (tallyIn w′ ≡ afterFirst sheet limits h events names m .tally) × (out′ ≡ answersFirst sheet limits h events names m out)
+abbrev pub Left : Sheet → Limits → State → List (List ℕ) → List ℕ → ℕ → List (List ℕ) → List (List ℕ) → List ℕ → List (List ℕ) → List ℕ → List ℕ → List (List ℕ) → Type 0
+Left sheet limits h events names m out ws′ bs′ stored′ copies′ w′ out′ =
+    (rowsIn ws′ ≡ afterFirst sheet limits h events names m .memory .table) × (bs′ ≡ afterFirst sheet limits h events names m .memory .bits) × (statesIn stored′ copies′ ≡ afterFirst sheet limits h events names m .slots) × (tallyIn w′ ≡ afterFirst sheet limits h events names m .tally) × (out′ ≡ answersFirst sheet limits h events names m out)
 
-pub left : (sheet : Sheet) (limits : Limits) (h : State) (events : List (List ℕ)) (names : List ℕ) (m : ℕ) (out ws′ : List (List ℕ)) (bs′ w′ : List ℕ) (out′ : List (List ℕ)) → Ran sheet limits h events names m out (lent ws′ bs′ w′) out′
-    → Left sheet limits h events names m out ws′ bs′ w′ out′
-left sheet limits h events names m out ws′ bs′ w′ out′ r = (ap (λ (x : State). x .memory .table) (r .state), ap (λ (x : State). x .memory .bits) (r .state), ap (λ (x : State). x .tally) (r .state), r .said)
+pub left : (sheet : Sheet) (limits : Limits) (h : State) (events : List (List ℕ)) (names : List ℕ) (m : ℕ) (out ws′ : List (List ℕ)) (bs′ : List ℕ) (stored′ : List (List ℕ)) (copies′ w′ : List ℕ) (out′ : List (List ℕ)) → Ran sheet limits h events names m out (lent ws′ bs′ stored′ copies′ w′) out′
+    → Left sheet limits h events names m out ws′ bs′ stored′ copies′ w′ out′
+left sheet limits h events names m out ws′ bs′ stored′ copies′ w′ out′ r = (ap (λ (x : State). x .memory .table) (r .state), ap (λ (x : State). x .memory .bits) (r .state), ap (λ (x : State). x .slots) (r .state), ap (λ (x : State). x .tally) (r .state), r .said)

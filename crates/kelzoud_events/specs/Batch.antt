@@ -1,4 +1,4 @@
--- A batch: the events that are lent, in turn, on the table, the bits and the tally that are lent.
+-- A batch: the events that are lent, in turn, on the table, the bits, the memory for states and the tally that are lent.
 -- Assumes nothing.
 use Prim.Native.Nat.{ℕ, min}
 use mathlib.Core.Path.{_≡_}
@@ -19,7 +19,8 @@ abbrev pub taken : List (List ℕ) → List (List ℕ) → ℕ
 taken events out = min (length events) (length out)
 
 module _ (sheet : Sheet) (limits : Limits) where
-  -- the state after them, by a sheet and with limits, or none, that are lent for all: one that is refused stops nothing
+  -- the state after them, by a sheet and with limits, or none, that are lent for all: one that is refused stops nothing, so that a back
+  -- may be refused 1, for what is stored, and the next one be allowed
   abbrev pub afterFirst : State → List (List ℕ) → List ℕ → ℕ → State
   afterFirst h events names m = final (after sheet) h (requestsIn limits events names m)
 

@@ -1,6 +1,6 @@
 -- Events and answers as the numbers that pass between this library and C. An event is twelve words of 32 bits: its kind, name, start, length and
 -- right, whether its new name is written out, that name, the kind of capability that a borrow makes, whether what a create makes is marked, the
--- domain that acts, and the two halves of the mask of holders that a create or borrow gives.
+-- domain that acts, and the two halves of the mask of holders that a create or borrow gives. A mark or a back has its slot in the place of a name.
 -- Assumes nothing.
 use Prim.Native.Nat.{ℕ, _+_, _*_, min}
 use mathlib.Core.Bool.{cond}
@@ -14,9 +14,10 @@ use Rattle.model.specs.declared.NewName.{NewName}
 use Rattle.model.specs.declared.NewName.the-variants.{Unwritten, Written}
 use Rattle.model.specs.declared.Event.{Event}
 use Rattle.model.specs.declared.Event.the-variants.{Create, Borrow, Read, Write, Drop}
+use Rattle.model.specs.declared.Work.the-variants as work
 use Rattle.model.specs.declared.Asked.{Asked}
 use Rattle.model.specs.declared.Asked.the-variants as asked
-use Rattle.model.specs.Requests.{Limits, Request, Single, Group, requestOf}
+use Rattle.model.specs.Requests.{Limits, Request, Single, Group, Mark, Back, requestOf}
 use Rattle.model.specs.Charge.{Charge}
 use Rattle.model.specs.Step.{Verdict}
 use Rattle.table.specs.Words.{maskOf, lowHalf, highHalf}
@@ -92,9 +93,17 @@ eventIn w = eventWith (newIn (getD w 5 0) (getD w 6 0)) (getD w 0 0) (getD w 1 0
 abbrev pub actorIn : List ℕ → ℕ
 actorIn w = getD w 9 0
 
--- kind 6 asks that names are dropped together
+-- the slot of a mark or a back
+abbrev pub slotIn : List ℕ → ℕ
+slotIn w = getD w 1 0
+
+-- kind 6 asks that names are dropped together, 7 is a mark, and 8 a back
 unfoldable pub askedIn : List ℕ → Asked
-askedIn w = cond (eqb (getD w 0 0) 6) (asked.Group (actorIn w)) (asked.Single (actorIn w) (eventIn w))
+askedIn w =
+    cond (eqb (getD w 0 0) 6) (asked.Work (work.Group (actorIn w)))
+    (cond (eqb (getD w 0 0) 7) (asked.Mark (actorIn w) (slotIn w))
+    (cond (eqb (getD w 0 0) 8) (asked.Back (actorIn w) (slotIn w))
+    (asked.Work (work.Single (actorIn w) (eventIn w)))))
 
 -- names[start .. start + length]; none where that reaches past their end
 unfoldable pub part : ℕ → ℕ → List ℕ → List ℕ
@@ -104,7 +113,7 @@ part start size names = cond (leb (start + size) (length names)) (take size (dro
 abbrev pub namesIn : List ℕ → List ℕ → List ℕ
 namesIn w names = part (getD w 2 0) (getD w 3 0) names
 
--- the request that words are, with the limits that are lent beside them. An event has no use for the names
+-- the request that words are, with the limits that are lent beside them. Only a group has a use for the names
 abbrev pub requestIn : Limits → List ℕ → List ℕ → Request
 requestIn limits w names = requestOf limits (askedIn w) (namesIn w names)
 
@@ -122,6 +131,13 @@ writtenOf (Written x) = x .0
 abbrev pub groupWords : ℕ → ℕ → List ℕ
 groupWords actor count = 6 ∷ 0 ∷ 0 ∷ count ∷ 0 ∷ 0 ∷ 0 ∷ 0 ∷ 0 ∷ actor ∷ 0 ∷ 0 ∷ []
 
+-- the words of a mark, and of a back
+abbrev pub markWords : ℕ → ℕ → List ℕ
+markWords actor slot = 7 ∷ slot ∷ 0 ∷ 0 ∷ 0 ∷ 0 ∷ 0 ∷ 0 ∷ 0 ∷ actor ∷ 0 ∷ 0 ∷ []
+
+abbrev pub backWords : ℕ → ℕ → List ℕ
+backWords actor slot = 8 ∷ slot ∷ 0 ∷ 0 ∷ 0 ∷ 0 ∷ 0 ∷ 0 ∷ 0 ∷ actor ∷ 0 ∷ 0 ∷ []
+
 -- the words of a request, with 0 where its kind has no such value
 unfoldable pub wordsOf : Request → List ℕ
 wordsOf (Single by (Create w s r)) = 1 ∷ 0 ∷ s .start .0 ∷ s .length ∷ r .right ∷ namedOf w ∷ writtenOf w ∷ 0 ∷ r .fresh ∷ by .actor ∷ lowHalf (r .holders) ∷ highHalf (r .holders) ∷ []
@@ -130,6 +146,8 @@ wordsOf (Single by (Read n s)) = 3 ∷ n .0 ∷ s .start .0 ∷ s .length ∷ 0 
 wordsOf (Single by (Write n s)) = 4 ∷ n .0 ∷ s .start .0 ∷ s .length ∷ 0 ∷ 0 ∷ 0 ∷ 0 ∷ 0 ∷ by .actor ∷ 0 ∷ 0 ∷ []
 wordsOf (Single by (Drop n)) = 5 ∷ n .0 ∷ 0 ∷ 0 ∷ 0 ∷ 0 ∷ 0 ∷ 0 ∷ 0 ∷ by .actor ∷ 0 ∷ 0 ∷ []
 wordsOf (Group by names) = groupWords (by .actor) (length names)
+wordsOf (Mark by k) = markWords (by .actor) k
+wordsOf (Back by k) = backWords (by .actor) k
 
 -- ---- charges
 

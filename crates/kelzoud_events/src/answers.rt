@@ -16,7 +16,7 @@ fn least(a: u64, b: u64) -> u64
 }
 
 pub fn pack(number: u64, value: u64) -> u64
-    requires { ⌜ number ≤ 18 ⌝ }
+    requires { ⌜ number ≤ 19 ⌝ }
     ensures { λ r. ⌜ r ≡ packed number value ⌝ }
 {
     number * 4294967296 + least(value, 4294967295)
@@ -28,7 +28,7 @@ pub fn pack_refusal(refusal: Refusal, value: u64) -> u64
     pack(number_of(refusal) as u64, value)
 }
 
-pub fn packed_answer(answer: Answer) -> u64
+pub(crate) fn packed_answer(answer: Answer) -> u64
     ensures { λ r. ⌜ r ≡ packedVerdict (verdictOf answer) ⌝ }
 {
     match answer {
@@ -38,7 +38,7 @@ pub fn packed_answer(answer: Answer) -> u64
 }
 
 // An answer as two words.
-pub fn answer_words(answer: Answer) -> [u32; 2]
+pub(crate) fn answer_words(answer: Answer) -> [u32; 2]
     ensures { λ r. ⌜ r ≡ answerWords (verdictOf answer) ⌝ }
 {
     match answer {
@@ -48,7 +48,7 @@ pub fn answer_words(answer: Answer) -> [u32; 2]
 }
 
 // A charge as three words.
-pub fn charge_words(charged: Charged) -> [u32; 3]
+pub(crate) fn charge_words(charged: Charged) -> [u32; 3]
     ensures { λ r. ⌜ r ≡ chargeWords (chargeOf charged) ⌝ }
 {
     match charged {

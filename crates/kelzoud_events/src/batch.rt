@@ -8,7 +8,7 @@ use model::Tally;
 use rules::steps::take;
 use table::Row;
 use table::SheetBytes;
-use table::lent::look;
+use table::lent::look_all;
 use table::lent::set_tally;
 use table::lent::tally_at;
 use table::ordered::Look;
@@ -20,8 +20,9 @@ ghost use Rattle.model.specs.Answers.{verdictOf};
 ghost use Rattle.table.specs.Words.{rowsIn};
 ghost use Rattle.table.specs.Sheets.{sheetIn};
 ghost use Rattle.table.specs.Lent.{tallyIn, lent};
-ghost use Rattle.table.specs.Known.{Fit};
+ghost use Rattle.table.specs.Known.{FitAll};
 ghost use Rattle.table.specs.Limits.{limitsIn};
+ghost use Rattle.table.specs.States.{statesIn};
 ghost use Rattle.rules.specs.Steps.{lends};
 ghost use Rattle.kelzoud_events.specs.Interface.{answerWords};
 ghost use Rattle.kelzoud_events.specs.Batch.{taken, afterAll, answersAll, Ran};
@@ -54,6 +55,8 @@ fn take_turns(
     live: usize,
     places: &mut [u16; 1024],
     bits: &mut [u8],
+    stored: &mut [Row],
+    copies: &mut [u8],
     t: Tally,
     sheet: &SheetBytes,
     limits: &[u32],
@@ -62,8 +65,8 @@ fn take_turns(
     m: usize,
     answers: &mut [[u32; 2]],
 ) -> Tally
-    requires { ⌜ Fit (now table) (now bits) live (t .issued) (now limits) (now places) × (m ≤ length (now events)) × (m ≤ length (now answers)) ⌝ }
-    ensures { λ r. ⌜ Ran (sheetIn (now (sheet .entry))) (limitsIn (now (limits .entry))) (lends (rowsIn (now (table .entry))) (now (bits .entry)) t) (now (events .entry)) (now (names .entry)) m (now (answers .entry)) (lends (rowsIn (now (table .exit))) (now (bits .exit)) r) (now (answers .exit)) ⌝ }
+    requires { ⌜ FitAll (now table) (now bits) (now stored) (now copies) live (t .issued) (now limits) (now places) × (m ≤ length (now events)) × (m ≤ length (now answers)) ⌝ }
+    ensures { λ r. ⌜ Ran (sheetIn (now (sheet .entry))) (limitsIn (now (limits .entry))) (lends (rowsIn (now (table .entry))) (now (bits .entry)) (statesIn (now (stored .entry)) (now (copies .entry))) t) (now (events .entry)) (now (names .entry)) m (now (answers .entry)) (lends (rowsIn (now (table .exit))) (now (bits .exit)) (statesIn (now (stored .exit)) (now (copies .exit))) r) (now (answers .exit)) ⌝ }
 {
     let mut tally = t;
     let mut alive = live;
@@ -77,6 +80,8 @@ fn take_turns(
             alive,
             places,
             bits,
+            stored,
+            copies,
             tally,
             sheet,
             limits,
@@ -110,6 +115,8 @@ fn refuse_all(answers: &mut [[u32; 2]], m: usize)
 fn apply_first(
     table: &mut [Row],
     bits: &mut [u8],
+    stored: &mut [Row],
+    copies: &mut [u8],
     tally: &mut [u32; 7],
     sheet: &SheetBytes,
     limits: &[u32],
@@ -119,11 +126,11 @@ fn apply_first(
     answers: &mut [[u32; 2]],
 )
     requires { ⌜ (m ≤ length (now events)) × (m ≤ length (now answers)) ⌝ }
-    ensures { λ _. ⌜ Ran (sheetIn (now (sheet .entry))) (limitsIn (now (limits .entry))) (lent (now (table .entry)) (now (bits .entry)) (now (tally .entry))) (now (events .entry)) (now (names .entry)) m (now (answers .entry)) (lent (now (table .exit)) (now (bits .exit)) (now (tally .exit))) (now (answers .exit)) ⌝ }
+    ensures { λ _. ⌜ Ran (sheetIn (now (sheet .entry))) (limitsIn (now (limits .entry))) (lent (now (table .entry)) (now (bits .entry)) (now (stored .entry)) (now (copies .entry)) (now (tally .entry))) (now (events .entry)) (now (names .entry)) m (now (answers .entry)) (lent (now (table .exit)) (now (bits .exit)) (now (stored .exit)) (now (copies .exit)) (now (tally .exit))) (now (answers .exit)) ⌝ }
 {
     let t = tally_at(tally);
     let mut places = [0u16; 1024];
-    let found = look(table, bits, t.issued, limits, &mut places);
+    let found = look_all(table, bits, stored, copies, t.issued, limits, &mut places);
     match found {
         Look::InOrder(live) => {
             let after = take_turns(
@@ -131,6 +138,8 @@ fn apply_first(
                 live,
                 &mut places,
                 bits,
+                stored,
+                copies,
                 t,
                 sheet,
                 limits,
@@ -145,11 +154,13 @@ fn apply_first(
     }
 }
 
-// As many events as there are answers for, on the table, the bits and the tally that are lent, by a sheet, with limits where some are lent; the
-// answer is how many.
+// As many events as there are answers for, on the table, the bits, the memory for states and the tally that are lent, by a sheet, with limits
+// where some are lent; the answer is how many.
 pub fn apply_all(
     table: &mut [Row],
     bits: &mut [u8],
+    stored: &mut [Row],
+    copies: &mut [u8],
     tally: &mut [u32; 7],
     sheet: &SheetBytes,
     limits: &[u32],
@@ -157,13 +168,26 @@ pub fn apply_all(
     names: &[u32],
     answers: &mut [[u32; 2]],
 ) -> usize
-    ensures { λ r. ⌜ (rowsIn (now (table .exit)) ≡ afterAll (sheetIn (now (sheet .entry))) (limitsIn (now (limits .entry))) (lent (now (table .entry)) (now (bits .entry)) (now (tally .entry))) (now (events .entry)) (now (names .entry)) (now (answers .entry)) .memory .table)
-        × (now (bits .exit) ≡ afterAll (sheetIn (now (sheet .entry))) (limitsIn (now (limits .entry))) (lent (now (table .entry)) (now (bits .entry)) (now (tally .entry))) (now (events .entry)) (now (names .entry)) (now (answers .entry)) .memory .bits)
-        × (tallyIn (now (tally .exit)) ≡ afterAll (sheetIn (now (sheet .entry))) (limitsIn (now (limits .entry))) (lent (now (table .entry)) (now (bits .entry)) (now (tally .entry))) (now (events .entry)) (now (names .entry)) (now (answers .entry)) .tally)
-        × (now (answers .exit) ≡ answersAll (sheetIn (now (sheet .entry))) (limitsIn (now (limits .entry))) (lent (now (table .entry)) (now (bits .entry)) (now (tally .entry))) (now (events .entry)) (now (names .entry)) (now (answers .entry)))
+    ensures { λ r. ⌜ (rowsIn (now (table .exit)) ≡ afterAll (sheetIn (now (sheet .entry))) (limitsIn (now (limits .entry))) (lent (now (table .entry)) (now (bits .entry)) (now (stored .entry)) (now (copies .entry)) (now (tally .entry))) (now (events .entry)) (now (names .entry)) (now (answers .entry)) .memory .table)
+        × (now (bits .exit) ≡ afterAll (sheetIn (now (sheet .entry))) (limitsIn (now (limits .entry))) (lent (now (table .entry)) (now (bits .entry)) (now (stored .entry)) (now (copies .entry)) (now (tally .entry))) (now (events .entry)) (now (names .entry)) (now (answers .entry)) .memory .bits)
+        × (statesIn (now (stored .exit)) (now (copies .exit)) ≡ afterAll (sheetIn (now (sheet .entry))) (limitsIn (now (limits .entry))) (lent (now (table .entry)) (now (bits .entry)) (now (stored .entry)) (now (copies .entry)) (now (tally .entry))) (now (events .entry)) (now (names .entry)) (now (answers .entry)) .slots)
+        × (tallyIn (now (tally .exit)) ≡ afterAll (sheetIn (now (sheet .entry))) (limitsIn (now (limits .entry))) (lent (now (table .entry)) (now (bits .entry)) (now (stored .entry)) (now (copies .entry)) (now (tally .entry))) (now (events .entry)) (now (names .entry)) (now (answers .entry)) .tally)
+        × (now (answers .exit) ≡ answersAll (sheetIn (now (sheet .entry))) (limitsIn (now (limits .entry))) (lent (now (table .entry)) (now (bits .entry)) (now (stored .entry)) (now (copies .entry)) (now (tally .entry))) (now (events .entry)) (now (names .entry)) (now (answers .entry)))
         × (r ≡ taken (now (events .entry)) (now (answers .entry))) ⌝ }
 {
     let m = fewer(events.len(), answers.len());
-    apply_first(table, bits, tally, sheet, limits, events, names, m, answers);
+    apply_first(
+        table,
+        bits,
+        stored,
+        copies,
+        tally,
+        sheet,
+        limits,
+        events,
+        names,
+        m,
+        answers,
+    );
     m
 }

@@ -6,12 +6,13 @@ use model::Name;
 use model::NewName;
 use model::Span;
 use model::Terms;
+use model::Work;
 use table::words::high_half;
 use table::words::joined;
 use table::words::low_half;
 ghost use mathlib.Core.Path.{_≡_};
 ghost use Rattle.model.specs.Requests.{Unlimited, Single, caller};
-ghost use Rattle.kelzoud_events.specs.Interface.{eventWith, rightIn, kindIn, freshIn, newIn, termsIn, eventIn, askedIn, part, namesIn, namedOf, writtenOf, groupWords, wordsOf};
+ghost use Rattle.kelzoud_events.specs.Interface.{eventWith, rightIn, kindIn, freshIn, newIn, termsIn, eventIn, askedIn, part, namesIn, namedOf, writtenOf, groupWords, markWords, backWords, wordsOf};
 
 // How many words an event has.
 const WORDS: usize = 12;
@@ -21,6 +22,11 @@ pub type Words = [u32; WORDS];
 
 // The kind that asks for names dropped together.
 const DROP_ALL: u32 = 6;
+
+// The kinds that ask for a mark and for a back.
+const MARK: u32 = 7;
+
+const BACK: u32 = 8;
 
 // The event of a kind, 1 to 5, with a new name that is written or not. Another kind is an event that is refused 2 in itself.
 fn event_with(new: NewName, kind: u32, name: u32, start: u32, length: u32, given: Terms) -> Event
@@ -113,12 +119,20 @@ pub fn asked_in(w: Words) -> Asked
     ensures { λ r. ⌜ r ≡ askedIn w ⌝ }
 {
     let actor = w[9];
+    let slot = w[1];
     if w[0] == DROP_ALL {
-        return Asked::Group(actor);
+        return Asked::Work(Work::Group(actor));
+    }
+    if w[0] == MARK {
+        return Asked::Mark(actor, slot);
+    }
+    if w[0] == BACK {
+        return Asked::Back(actor, slot);
     }
     let new = new_in(w[5], w[6]);
     let given = terms_in(w);
-    Asked::Single(actor, event_with(new, w[0], w[1], w[2], w[3], given))
+    let event = event_with(new, w[0], w[1], w[2], w[3], given);
+    Asked::Work(Work::Single(actor, event))
 }
 
 // A part of a list of names: none where it reaches past the end.
@@ -207,4 +221,18 @@ pub fn group_words(actor: u32, count: u32) -> Words
     ensures { λ r. ⌜ r ≡ groupWords actor count ⌝ }
 {
     [DROP_ALL, 0, 0, count, 0, 0, 0, 0, 0, actor, 0, 0]
+}
+
+// Those of a mark.
+pub fn mark_words(actor: u32, slot: u32) -> Words
+    ensures { λ r. ⌜ r ≡ markWords actor slot ⌝ }
+{
+    [MARK, slot, 0, 0, 0, 0, 0, 0, 0, actor, 0, 0]
+}
+
+// Those of a back.
+pub fn back_words(actor: u32, slot: u32) -> Words
+    ensures { λ r. ⌜ r ≡ backWords actor slot ⌝ }
+{
+    [BACK, slot, 0, 0, 0, 0, 0, 0, 0, actor, 0, 0]
 }

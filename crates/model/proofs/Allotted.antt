@@ -14,6 +14,7 @@ use Rattle.model.specs.declared.Event.{Event}
 use Rattle.model.specs.declared.Event.the-variants.{Create, Borrow, Read, Write, Drop}
 use Rattle.model.specs.Lists.{any, answers, final}
 use Rattle.model.specs.Requests.{Unlimited, Caller, Request, Single, caller}
+use Rattle.model.specs.Slots.{unstored}
 use Rattle.model.specs.Table.{named, lentTable}
 use Rattle.model.specs.Refusals.{viewOf, unfit, refusals, judge}
 use Rattle.model.specs.Limits.{refusedSheet}
@@ -23,10 +24,10 @@ use Rattle.model.specs.Step.{Verdict, verdict, State, view, initial}
 use Rattle.model.specs.Step
 use Rattle.model.specs.TreesApart.{StrangersEnd, rootOf, tree, treeAfter, live}
 use Rattle.model.specs.Allotted.{Allotted, nothingYet, ask, goesTo, number, answer, outcome, after, Roomy, OneForEach}
-use Rattle.model.proofs.Lists.{All-sub, any-false, any-none, test, clash}
+use Rattle.model.proofs.Lists.{All, All-sub, any-false, any-none, test, clash}
 use Rattle.model.proofs.Lent.{no-rows, lookup-none}
-use Rattle.model.proofs.Judged.{allowed, in-order, counted-issued, fit-all}
-use Rattle.model.proofs.Order.{ordered, next-named, fit-after, order-fresh}
+use Rattle.model.proofs.Judged.{allowed, in-order, counted-issued, fit-all, fit-size, fit-slots, judge-slots}
+use Rattle.model.proofs.Order.{SizedSlot, none-sized, sized-after, ordered, next-named, fit-after, order-fresh}
 use Rattle.model.proofs.TreesApart.{Forest, Found, AllFound, are-named, live-after, answered-alone, in-own, each-rows, forest-after, forest-first, root-after, root-created, root-borrowed}
 
 -- ---- what stays true
@@ -60,9 +61,10 @@ module _ (sheet : Sheet) (m : ℕ) (small-enough : m ≤ 1024) (h : State) (a : 
   unfolding number
   same-number k here-room own-room e =
       let r : ℕ = goesTo a (e .1) in
-      ap (λ own. judge (viewOf (lentTable m own) (a .bits) (a .issued)) (ask e)) (s .same-tree r)
-      ∙ ap₂ (λ bits i. judge (viewOf (lentTable m (tree (live h) r)) bits i) (ask e)) (s .same-bits) (s .same-issued)
-      ∙ answered-alone sheet h f r m here-room (own-room r) (ask e) refl k (all-at-home (caller (e .0) Unlimited) (e .1)) small-enough
+      ap (λ own. judge (viewOf (lentTable m own) (a .bits) unstored (a .issued)) (ask e)) (s .same-tree r)
+      ∙ ap₂ (λ bits i. judge (viewOf (lentTable m (tree (live h) r)) bits unstored i) (ask e)) (s .same-bits) (s .same-issued)
+      ∙ judge-slots (lentTable m (tree (live h) r)) (h .memory .bits) unstored (h .slots) (h .tally .issued) (ask e) refl (sym (fit-slots Unlimited (view h) k))
+      ∙ answered-alone sheet h f r m here-room (own-room r) (ask e) refl refl k (all-at-home (caller (e .0) Unlimited) (e .1)) small-enough
 
   -- ---- an allowed event
 
@@ -70,7 +72,7 @@ module _ (sheet : Sheet) (m : ℕ) (small-enough : m ≤ 1024) (h : State) (a : 
     next-tree : StrangersEnd sheet → (r : ℕ) → treeAfter sheet (a .issued) r (a .small r) (ask e) ≡ tree (live (Step.after sheet h (ask e))) r
     next-tree ends r =
         ap₂ (λ i own. treeAfter sheet i r own (ask e)) (s .same-issued) (s .same-tree r)
-        ∙ sym (ap (λ l. tree l r) (live-after sheet h f (ask e) z) ∙ each-rows sheet h f ends (ask e) z r)
+        ∙ sym (ap (λ l. tree l r) (live-after sheet h f (ask e) refl z) ∙ each-rows sheet h f ends (ask e) z r)
 
   abbrev i : ℕ
   i = h .tally .issued
@@ -93,7 +95,7 @@ module _ (sheet : Sheet) (m : ℕ) (small-enough : m ≤ 1024) (h : State) (a : 
   next-home : (e : ℕ × Event) → judge (view h) (ask e) ≡ 0 → (x : ℕ) → any (named x) (live (Step.after sheet h (ask e))) ≡ true
       → cond (eqb x (newName (a .issued) (ask e))) (goesTo a (e .1)) (a .home x) ≡ rootOf (live (Step.after sheet h (ask e))) x
   next-home e z x l =
-      let after = live-after sheet h f (ask e) z in
+      let after = live-after sheet h f (ask e) refl z in
       ap (λ (j : ℕ). cond (eqb x (newName j (ask e))) (goesTo a (e .1)) (a .home x)) (s .same-issued) ∙ go (test (eqb x (newName i (ask e)))) (rw after at l) ∙ sym (ap (λ rows. rootOf rows x) after)
     where
       go : (eqb x (newName i (ask e)) ≡ true) ⊎ (eqb x (newName i (ask e)) ≡ false) → any (named x) (rowsAfter sheet i (live h) (ask e)) ≡ true → cond (eqb x (newName i (ask e))) (goesTo a (e .1)) (a .home x) ≡ rootOf (rowsAfter sheet i (live h) (ask e)) x
@@ -123,19 +125,19 @@ module _ (sheet : Sheet) (m : ℕ) (small-enough : m ≤ 1024) (h : State) (a : 
 -- ---- a list of events
 
 module _ (sheet : Sheet) (ends : StrangersEnd sheet) (m : ℕ) (small-enough : m ≤ 1024) where
-  run : (es : List (ℕ × Event)) (h : State) (a : Allotted) → Forest h → Mirrors h a → unfit Unlimited (view h) ≡ false → Roomy sheet m h es
+  run : (es : List (ℕ × Event)) (h : State) (a : Allotted) → Forest h → Mirrors h a → All SizedSlot (h .slots) → unfit Unlimited (view h) ≡ false → Roomy sheet m h es
       → (answers (after sheet m) (answer m) a es ≡ answers (Step.after sheet) Step.answer h (map ask es)) × ((r : ℕ) → final (after sheet m) a es .small r ≡ tree (live (final (Step.after sheet) h (map ask es))) r)
-  run [] h a f s k l = (refl, s .same-tree)
-  run (e ∷ es) h a f s k l =
+  run [] h a f s b k l = (refl, s .same-tree)
+  run (e ∷ es) h a f s b k l =
       let same = same-number sheet m small-enough h a f s k (l .0) (l .1 .0) e in
-      let later = run es (Step.after sheet h (ask e)) (after sheet m a e) (forest-after sheet h f ends (ask e)) (next-mirrors sheet m small-enough h a f s ends e same) (fit-after sheet h (ask e) k) (l .1 .1) in
+      let later = run es (Step.after sheet h (ask e)) (after sheet m a e) (forest-after sheet h f ends (ask e)) (next-mirrors sheet m small-enough h a f s ends e same) (sized-after sheet h (ask e) b (fit-size Unlimited (view h) k)) (fit-after sheet h (ask e) b k) (l .1 .1) in
       (ap₂ {C = List Verdict} (λ v vs. v ∷ vs) (same-answer sheet m small-enough h a f s e same) (later .0), later .1)
 
 -- A table for each allocation answers as one table for all, and holds its rows.
 pub one-for-each : (sheet : Sheet) → StrangersEnd sheet → (n m : ℕ) → n ≤ 1024 → m ≤ 1024 → (t : Tally) → t .issued ≡ 0 → (es : List (ℕ × Event)) → Roomy sheet m (initial n t) es → OneForEach sheet n m t es
 unfolding refusedSheet
 one-for-each sheet ends n m few small-enough t z es l =
-    let r = run sheet ends m small-enough es (initial n t) nothingYet (forest-first n t) mirrors-first fit l in
+    let r = run sheet ends m small-enough es (initial n t) nothingYet (forest-first n t) mirrors-first none-sized fit l in
     record { same-answers = r .0; same-trees = r .1 }
   where
     mirrors-first : Mirrors (initial n t) nothingYet
@@ -148,4 +150,4 @@ one-for-each sheet ends n m few small-enough t z es l =
         }
 
     fit : unfit Unlimited (view (initial n t)) ≡ false
-    fit = fit-all Unlimited (view (initial n t)) (order-fresh n t few z) refl (length-replicate {A = ℕ} 8192 0)
+    fit = fit-all Unlimited (view (initial n t)) (order-fresh n t few z) refl (length-replicate {A = ℕ} 8192 0) refl

@@ -6,12 +6,14 @@ use mathlib.Core.Bool.{Bool, true, false, not, cond, _&&_, _||_, or-false, and-t
 use mathlib.Core.List.{List, [], _∷_}
 use Prim.Native.Nat.{ℕ, suc, _<_, _≤_}
 use native.Mathlib.Omega.{arith}
+use lib.ListN.{length}
 use lib.Dec.{eqb, ltb, leb}
 use borrow.Author.Tests.{eqb-true, ne-eqb, le-ltb}
 use Rattle.model.specs.declared.Name.{Name}
 use Rattle.model.specs.declared.Span.{Span}
 use Rattle.model.specs.declared.Event.the-variants.{Read, Write}
 use Rattle.model.specs.Requests.{Caller, Request, Single}
+use Rattle.model.specs.Slots.{Slot}
 use Rattle.model.specs.declared.Sheet.{Sheet}
 use Rattle.model.specs.Lists.{filter, any}
 use Rattle.model.specs.Derivation.{Derivation}
@@ -120,9 +122,9 @@ module _ (sheet : Sheet) where
     given-passes : (x : ℕ) → lives sheet notes x ≡ true → eqb x 0 || ltb i x ≡ false
     given-passes x h = let p = lives-given x h in rw (not-zero (p .0)) (le-ltb i x (omega arith))
 
-    reads : inOrder (table sheet n notes) i ≡ true → (by : Caller) (u : Name) (s : Span) → eqb (judge (view sheet n notes i) (Single by (Read u s))) 0 ≡ mayRead sheet n by notes (u .0) s
+    reads : (slots : List (Slot (List Note))) → length slots ≡ 8 → inOrder (table sheet n notes) i ≡ true → (by : Caller) (u : Name) (s : Span) → eqb (judge (view sheet n slots notes i) (Single by (Read u s))) 0 ≡ mayRead sheet n by notes (u .0) s
     unfolding judge refusals notWritten mayUse mayRead
-    reads o by u s = first-zero (refusals (view sheet n notes i) (Single by (Read u s))) (numbered (view sheet n notes i) (Single by (Read u s))) ∙ rw (o, present (u .0)) (go (test (lives sheet notes (u .0))))
+    reads slots e8 o by u s = first-zero (refusals (view sheet n slots notes i) (Single by (Read u s))) (numbered (view sheet n slots notes i) (Single by (Read u s))) ∙ rw (o, e8, present (u .0)) (go (test (lives sheet notes (u .0))))
       where
         row : Derivation
         row = derivation (lookup (u .0) (liveRows (table sheet n notes)))
@@ -151,9 +153,9 @@ module _ (sheet : Sheet) where
             (regroup refused (isDomain (by .actor)) (legal s) (holds row (by .actor)) (covers notes (u .0) s) (isMarked row) all-written)
         go (inr f) = rw f (simp and-false)
 
-    writes : inOrder (table sheet n notes) i ≡ true → (by : Caller) (u : Name) (s : Span) → eqb (judge (view sheet n notes i) (Single by (Write u s))) 0 ≡ mayWrite sheet n by notes (u .0) s
+    writes : (slots : List (Slot (List Note))) → length slots ≡ 8 → inOrder (table sheet n notes) i ≡ true → (by : Caller) (u : Name) (s : Span) → eqb (judge (view sheet n slots notes i) (Single by (Write u s))) 0 ≡ mayWrite sheet n by notes (u .0) s
     unfolding judge refusals mayUse mayWrite
-    writes o by u s = first-zero (refusals (view sheet n notes i) (Single by (Write u s))) (numbered (view sheet n notes i) (Single by (Write u s))) ∙ rw (o, present (u .0)) (go (test (lives sheet notes (u .0))))
+    writes slots e8 o by u s = first-zero (refusals (view sheet n slots notes i) (Single by (Write u s))) (numbered (view sheet n slots notes i) (Single by (Write u s))) ∙ rw (o, e8, present (u .0)) (go (test (lives sheet notes (u .0))))
       where
         row : Derivation
         row = derivation (lookup (u .0) (liveRows (table sheet n notes)))
@@ -183,9 +185,9 @@ module _ (sheet : Sheet) where
 
   -- ---- above 1,024 rows every request is refused, and nothing is noted
 
-  too-many : (n i : ℕ) (notes : List Note) → Kept sheet n i notes → leb n 1024 ≡ false → (q : Request) → judge (view sheet n notes i) q ≡ 1
+  too-many : (n : ℕ) (slots : List (Slot (List Note))) (i : ℕ) (notes : List Note) → Kept sheet n i notes → leb n 1024 ≡ false → (by : Caller) (u : Name) (s : Span) → (judge (view sheet n slots notes i) (Single by (Read u s)) ≡ 1) × (judge (view sheet n slots notes i) (Single by (Write u s)) ≡ 1)
   unfolding judge refusals inOrder
-  too-many n i notes k f q = rw (rows-fit sheet n i notes k, f)
+  too-many n slots i notes k f by u s = (rw (rows-fit sheet n i notes k, f), rw (rows-fit sheet n i notes k, f))
 
   -- no access goes through a name that is not noted
   unnoted : (n : ℕ) (by : Caller) (u : ℕ) (s : Span) → (mayRead sheet n by [] u s ≡ false) × (mayWrite sheet n by [] u s ≡ false)
@@ -194,20 +196,20 @@ module _ (sheet : Sheet) where
 
   -- ---- at every match of what is lent and the history
 
-  module _ (n : ℕ) (h : State) (H : History.History) (m : Match sheet n h H) where
+  module _ (n : ℕ) (h : State) (H : History.History) (m : Match sheet n h H) (eight : length (H .kept) ≡ 8) where
     -- what is so of a history in order, and so where nothing is noted, is so
-    either-way : (q : Request) (may : List Note → Bool) → may [] ≡ false
-        → (inOrder (table sheet n (H .notes)) (H .count) ≡ true → eqb (judge (view sheet n (H .notes) (H .count)) q) 0 ≡ may (H .notes))
+    either-way : (q : Request) (may : List Note → Bool) → may [] ≡ false → (leb n 1024 ≡ false → judge (view sheet n (H .kept) (H .notes) (H .count)) q ≡ 1)
+        → (inOrder (table sheet n (H .notes)) (H .count) ≡ true → eqb (judge (view sheet n (H .kept) (H .notes) (H .count)) q) 0 ≡ may (H .notes))
         → isAllowed (Step.answer h q) ≡ may (H .notes)
     unfolding Step.answer
-    either-way q may none law = rw (same-judge sheet n h H m q) (go (test (leb n 1024)))
+    either-way q may none many law = rw (same-judge sheet n h H m q) (go (test (leb n 1024)))
       where
-        go : (leb n 1024 ≡ true) ⊎ (leb n 1024 ≡ false) → eqb (judge (view sheet n (H .notes) (H .count)) q) 0 ≡ may (H .notes)
+        go : (leb n 1024 ≡ true) ⊎ (leb n 1024 ≡ false) → eqb (judge (view sheet n (H .kept) (H .notes) (H .count)) q) 0 ≡ may (H .notes)
         go (inl y) = law (m .memory .is-ordered y)
-        go (inr f) = rw (too-many n (H .count) (H .notes) (m .memory .kept) f q) (sym (ap may (m .memory .nothing-noted f) ∙ none))
+        go (inr f) = rw (many f) (sym (ap may (m .memory .nothing-noted f) ∙ none))
 
     pub read-allowed : (by : Caller) (u : Name) (s : Span) → isAllowed (Step.answer h (Single by (Read u s))) ≡ mayRead sheet n by (H .notes) (u .0) s
-    read-allowed by u s = either-way (Single by (Read u s)) (λ notes. mayRead sheet n by notes (u .0) s) (unnoted n by (u .0) s .0) (λ o. reads n (H .count) (H .notes) (m .memory .kept) o by u s)
+    read-allowed by u s = either-way (Single by (Read u s)) (λ notes. mayRead sheet n by notes (u .0) s) (unnoted n by (u .0) s .0) (λ f. too-many n (H .kept) (H .count) (H .notes) (m .memory .kept) f by u s .0) (λ o. reads n (H .count) (H .notes) (m .memory .kept) (H .kept) eight o by u s)
 
     pub write-allowed : (by : Caller) (u : Name) (s : Span) → isAllowed (Step.answer h (Single by (Write u s))) ≡ mayWrite sheet n by (H .notes) (u .0) s
-    write-allowed by u s = either-way (Single by (Write u s)) (λ notes. mayWrite sheet n by notes (u .0) s) (unnoted n by (u .0) s .1) (λ o. writes n (H .count) (H .notes) (m .memory .kept) o by u s)
+    write-allowed by u s = either-way (Single by (Write u s)) (λ notes. mayWrite sheet n by notes (u .0) s) (unnoted n by (u .0) s .1) (λ f. too-many n (H .kept) (H .count) (H .notes) (m .memory .kept) f by u s .1) (λ o. writes n (H .count) (H .notes) (m .memory .kept) (H .kept) eight o by u s)

@@ -22,7 +22,8 @@ use Rattle.model.specs.Lists.{consIf, filter, any, all, first}
 use Rattle.model.specs.Values.{end, legal, inside, touches}
 use Rattle.model.specs.Derivation.{Derivation, ancestry, inSubtree}
 use Rattle.model.specs.Strike.{isEnd, isLower, reached, struck}
-use Rattle.model.specs.Requests.{Limited, Caller, Request, Single, Group, callerOf, risesAbove, risesStrictly, isGroup}
+use Rattle.model.specs.Requests.{Limited, Caller, Request, Single, Group, Mark, Back, callerOf, risesAbove, risesStrictly, isGroup}
+use Rattle.model.specs.Slots.{Slot, isNothing}
 use Rattle.model.specs.Table.{row, span, derivation, derivations, named, lookup, isMarked, termsInOrder}
 use Rattle.model.specs.Limits.{madeBy, made, noRow, limitReached}
 use Rattle.model.specs.Refusals.{misnamed, notADomain, notAHolder, notWritten, standings, checks}
@@ -229,7 +230,7 @@ module _ (n d : ℕ) (given : List ℕ) (i : ℕ) (rows : List Cap) (a : Apart d
       let m = issued-both (record { 0 = u }) (b .0) in
       rw (m .0, m .1, found-same d given i rows a u (b .0), lookup-same d given i rows a u (b .0), same-standings actor names (b .1))
 
-  module _ (isWritten isWritten₀ : ℕ → Bool) where
+  module _ (isWritten isWritten₀ : ℕ → Bool) (slot slot₀ : ℕ → Slot (List Cap)) where
     -- 16 is asked of a living capability and a span inside its own
     same-sixteen : SameWritten d rows isWritten isWritten₀ → All (λ c. termsInOrder (derivation c) ≡ true) rows → (u : Name) (s : Span) → isGiven given (u .0) ≡ true → any (named (u .0)) rows ≡ true → inside s (span (lookup (u .0) rows)) ≡ true
         → notWritten rows i isWritten u s ≡ notWritten (view d given rows) (length given) isWritten₀ (ownName given u) s
@@ -254,28 +255,30 @@ module _ (n d : ℕ) (given : List ℕ) (i : ℕ) (rows : List Cap) (a : Apart d
                 let i : In x (span c) = inside-each s (span c) k x (m, j) in
                 lookup-found (λ c. madeBy d c ≡ true → (x : ℕ) → In x (span c) → x < 65536 → isWritten x ≡ isWritten₀ x) (u .0) rows l z own x i (omega (arith, i .1, low))
 
-    pub same-checks : SameWritten d rows isWritten isWritten₀ → All (λ c. termsInOrder (derivation c) ≡ true) rows → Strictly given → (limits : List ℕ) (q : Request) → callerOf q .limits ≡ Limited limits → isOwn d q ≡ true
-        → usesItsOwn given i q ≡ true → first (checks rows i isWritten n q) ≡ first (checks (view d given rows) (length given) isWritten₀ n (recounted given q))
+    pub same-checks : SameWritten d rows isWritten isWritten₀ → All (λ c. termsInOrder (derivation c) ≡ true) rows → Strictly given → ((k : ℕ) → isNothing (slot k) ≡ isNothing (slot₀ k)) → (limits : List ℕ) (q : Request) → callerOf q .limits ≡ Limited limits → isOwn d q ≡ true
+        → usesItsOwn given i q ≡ true → first (checks rows i isWritten slot n q) ≡ first (checks (view d given rows) (length given) isWritten₀ slot₀ n (recounted given q))
     unfolding noRow limitReached recounted usesItsOwn
-    same-checks z t f limits (Single by (Create w s r)) l o h = let b = room-both w h in rw (l, b .0, b .1, b .2, limit-same by o)
-    same-checks z t f limits (Single by (Borrow w u s r)) l o h =
+    same-checks z t f x limits (Single by (Create w s r)) l o h = let b = room-both w h in rw (l, b .0, b .1, b .2, limit-same by o)
+    same-checks z t f x limits (Single by (Borrow w u s r)) l o h =
         let g = and-both (not (leb 1000000 i) && not (misnamed i w)) (isGiven given (u .0)) h in
         let b = room-both w (g .0) in
         let m = issued-both u (g .1) in
         rw (l, m .0, m .1, b .0, b .1, b .2, limit-same by o, found-same d given i rows a (u .0) (g .1), lookup-same d given i rows a (u .0) (g .1))
-    same-checks z t f limits (Single by (Read u s)) l o h =
+    same-checks z t f x limits (Single by (Read u s)) l o h =
         let m = issued-both u h in
         rw (m .0, m .1, found-same d given i rows a (u .0) h, lookup-same d given i rows a (u .0) h)
         (unless-told (notADomain (by .actor)) (not (legal s)) (not (any (named (u .0)) rows)) (notAHolder rows i (by .actor) u) (not (inside s (span (lookup (u .0) rows))))
         (notWritten rows i isWritten u s) (notWritten (view d given rows) (length given) isWritten₀ (ownName given u) s)
         (λ e o. same-sixteen z t u s h (not-false (any (named (u .0)) rows) e) (not-false (inside s (span (lookup (u .0) rows))) o)))
-    same-checks z t f limits (Single by (Write u s)) l o h =
+    same-checks z t f x limits (Single by (Write u s)) l o h =
         let m = issued-both u h in
         rw (m .0, m .1, found-same d given i rows a (u .0) h, lookup-same d given i rows a (u .0) h)
-    same-checks z t f limits (Single by (Drop u)) l o h =
+    same-checks z t f x limits (Single by (Drop u)) l o h =
         let m = issued-both u h in
         rw (m .0, m .1, found-same d given i rows a (u .0) h, lookup-same d given i rows a (u .0) h)
-    same-checks z t f limits (Group by names) l o h = rw (same-group f names h, same-standings (by .actor) names h)
+    same-checks z t f x limits (Group by names) l o h = rw (same-group f names h, same-standings (by .actor) names h)
+    same-checks z t f x limits (Mark by k) l o h = refl
+    same-checks z t f x limits (Back by k) l o h = rw (x k)
 
 -- ---- the rows that are left, and a new one
 
@@ -300,10 +303,14 @@ apart-revoke d given i rows a ends lowers =
 wider : (i : ℕ) (given : List ℕ) → All (λ x. (0 < x) × (x < suc i)) given → All (λ x. (0 < x) × (x < suc (suc i))) given
 wider i given = All-map _ _ (λ x l. (l .0, omega (arith, l .1))) given
 
+pub apart-wider : (d : ℕ) (given : List ℕ) (i : ℕ) (rows : List Cap) → Apart d given i rows → Apart d given (suc i) rows
+apart-wider d given i rows a = record { below = wider i given (a .below); few = omega (arith, a .few); makers = a .makers; parents = a .parents }
+
 apart-other : (d : ℕ) (given : List ℕ) (i : ℕ) (rows : List Cap) → Apart d given i rows → (c : Cap) → c .name .0 ≡ suc i → madeBy d c ≡ false → Apart d given (suc i) (c ∷ rows)
 apart-other d given i rows a c e m =
     let z : isGiven given (c .name .0) ≡ false = rw e (not-next d given i rows a) in
-    record { below = wider i given (a .below); few = omega (arith, a .few); makers = (m ∙ sym z, a .makers); parents = ((λ h. clash h z), a .parents) }
+    let w = apart-wider d given i rows a in
+    record { below = w .below; few = w .few; makers = (m ∙ sym z, a .makers); parents = ((λ h. clash h z), a .parents) }
 
 given-older : (given : List ℕ) (i x : ℕ) → x < suc i → isGiven (suc i ∷ given) x ≡ isGiven given x
 given-older given i x l = rw (ne-eqb x (suc i) (λ (q : x ≡ suc i). omega arith))
@@ -351,6 +358,8 @@ uses given (Single by (Read u s)) = isGiven given (u .0)
 uses given (Single by (Write u s)) = isGiven given (u .0)
 uses given (Single by (Drop u)) = isGiven given (u .0)
 uses given (Group by names) = all (isGiven given) names
+uses given (Mark by k) = true
+uses given (Back by k) = true
 
 pub uses-its-own : (given : List ℕ) (i : ℕ) (q : Request) → usesItsOwn given i q ≡ true → uses given q ≡ true
 unfolding usesItsOwn
@@ -360,6 +369,8 @@ uses-its-own given i (Single by (Read u s)) h = h
 uses-its-own given i (Single by (Write u s)) h = h
 uses-its-own given i (Single by (Drop u)) h = h
 uses-its-own given i (Group by names) h = h
+uses-its-own given i (Mark by k) h = refl
+uses-its-own given i (Back by k) h = refl
 
 -- the names given after an allowed request of the domain
 abbrev pub given-next : ℕ → Request → List ℕ → List ℕ
@@ -369,6 +380,8 @@ given-next i (Single by (Read u s)) given = given
 given-next i (Single by (Write u s)) given = given
 given-next i (Single by (Drop u)) given = given
 given-next i (Group by names) given = given
+given-next i (Mark by k) given = given
+given-next i (Back by k) given = given
 
 pub given-named : (i : ℕ) (q : Request) (given : List ℕ) → consIf (not (eqb (newName i q) 0)) (newName i q) given ≡ given-next i q given
 given-named i (Single by (Create w s r)) given = rw (ne-eqb (suc i) 0 (λ (q : suc i ≡ 0). omega arith))
@@ -377,6 +390,8 @@ given-named i (Single by (Read u s)) given = refl
 given-named i (Single by (Write u s)) given = refl
 given-named i (Single by (Drop u)) given = refl
 given-named i (Group by names) given = refl
+given-named i (Mark by k) given = refl
+given-named i (Back by k) given = refl
 
 module _ (sheet : Sheet) (limits : List ℕ) (d : ℕ) (given : List ℕ) (i : ℕ) (rows : List Cap) (a : Apart d given i rows) (k : Within limits i rows) where
   pub falls : Falling (suc i) (derivations rows)
@@ -416,6 +431,8 @@ module _ (sheet : Sheet) (limits : List ℕ) (d : ℕ) (given : List ℕ) (i : �
   spared-rows (Single by (Write u s)) o h = spared-access Writing (u .0) s h
   spared-rows (Single by (Drop u)) o h = spared-without (u .0 ∷ []) (rw h)
   spared-rows (Group by names) o h = spared-without names h
+  spared-rows (Mark by k) o h = clash h refl
+  spared-rows (Back by k) o h = clash h refl
 
   pub apart-spared : (q : Request) → isOwn d q ≡ false → Apart d given (issuedAfter i q) (rowsAfter sheet i rows q)
   unfolding afterAccess rowsWithout rowsAfter
@@ -425,6 +442,8 @@ module _ (sheet : Sheet) (limits : List ℕ) (d : ℕ) (given : List ℕ) (i : �
   apart-spared (Single by (Write u s)) o = apart-revoke d given i rows a _ _
   apart-spared (Single by (Drop u)) o = apart-revoke d given i rows a _ _
   apart-spared (Group by names) o = apart-revoke d given i rows a _ _
+  apart-spared (Mark by k) o = a
+  apart-spared (Back by k) o = a
 
   -- ---- an act of its own
 
@@ -488,6 +507,8 @@ module _ (sheet : Sheet) (limits : List ℕ) (d : ℕ) (given : List ℕ) (i : �
     own-rows (Single by (Write u s)) o h = used-view Writing (u .0) s h
     own-rows (Single by (Drop u)) o h = without-view (u .0 ∷ []) (rw h)
     own-rows (Group by names) o h = without-view names h
+    own-rows (Mark by k) o h = refl
+    own-rows (Back by k) o h = refl
 
     pub apart-own-act : (q : Request) → isOwn d q ≡ true → uses given q ≡ true → Apart d (given-next i q given) (issuedAfter i q) (rowsAfter sheet i rows q)
     unfolding afterAccess rowsWithout rowsAfter
@@ -498,6 +519,8 @@ module _ (sheet : Sheet) (limits : List ℕ) (d : ℕ) (given : List ℕ) (i : �
     apart-own-act (Single by (Write u s)) o h = apart-revoke d given i rows a _ _
     apart-own-act (Single by (Drop u)) o h = apart-revoke d given i rows a _ _
     apart-own-act (Group by names) o h = apart-revoke d given i rows a _ _
+    apart-own-act (Mark by k) o h = a
+    apart-own-act (Back by k) o h = a
 
 -- it counts one more name where it was given one
 pub counted : (i : ℕ) (given : List ℕ) (q : Request) → issuedAfter (length given) (recounted given q) ≡ length (given-next i q given)
@@ -508,6 +531,8 @@ counted i given (Single by (Read u s)) = refl
 counted i given (Single by (Write u s)) = refl
 counted i given (Single by (Drop u)) = refl
 counted i given (Group by names) = refl
+counted i given (Mark by k) = refl
+counted i given (Back by k) = refl
 
 -- ---- the written addresses
 
@@ -519,6 +544,8 @@ inUse rows (Single by (Read u s)) = Unit {0}
 inUse rows (Single by (Write u s)) = Unit {0}
 inUse rows (Single by (Drop u)) = Unit {0}
 inUse rows (Group by names) = Unit {0}
+inUse rows (Mark by k) = Unit {0}
+inUse rows (Back by k) = Unit {0}
 
 pub written-revoke : (d : ℕ) (rows : List Cap) (f g : ℕ → Bool) → SameWritten d rows f g → (ends lowers : ℕ → Bool) → SameWritten d (revoke ends lowers rows) f g
 unfolding revoke
@@ -547,6 +574,8 @@ module _ (d : ℕ) (rows : List Cap) (bits bits₀ : List ℕ) (z : length bits 
   written-spared sheet i (Single by (Write u s)) o h = written-revoke d rows _ _ (put-spared true s h) _ _
   written-spared sheet i (Single by (Drop u)) o h = written-revoke d rows _ _ w _ _
   written-spared sheet i (Group by names) o h = written-revoke d rows _ _ w _ _
+  written-spared sheet i (Mark by k) o h = clash h refl
+  written-spared sheet i (Back by k) o h = clash h refl
 
   -- its own request does the same to both
   pub written-own : (sheet : Sheet) (i : ℕ) (given : List ℕ) → All (λ c. madeBy d c ≡ isGiven given (c .name .0)) rows → (q : Request) → uses given q ≡ true → inUse rows q
@@ -566,3 +595,5 @@ module _ (d : ℕ) (rows : List Cap) (bits bits₀ : List ℕ) (z : length bits 
   written-own sheet i given a (Single by (Write u s)) h v = written-revoke d rows _ _ (put-same true s) _ _
   written-own sheet i given a (Single by (Drop u)) h v = written-revoke d rows _ _ w _ _
   written-own sheet i given a (Group by names) h v = written-revoke d rows _ _ w _ _
+  written-own sheet i given a (Mark by k) h v = w
+  written-own sheet i given a (Back by k) h v = w

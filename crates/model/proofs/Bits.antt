@@ -16,7 +16,7 @@ use Rattle.model.specs.declared.Event.the-variants.{Create, Borrow, Read
 use Rattle.model.specs.declared.Access.the-variants.{Reading, Writing}
 use Rattle.model.specs.Lists.{any}
 use Rattle.model.specs.Values.{end}
-use Rattle.model.specs.Requests.{Request, Single, Group}
+use Rattle.model.specs.Requests.{Request, Single, Group, Mark, Back}
 use Rattle.model.specs.Bits.{hasBit, withBit, bitAt, putAt, putFrom, lowLength, bitsAfter, allWritten, inSpan}
 use Rattle.model.specs.History.{Note, New, Accessed, Dropped, written}
 use Rattle.model.proofs.Lists.{test}
@@ -189,6 +189,8 @@ length-after bytes (Single by (Read u s)) = refl
 length-after bytes (Single by (Write u s)) = length-from true (s .start .0) (lowLength s) bytes
 length-after bytes (Single by (Drop u)) = refl
 length-after bytes (Group by names) = refl
+length-after bytes (Mark by k) = refl
+length-after bytes (Back by k) = refl
 
 -- ---- what is noted as written
 

@@ -8,7 +8,7 @@ use native.Mathlib.Omega.{arith}
 use lib.Dec.{eqb}
 use borrow.Author.Tests.{ne-eqb, le-leb}
 use Rattle.model.specs.declared.Event.the-variants.{Create, Borrow, Read, Write, Drop}
-use Rattle.model.specs.Requests.{Request, Single, Group}
+use Rattle.model.specs.Requests.{Request, Single, Group, Mark, Back}
 use Rattle.model.specs.declared.Sheet.{Sheet}
 use Rattle.model.specs.Lists.{final}
 use Rattle.model.specs.Refusals.{judge}
@@ -35,6 +35,8 @@ module _ (sheet : Sheet) (h : State) where
   counted Creates l zero (Single by (Write u s)) = stays (h .tally .creates) l
   counted Creates l zero (Single by (Drop u)) = stays (h .tally .creates) l
   counted Creates l zero (Group by names) = stays (h .tally .creates) l
+  counted Creates l zero (Mark by k) = stays (h .tally .creates) l
+  counted Creates l zero (Back by k) = stays (h .tally .creates) l
   counted Creates l (suc zero) q = stays (h .tally .creates) l
   counted Creates l (suc (suc j)) q = rw (refused j) (stays (h .tally .creates) l)
   counted Borrows l zero (Single by (Create w s r)) = stays (h .tally .borrows) l
@@ -43,6 +45,8 @@ module _ (sheet : Sheet) (h : State) where
   counted Borrows l zero (Single by (Write u s)) = stays (h .tally .borrows) l
   counted Borrows l zero (Single by (Drop u)) = stays (h .tally .borrows) l
   counted Borrows l zero (Group by names) = stays (h .tally .borrows) l
+  counted Borrows l zero (Mark by k) = stays (h .tally .borrows) l
+  counted Borrows l zero (Back by k) = stays (h .tally .borrows) l
   counted Borrows l (suc zero) q = stays (h .tally .borrows) l
   counted Borrows l (suc (suc j)) q = rw (refused j) (stays (h .tally .borrows) l)
   counted Reads l zero (Single by (Create w s r)) = stays (h .tally .reads) l
@@ -51,6 +55,8 @@ module _ (sheet : Sheet) (h : State) where
   counted Reads l zero (Single by (Write u s)) = stays (h .tally .reads) l
   counted Reads l zero (Single by (Drop u)) = stays (h .tally .reads) l
   counted Reads l zero (Group by names) = stays (h .tally .reads) l
+  counted Reads l zero (Mark by k) = stays (h .tally .reads) l
+  counted Reads l zero (Back by k) = stays (h .tally .reads) l
   counted Reads l (suc zero) q = stays (h .tally .reads) l
   counted Reads l (suc (suc j)) q = rw (refused j) (stays (h .tally .reads) l)
   counted Writes l zero (Single by (Create w s r)) = stays (h .tally .writes) l
@@ -59,6 +65,8 @@ module _ (sheet : Sheet) (h : State) where
   counted Writes l zero (Single by (Write u s)) = goes-up (h .tally .writes)
   counted Writes l zero (Single by (Drop u)) = stays (h .tally .writes) l
   counted Writes l zero (Group by names) = stays (h .tally .writes) l
+  counted Writes l zero (Mark by k) = stays (h .tally .writes) l
+  counted Writes l zero (Back by k) = stays (h .tally .writes) l
   counted Writes l (suc zero) q = stays (h .tally .writes) l
   counted Writes l (suc (suc j)) q = rw (refused j) (stays (h .tally .writes) l)
   counted Drops l zero (Single by (Create w s r)) = stays (h .tally .drops) l
@@ -67,6 +75,8 @@ module _ (sheet : Sheet) (h : State) where
   counted Drops l zero (Single by (Write u s)) = stays (h .tally .drops) l
   counted Drops l zero (Single by (Drop u)) = goes-up (h .tally .drops)
   counted Drops l zero (Group by names) = goes-up (h .tally .drops)
+  counted Drops l zero (Mark by k) = stays (h .tally .drops) l
+  counted Drops l zero (Back by k) = stays (h .tally .drops) l
   counted Drops l (suc zero) q = stays (h .tally .drops) l
   counted Drops l (suc (suc j)) q = rw (refused j) (stays (h .tally .drops) l)
   counted Refusals l zero (Single by (Create w s r)) = stays (h .tally .refused) l
@@ -75,6 +85,8 @@ module _ (sheet : Sheet) (h : State) where
   counted Refusals l zero (Single by (Write u s)) = stays (h .tally .refused) l
   counted Refusals l zero (Single by (Drop u)) = stays (h .tally .refused) l
   counted Refusals l zero (Group by names) = stays (h .tally .refused) l
+  counted Refusals l zero (Mark by k) = stays (h .tally .refused) l
+  counted Refusals l zero (Back by k) = stays (h .tally .refused) l
   counted Refusals l (suc zero) q = stays (h .tally .refused) l
   counted Refusals l (suc (suc j)) q = rw (le-leb 2 (suc (suc j)) (omega arith)) (goes-up (h .tally .refused))
 

@@ -10,7 +10,7 @@ use Rattle.model.specs.declared.Event.the-variants.{Create, Borrow, Read
 use Rattle.model.specs.declared.Sheet.{Sheet}
 use Rattle.model.specs.Refusals.{refusals, judge}
 use Rattle.model.specs.Step.{State, view, verdict, outcome, answer, after}
-use Rattle.model.specs.Requests.{Request, Single, Group, risesAbove}
+use Rattle.model.specs.Requests.{Request, Single, Group, Mark, Back, risesAbove}
 use Rattle.model.specs.Effects.{newName}
 use Rattle.model.specs.Given.{given, countFrom, GivenInOrder}
 use Rattle.model.proofs.Judged.{allowed}
@@ -35,6 +35,8 @@ judged-gives sheet h (Single by (Read u s)) zero e = none refl refl
 judged-gives sheet h (Single by (Write u s)) zero e = none refl refl
 judged-gives sheet h (Single by (Drop u)) zero e = none refl refl
 judged-gives sheet h (Group by names) zero e = none refl refl
+judged-gives sheet h (Mark by k) zero e = none refl refl
+judged-gives sheet h (Back by k) zero e = none refl refl
 judged-gives sheet h q (suc zero) e = none refl refl
 judged-gives sheet h q (suc (suc j)) e = none (unnamed j (newName (h .tally .issued) q)) refl
 

@@ -1,14 +1,15 @@
 -- An allowed request meets none of its refusals, and the rows that it leaves fit the table.
 -- Assumes nothing.
-use mathlib.Core.Path.{_≡_, refl, sym, _∙_}
+use mathlib.Core.Path.{_≡_, refl, sym, ap, _∙_}
 use mathlib.Core.Logic.{_⊎_, inl, inr}
 use mathlib.Core.Bool.{Bool, true, false, not, _&&_, _||_}
 use mathlib.Core.List.{List, [], _∷_}
 use Prim.Native.Nat.{ℕ, _≤_, _<_}
 use native.Mathlib.Omega.{arith}
 use lib.Dec.{eqb, leb, ltb}
-use lib.ListN.{length, length-map, length-reverse}
-use borrow.Author.Tests.{eqb-true, eq-eqb, ltb-true, not-true, not-false}
+use lib.ListN.{length, getD, length-map, length-reverse, length-set}
+use lib.Seq.{getD-set-other}
+use borrow.Author.Tests.{eqb-true, eqb-false, eq-eqb, ltb-true, not-true, not-false}
 use Rattle.model.specs.declared.Cap.{Cap}
 use Rattle.model.specs.declared.Name.{Name}
 use Rattle.model.specs.declared.Span.{Span}
@@ -17,16 +18,18 @@ use Rattle.model.specs.declared.Terms.{Terms}
 use Rattle.model.specs.declared.Tally.{Tally}
 use Rattle.model.specs.declared.NewName.{NewName}
 use Rattle.model.specs.declared.Event.the-variants.{Create, Borrow, Read, Write, Drop}
-use Rattle.model.specs.Requests.{Limits, Caller, Request, Single, Group, callerOf, risesAbove, risesStrictly, isGroup}
+use Rattle.model.specs.Requests.{Limits, Caller, Request, Single, Group, Mark, Back, callerOf, turnsState, marks, risesAbove, risesStrictly, isGroup}
+use Rattle.model.specs.Slots.{Memory, Slot, Nothing, Stored}
 use Rattle.model.specs.declared.Sheet.{Sheet}
 use Rattle.model.specs.Lists.{any, all, first}
 use Rattle.model.specs.Table.{named, liveRows, isRight, isKind, isMark, isDomain, inOrder}
-use Rattle.model.specs.Bits.{hasBit}
+use Rattle.model.specs.Bits.{hasBit, bitAt}
 use Rattle.model.specs.Limits.{refusedSheet}
-use Rattle.model.specs.Refusals.{View, notADomain, notAHolder, unfitTable, unfit, standings, checks, refusals, judge}
+use Rattle.model.specs.Refusals.{View, viewOf, notADomain, notAHolder, unfitTable, unfitStored, unfit, standings, checks, refusals, judge}
 use Rattle.model.specs.Effects.{revoke, afterAccess, issuedAfter}
 use Rattle.model.specs.Counts.{countAllowed}
-use Rattle.model.proofs.Lists.{All, All-map, test, and-both, or-neither, listed, first-none, first-zero, length-filter}
+use Rattle.model.specs.Step.{State, worked, memoryAfter, slotsAfter}
+use Rattle.model.proofs.Lists.{All, All-map, test, clash, and-both, or-neither, listed, first-none, first-zero, length-filter}
 
 pub numbered : (v : View) (q : Request) → all (λ c. ltb 0 (c .0)) (refusals v q) ≡ true
 unfolding refusals standings
@@ -40,6 +43,8 @@ numbered v (Group by names) = each (liveRows (v .table)) names
     each : (rows : List Cap) (names : List ℕ) → all (λ c. ltb 0 (c .0)) (standings rows (v .issued) (by .actor) names) ≡ true
     each rows [] = refl
     each rows (u ∷ names) = each rows names
+numbered v (Mark by k) = refl
+numbered v (Back by k) = refl
 
 -- the condition listed under a number does not hold
 pub allowed : (v : View) (q : Request) → judge v q ≡ 0 → (k : ℕ) → listed k (refusals v q) ≡ false
@@ -52,13 +57,15 @@ unfolding standings
 above-names rows issued actor [] = refl
 above-names rows issued actor (u ∷ names) = above-names rows issued actor names
 
-above-one : (rows : List Cap) (issued : ℕ) (isWritten : ℕ → Bool) (size : ℕ) (q : Request) → all (λ c. ltb 1 (c .0)) (checks rows issued isWritten size q) ≡ true
-above-one rows issued isWritten size (Single by (Create w s r)) = refl
-above-one rows issued isWritten size (Single by (Borrow w u s r)) = refl
-above-one rows issued isWritten size (Single by (Read u s)) = refl
-above-one rows issued isWritten size (Single by (Write u s)) = refl
-above-one rows issued isWritten size (Single by (Drop u)) = refl
-above-one rows issued isWritten size (Group by names) = above-names rows issued (by .actor) names
+above-one : (rows : List Cap) (issued : ℕ) (isWritten : ℕ → Bool) (slot : ℕ → Slot (List Cap)) (size : ℕ) (q : Request) → all (λ c. ltb 1 (c .0)) (checks rows issued isWritten slot size q) ≡ true
+above-one rows issued isWritten slot size (Single by (Create w s r)) = refl
+above-one rows issued isWritten slot size (Single by (Borrow w u s r)) = refl
+above-one rows issued isWritten slot size (Single by (Read u s)) = refl
+above-one rows issued isWritten slot size (Single by (Write u s)) = refl
+above-one rows issued isWritten slot size (Single by (Drop u)) = refl
+above-one rows issued isWritten slot size (Group by names) = above-names rows issued (by .actor) names
+above-one rows issued isWritten slot size (Mark by k) = refl
+above-one rows issued isWritten slot size (Back by k) = refl
 
 first-above : (cs : List (ℕ × Bool)) → all (λ c. ltb 1 (c .0)) cs ≡ true → first cs ≡ 1 → ⊥
 first-above [] h e = omega arith
@@ -68,15 +75,21 @@ first-above (c ∷ cs) h e = let p = and-both (ltb 1 (c .0)) (all (λ c. ltb 1 (
     go (inl t) l ih = let q : c .0 ≡ 1 = rw t at e in omega arith
     go (inr f) l ih = ih (rw f at e)
 
-pub fit-not-1 : (v : View) (q : Request) → unfit (callerOf q .limits) v ≡ false → judge v q ≡ 1 → ⊥
+pub fit-not-1 : (v : View) (q : Request) → unfitStored v q ≡ false → unfit (callerOf q .limits) v ≡ false → judge v q ≡ 1 → ⊥
 unfolding judge refusals
-fit-not-1 v q o e =
-    first-above (checks (liveRows (v .table)) (v .issued) (v .isWritten) (length (v .table)) q) (above-one (liveRows (v .table)) (v .issued) (v .isWritten) (length (v .table)) q) (rw o at e)
+fit-not-1 v q stored o e =
+    first-above (checks (liveRows (v .table)) (v .issued) (v .isWritten) (v .slot) (length (v .table)) q) (above-one (liveRows (v .table)) (v .issued) (v .isWritten) (v .slot) (length (v .table)) q) (rw (stored, o) at e)
 
--- what is lent is fit where the table is in order, the sheet of limits is taken, and the bytes are as many as are taken
+-- what is lent is fit where the table is in order, the sheet of limits is taken, and the bytes and the slots are as many as are taken
 module _ (limits : Limits) (v : View) where
-  fit-table : unfit limits v ≡ false → unfitTable limits (v .table) (v .issued) ≡ false
-  fit-table f = or-neither (unfitTable limits (v .table) (v .issued)) (not (eqb (v .bytes) 8192)) f .0
+  abbrev sizes : Bool
+  sizes = not (eqb (v .bytes) 8192) || not (eqb (v .slotCount) 8)
+
+  pub fit-table : unfit limits v ≡ false → unfitTable limits (v .table) (v .issued) ≡ false
+  fit-table f = or-neither (unfitTable limits (v .table) (v .issued)) sizes f .0
+
+  fit-sizes : unfit limits v ≡ false → (not (eqb (v .bytes) 8192) ≡ false) × (not (eqb (v .slotCount) 8) ≡ false)
+  fit-sizes f = or-neither (not (eqb (v .bytes) 8192)) (not (eqb (v .slotCount) 8)) (or-neither (unfitTable limits (v .table) (v .issued)) sizes f .1)
 
   pub fit-order : unfit limits v ≡ false → inOrder (v .table) (v .issued) ≡ true
   fit-order f = not-false (inOrder (v .table) (v .issued)) (or-neither (not (inOrder (v .table) (v .issued))) (refusedSheet (v .table) limits) (fit-table f) .0)
@@ -85,16 +98,25 @@ module _ (limits : Limits) (v : View) where
   fit-sheet f = or-neither (not (inOrder (v .table) (v .issued))) (refusedSheet (v .table) limits) (fit-table f) .1
 
   pub fit-size : unfit limits v ≡ false → v .bytes ≡ 8192
-  fit-size f = eqb-true (v .bytes) 8192 (not-false (eqb (v .bytes) 8192) (or-neither (unfitTable limits (v .table) (v .issued)) (not (eqb (v .bytes) 8192)) f .1))
+  fit-size f = eqb-true (v .bytes) 8192 (not-false (eqb (v .bytes) 8192) (fit-sizes f .0))
 
-  pub fit-all : inOrder (v .table) (v .issued) ≡ true → refusedSheet (v .table) limits ≡ false → v .bytes ≡ 8192 → unfit limits v ≡ false
-  fit-all o l s = rw (o, l, s)
+  pub fit-slots : unfit limits v ≡ false → v .slotCount ≡ 8
+  fit-slots f = eqb-true (v .slotCount) 8 (not-false (eqb (v .slotCount) 8) (fit-sizes f .1))
+
+  pub fit-all : inOrder (v .table) (v .issued) ≡ true → refusedSheet (v .table) limits ≡ false → v .bytes ≡ 8192 → v .slotCount ≡ 8 → unfit limits v ≡ false
+  fit-all o l s n = rw (o, l, s, n)
 
 -- as it is where a request is allowed
 module _ (v : View) (q : Request) (h : judge v q ≡ 0) where
-  is-fit : unfit (callerOf q .limits) v ≡ false
+  parts : (unfitStored v q ≡ false) × (unfit (callerOf q .limits) v ≡ false)
   unfolding refusals
-  is-fit = allowed v q h 1
+  parts = or-neither (unfitStored v q) (unfit (callerOf q .limits) v) (allowed v q h 1)
+
+  pub stored-fit : unfitStored v q ≡ false
+  stored-fit = parts .0
+
+  pub is-fit : unfit (callerOf q .limits) v ≡ false
+  is-fit = parts .1
 
   pub in-order : inOrder (v .table) (v .issued) ≡ true
   in-order = fit-order (callerOf q .limits) v is-fit
@@ -105,6 +127,63 @@ module _ (v : View) (q : Request) (h : judge v q ≡ 0) where
   pub sized : v .bytes ≡ 8192
   sized = fit-size (callerOf q .limits) v is-fit
 
+  pub eight-slots : v .slotCount ≡ 8
+  eight-slots = fit-slots (callerOf q .limits) v is-fit
+
+-- ---- what turns no state
+
+-- it has nothing stored to be judged, asks no slot, works on the memory, and leaves the slots
+pub no-slot : (v : View) (q : Request) → turnsState q ≡ false → unfitStored v q ≡ false
+no-slot v (Single by e) t = refl
+no-slot v (Group by names) t = refl
+no-slot v (Mark by k) t = refl
+no-slot v (Back by k) t = clash refl t
+
+pub checks-slots : (rows : List Cap) (issued : ℕ) (isWritten : ℕ → Bool) (slot slot′ : ℕ → Slot (List Cap)) (size : ℕ) (q : Request) → turnsState q ≡ false
+    → checks rows issued isWritten slot size q ≡ checks rows issued isWritten slot′ size q
+checks-slots rows issued isWritten slot slot′ size (Single by (Create w s r)) t = refl
+checks-slots rows issued isWritten slot slot′ size (Single by (Borrow w u s r)) t = refl
+checks-slots rows issued isWritten slot slot′ size (Single by (Read u s)) t = refl
+checks-slots rows issued isWritten slot slot′ size (Single by (Write u s)) t = refl
+checks-slots rows issued isWritten slot slot′ size (Single by (Drop u)) t = refl
+checks-slots rows issued isWritten slot slot′ size (Group by names) t = refl
+checks-slots rows issued isWritten slot slot′ size (Mark by k) t = clash refl t
+checks-slots rows issued isWritten slot slot′ size (Back by k) t = clash refl t
+
+-- so it is judged alike with any slots, if they are as many
+pub judge-slots : (table : List Cap) (bits : List ℕ) (slots slots′ : List (Slot Memory)) (i : ℕ) (q : Request) → turnsState q ≡ false → length slots ≡ length slots′ → judge (viewOf table bits slots i) q ≡ judge (viewOf table bits slots′ i) q
+unfolding judge refusals
+judge-slots table bits slots slots′ i q t e =
+    rw (no-slot (viewOf table bits slots i) q t, no-slot (viewOf table bits slots′ i) q t, e)
+    (ap (λ cs. first ((1, unfit (callerOf q .limits) (viewOf table bits slots′ i)) ∷ cs)) (checks-slots (liveRows table) i (bitAt bits) (viewOf table bits slots i .slot) (viewOf table bits slots′ i .slot) (length table) q t))
+
+pub works-memory : (sheet : Sheet) (h : State) (q : Request) → turnsState q ≡ false → memoryAfter sheet h q ≡ worked sheet (h .tally .issued) (h .memory) q
+works-memory sheet h (Single by e) t = refl
+works-memory sheet h (Group by names) t = refl
+works-memory sheet h (Mark by k) t = clash refl t
+works-memory sheet h (Back by k) t = clash refl t
+
+pub stores-nothing : {A : Type 0} (present : A) (slots : List (Slot A)) (q : Request) → turnsState q ≡ false → slotsAfter present slots q ≡ slots
+stores-nothing present slots (Single by e) t = refl
+stores-nothing present slots (Group by names) t = refl
+stores-nothing present slots (Mark by k) t = clash refl t
+stores-nothing present slots (Back by k) t = clash refl t
+
+-- ---- what is stored
+
+-- what makes no mark in a slot leaves it, and nothing makes slots more or fewer
+pub slot-kept : {A : Type 0} (present : A) (slots : List (Slot A)) (k : ℕ) (q : Request) → marks k q ≡ false → getD (slotsAfter present slots q) k Nothing ≡ getD slots k Nothing
+slot-kept present slots k (Single by e) f = refl
+slot-kept present slots k (Group by names) f = refl
+slot-kept present slots k (Mark by j) f = getD-set-other slots j k (Stored present) Nothing (eqb-false k j f)
+slot-kept present slots k (Back by j) f = refl
+
+pub slots-size : {A : Type 0} (present : A) (slots : List (Slot A)) (q : Request) → length (slotsAfter present slots q) ≡ length slots
+slots-size present slots (Single by e) = refl
+slots-size present slots (Group by names) = refl
+slots-size present slots (Mark by k) = length-set slots k (Stored present)
+slots-size present slots (Back by k) = refl
+
 -- the issued number goes up with the names
 pub counted-issued : (q : Request) (t : Tally) → countAllowed q t .issued ≡ issuedAfter (t .issued) q
 counted-issued (Single by (Create w s r)) t = refl
@@ -113,6 +192,8 @@ counted-issued (Single by (Read u s)) t = refl
 counted-issued (Single by (Write u s)) t = refl
 counted-issued (Single by (Drop u)) t = refl
 counted-issued (Group by names) t = refl
+counted-issued (Mark by k) t = refl
+counted-issued (Back by k) t = refl
 
 -- what 2 says of what a create or borrow gives
 pub record Given (by : Caller) (r : Terms) : Type 0 where

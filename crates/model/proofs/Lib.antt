@@ -1,4 +1,5 @@
 mod Lists
+mod Slots
 mod Addresses
 mod Ancestries
 mod Strikes
@@ -24,6 +25,7 @@ mod Fresh
 mod Sheet6
 mod Together
 mod Demand3
+mod GoingBack
 mod Given
 mod Lowered
 mod ReadRemoved

@@ -10,7 +10,8 @@ use borrow.Author.Tests.{leb-true, le-leb, le-ltb, ltb-true}
 use Rattle.model.specs.declared.Cap.{Cap}
 use Rattle.model.specs.declared.Sheet.{Sheet}
 use Rattle.model.specs.Lists.{first}
-use Rattle.model.specs.Requests.{Limited, Request, callerOf}
+use Rattle.model.specs.Requests.{Limited, Request, callerOf, turnsState}
+use Rattle.model.specs.Slots.{Slot}
 use Rattle.model.specs.Table.{derivation, liveRows, lentTable, termsInOrder, rowsInOrder, inOrder}
 use Rattle.model.specs.Limits.{sum, exceeds, refusedSheet}
 use Rattle.model.specs.Refusals.{View, unfitTable, checks, refusals, judge}
@@ -18,7 +19,7 @@ use Rattle.model.specs.Effects.{rowsAfter, issuedAfter}
 use Rattle.model.proofs.Lists.{All, All-map}
 use Rattle.model.proofs.Lent.{Named, live-lent, length-lent}
 use Rattle.model.proofs.Limits.{fewer-than-limits}
-use Rattle.model.proofs.Judged.{in-order}
+use Rattle.model.proofs.Judged.{in-order, no-slot}
 use Rattle.model.proofs.Order.{liveRowsFirst-lent, terms-given, fitting, Ordered, ordered, next-named, names-enough, next-rowsInOrder, exceeds-next}
 
 -- the sheet is not refused for its length or its sum
@@ -64,23 +65,23 @@ module _ (limits : List ℕ) (n : ℕ) (f : Fits limits n) (i : ℕ) (rows : Lis
         k .unexceeded,
       )
 
-  module _ (isWritten : ℕ → Bool) where
+  module _ (isWritten : ℕ → Bool) (slot : ℕ → Slot (List Cap)) where
     -- what a request is judged on
     abbrev here : View
-    here = record { table = lentTable n rows; issued = i; isWritten = isWritten; bytes = 8192 }
+    here = record { table = lentTable n rows; issued = i; isWritten = isWritten; bytes = 8192; slot = slot; slotCount = 8 }
 
-    judged : (q : Request) → callerOf q .limits ≡ Limited limits → judge here q ≡ first (checks rows i isWritten n q)
+    judged : (q : Request) → turnsState q ≡ false → callerOf q .limits ≡ Limited limits → judge here q ≡ first (checks rows i isWritten slot n q)
     unfolding judge refusals
-    judged q l = rw (l, fit) (ap₂ (λ r m. first (checks r i isWritten m q)) live size)
+    judged q t l = rw (l, no-slot here q t, fit) (ap₂ (λ r m. first (checks r i isWritten slot m q)) live size)
 
     module _ (sheet : Sheet) where
       module _ (q : Request) (z : judge here q ≡ 0) where
         in-place : Ordered (lentTable n rows) i
         in-place = ordered (lentTable n rows) i (in-order here q z)
 
-      pub kept-by : (q : Request) → callerOf q .limits ≡ Limited limits → first (checks rows i isWritten n q) ≡ 0 → Within limits (issuedAfter i q) (rowsAfter sheet i rows q)
-      kept-by q l h =
-          let z : judge here q ≡ 0 = judged q l ∙ h in
+      pub kept-by : (q : Request) → turnsState q ≡ false → callerOf q .limits ≡ Limited limits → first (checks rows i isWritten slot n q) ≡ 0 → Within limits (issuedAfter i q) (rowsAfter sheet i rows q)
+      kept-by q t l h =
+          let z : judge here q ≡ 0 = judged q t l ∙ h in
           record {
             are-named = rw live at (next-named sheet here (in-place q z) q);
             rise = rw live at (next-rowsInOrder sheet here (in-place q z) q z);

@@ -7,7 +7,7 @@ use mathlib.Core.List.{List, [], _∷_, _++_, map, map-append, reverse, reverse-
 use Prim.Native.Nat.{ℕ, zero, suc, _≤_, _<_}
 use native.Mathlib.Omega.{arith}
 use lib.Dec.{eqb, ltb}
-use lib.ListN.{length, replicate}
+use lib.ListN.{length, getD, set, replicate}
 use borrow.Author.Tests.{ltb-true, eqb-true, ne-eqb}
 use Rattle.model.specs.Lists.{consIf, filter, any, all, first, final, answers}
 
@@ -33,6 +33,10 @@ and-both false b e = absurd (false≢true e)
 pub or-neither : (a b : Bool) → a || b ≡ false → (a ≡ false) × (b ≡ false)
 or-neither true b e = clash refl e
 or-neither false b e = (refl, e)
+
+pub cond-same : {A : Type 0} (b : Bool) (x : A) → cond b x x ≡ x
+cond-same true x = refl
+cond-same false x = refl
 
 -- a test, and none of two more
 pub and-neither : (a e l : Bool) → a && not (e || l) ≡ a && not l && not e
@@ -68,6 +72,21 @@ module _ {A : Type 0} where
   pub All-last : (P : A → Type 0) (l m : List A) → All P (l ++ m) → All P m
   All-last P [] m h = h
   All-last P (x ∷ l) m h = All-last P l m (h .1)
+
+  -- a fact of every member is a fact of each, and of the list with another such member
+  pub All-getD : (P : A → Type 0) (l : List A) (d : A) → P d → All P l → (k : ℕ) → P (getD l k d)
+  All-getD P [] d p a k = p
+  All-getD P (x ∷ l) d p a zero = a .0
+  All-getD P (x ∷ l) d p a (suc k) = All-getD P l d p (a .1) k
+
+  pub All-replicate : (P : A → Type 0) (x : A) → P x → (n : ℕ) → All P (replicate n x)
+  All-replicate P x p zero = tt
+  All-replicate P x p (suc n) = (p, All-replicate P x p n)
+
+  pub All-set : (P : A → Type 0) (l : List A) (k : ℕ) (x : A) → P x → All P l → All P (set l k x)
+  All-set P [] k x p a = tt
+  All-set P (y ∷ l) zero x p a = (p, a .1)
+  All-set P (y ∷ l) (suc k) x p a = (a .0, All-set P l k x p (a .1))
 
   pub All-reverse : (P : A → Type 0) (l : List A) → All P l → All P (reverse l)
   All-reverse P [] h = tt

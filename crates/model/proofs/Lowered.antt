@@ -3,9 +3,9 @@
 -- Assumes nothing.
 use mathlib.Core.Path.{_≡_, refl, sym, ap, _∙_}
 use mathlib.Core.Logic.{_⊎_, inl, inr}
-use mathlib.Core.Bool.{Bool, true, false, not, cond, _&&_, or-false}
+use mathlib.Core.Bool.{Bool, true, false, not, cond, _&&_, _||_, or-false}
 use mathlib.Core.List.{List, [], _∷_, map, map-map, reverse, reverse-reverse}
-use Prim.Native.Nat.{ℕ, zero, suc, _≤_}
+use Prim.Native.Nat.{ℕ, suc, _≤_}
 use native.Mathlib.Omega.{arith}
 use lib.Dec.{eqb, leb, ltb}
 use lib.ListN.{length, length-map, getD}
@@ -18,16 +18,17 @@ use Rattle.model.specs.declared.Access.{Access}
 use Rattle.model.specs.declared.Access.the-variants.{Reading, Writing}
 use Rattle.model.specs.declared.Sheet.{Sheet}
 use Rattle.model.specs.Lists.{filter, any, all}
-use Rattle.model.specs.Requests.{Limits, Caller, Request, Single, Group, callerOf}
+use Rattle.model.specs.Requests.{Limits, Caller, Request, Single, Group, Mark, Back, callerOf, turnsState}
+use Rattle.model.specs.Slots.{Memory, Slot}
 use Rattle.model.specs.Values.{inside}
 use Rattle.model.specs.Table.{row, emptyRow, span, derivation, derivations, named, liveRows, lentTable, lookup, isRight, rowsInOrder, inOrder}
-use Rattle.model.specs.Refusals.{View, viewOf, unfit, notAHolder, notWritten, standings, checks, refusals, judge}
+use Rattle.model.specs.Refusals.{View, viewOf, unfitStored, unfit, notAHolder, notWritten, standings, checks, refusals, judge}
 use Rattle.model.specs.Limits.{noRow, limitReached}
 use Rattle.model.specs.Bits.{hasBit, bitAt, spanWritten}
 use Rattle.model.specs.Effects.{lowered, revoke, afterAccess, rowsWithout, root, rowsAfter}
 use Rattle.model.specs.History
-use Rattle.model.proofs.Lists.{All, All-map, All-of, All-reverse, All-unfilter, test, clash, and-both, filter-map, map-cong, map-reverse, any-map, first-zero}
-use Rattle.model.proofs.Judged.{numbered, sheet-allowed}
+use Rattle.model.proofs.Lists.{All, All-map, All-of, All-getD, All-reverse, All-unfilter, test, clash, and-both, filter-map, map-cong, map-reverse, any-map, first-zero}
+use Rattle.model.proofs.Judged.{numbered, sheet-allowed, sized, eight-slots, no-slot, fit-all}
 use Rattle.model.proofs.Limits.{sheet-lower, row-lower, limit-lower}
 use Rattle.model.proofs.Order.{place, rises, right-positive, ordered}
 use Rattle.model.proofs.Rows.{lent-changed}
@@ -52,14 +53,14 @@ weaker-passes (c ∷ cs) (d ∷ ds) w p =
     let q = and-both (not (d .1)) (all (λ c. not (c .1)) ds) p in
     rw (w .0 (not-true (d .1) (q .0))) (weaker-passes cs ds (w .1) (q .1))
 
-checks-pass : (v : View) (q : Request) → judge v q ≡ 0 → Pass (checks (liveRows (v .table)) (v .issued) (v .isWritten) (length (v .table)) q)
+checks-pass : (v : View) (q : Request) → judge v q ≡ 0 → Pass (checks (liveRows (v .table)) (v .issued) (v .isWritten) (v .slot) (length (v .table)) q)
 unfolding judge refusals
 checks-pass v q z =
-    and-both (not (unfit (callerOf q .limits) v)) (all (λ c. not (c .1)) (checks (liveRows (v .table)) (v .issued) (v .isWritten) (length (v .table)) q)) (sym (first-zero (refusals v q) (numbered v q)) ∙ eq-eqb (judge v q) 0 z) .1
+    and-both (not (unfitStored v q || unfit (callerOf q .limits) v)) (all (λ c. not (c .1)) (checks (liveRows (v .table)) (v .issued) (v .isWritten) (v .slot) (length (v .table)) q)) (sym (first-zero (refusals v q) (numbered v q)) ∙ eq-eqb (judge v q) 0 z) .1
 
-passed : (v : View) (q : Request) → unfit (callerOf q .limits) v ≡ false → Pass (checks (liveRows (v .table)) (v .issued) (v .isWritten) (length (v .table)) q) → judge v q ≡ 0
+passed : (v : View) (q : Request) → unfitStored v q ≡ false → unfit (callerOf q .limits) v ≡ false → Pass (checks (liveRows (v .table)) (v .issued) (v .isWritten) (v .slot) (length (v .table)) q) → judge v q ≡ 0
 unfolding judge refusals
-passed v q o p = eqb-true (judge v q) 0 (first-zero (refusals v q) (numbered v q) ∙ rw o p)
+passed v q s o p = eqb-true (judge v q) 0 (first-zero (refusals v q) (numbered v q) ∙ rw (s, o) p)
 
 -- ---- rights in order
 
@@ -125,7 +126,7 @@ module _ (hit : ℕ → Bool) where
       go (inr e) ih = rw e ih
 
   -- what passes on the lowered rows passes on the rows
-  module _ (rows : List Cap) (positive : All (λ c. 1 ≤ c .right) rows) (i : ℕ) (isWritten : ℕ → Bool) (size : ℕ) where
+  module _ (rows : List Cap) (positive : All (λ c. 1 ≤ c .right) rows) (i : ℕ) (isWritten : ℕ → Bool) (slot : ℕ → Slot (List Cap)) (size : ℕ) where
     found : (x : ℕ) → not (any (named x) (map lower rows)) ≡ false → not (any (named x) rows) ≡ false
     found x e = ap not (sym (any-map lower (named x) rows)) ∙ e
 
@@ -156,13 +157,15 @@ module _ (hit : ℕ → Bool) where
     standings-weaker actor [] = tt
     standings-weaker actor (u ∷ names) = (λ e. e, (found u, (held actor (record { 0 = u }), standings-weaker actor names)))
 
-    checks-weaker : (q : Request) → Weaker (checks rows i isWritten size q) (checks (map lower rows) i isWritten size q)
+    checks-weaker : (q : Request) → Weaker (checks rows i isWritten slot size q) (checks (map lower rows) i isWritten slot size q)
     checks-weaker (Single by (Create w s r)) = (λ e. e, (λ e. e, (λ e. e, (λ e. e, (roomy (by .limits), (unreached by, tt))))))
     checks-weaker (Single by (Borrow w u s r)) = (λ e. e, (λ e. e, (λ e. e, (found (u .0), (held (by .actor) u, (within (u .0) s, (higher (u .0) (r .right), (shallow (u .0), (λ e. e, (λ e. e, (roomy (by .limits), (unreached by, tt))))))))))))
     checks-weaker (Single by (Read u s)) = (λ e. e, (λ e. e, (λ e. e, (found (u .0), (held (by .actor) u, (within (u .0) s, (readable u s, tt)))))))
     checks-weaker (Single by (Write u s)) = (λ e. e, (λ e. e, (λ e. e, (found (u .0), (held (by .actor) u, (within (u .0) s, (higher (u .0) 2, tt)))))))
     checks-weaker (Single by (Drop u)) = (λ e. e, (λ e. e, (found (u .0), (held (by .actor) u, tt))))
     checks-weaker (Group by names) = (λ e. e, (λ e. e, standings-weaker (by .actor) names))
+    checks-weaker (Mark by k) = (λ e. e, tt)
+    checks-weaker (Back by k) = (λ e. e, (λ e. e, tt))
 
   -- a request does to the lowered rows what it does to the rows; a new name is not lowered
   rows-lower : (sheet : Sheet) (issued : ℕ) → hit (suc issued) ≡ false → (rows : List Cap) (q : Request) → rowsAfter sheet issued (map lower rows) q ≡ map lower (rowsAfter sheet issued rows q)
@@ -173,20 +176,25 @@ module _ (hit : ℕ → Bool) where
   rows-lower sheet issued z rows (Single by (Write u s)) = access-lower sheet Writing (u .0) s rows
   rows-lower sheet issued z rows (Single by (Drop u)) = without-lower (u .0 ∷ []) rows
   rows-lower sheet issued z rows (Group by names) = without-lower names rows
+  rows-lower sheet issued z rows (Mark by k) = refl
+  rows-lower sheet issued z rows (Back by k) = refl
 
   -- the same of whole tables
   pub live-lower : (t : List Cap) → liveRows (map lower t) ≡ map lower (liveRows t)
   unfolding liveRows
   live-lower t = ap reverse (filter-map lower (λ c. not (named 0 c)) t) ∙ sym (map-reverse lower (filter (λ c. not (named 0 c)) t))
 
-  module _ (t : List Cap) (bits : List ℕ) (i : ℕ) (q : Request) where
+  module _ (t : List Cap) (bits : List ℕ) (slots : List (Slot Memory)) (i : ℕ) (q : Request) where
     -- what is allowed of the lowered table is allowed of the table
-    pub allowed-lower : inOrder t i ≡ true → length bits ≡ 8192 → judge (viewOf (map lower t) bits i) q ≡ 0 → judge (viewOf t bits i) q ≡ 0
-    allowed-lower o e z =
+    pub allowed-lower : turnsState q ≡ false → inOrder t i ≡ true → judge (viewOf (map lower t) bits slots i) q ≡ 0 → judge (viewOf t bits slots i) q ≡ 0
+    allowed-lower s o z =
         let rights = All-map _ _ (λ c e. right-positive (c .right) e) (liveRows t) (rights-given (suc i) (liveRows t) (ordered t i o .rise)) in
-        passed (viewOf t bits i) q (rw (o, e, sym (sheet-lower (λ c. hit (c .name .0)) (callerOf q .limits) t (live-lower t)) ∙ sheet-allowed (viewOf (map lower t) bits i) q z))
-        (weaker-passes (checks (liveRows t) i (bitAt bits) (length t) q) (checks (map lower (liveRows t)) i (bitAt bits) (length t) q) (checks-weaker (liveRows t) rights i (bitAt bits) (length t) q)
-        (rw (live-lower t, length-map) at (checks-pass (viewOf (map lower t) bits i) q z)))
+        let v : View = viewOf t bits slots i in
+        let low : View = viewOf (map lower t) bits slots i in
+        passed v q (no-slot v q s)
+        (fit-all (callerOf q .limits) v o (sym (sheet-lower (λ c. hit (c .name .0)) (callerOf q .limits) t (live-lower t)) ∙ sheet-allowed low q z) (sized low q z) (eight-slots low q z))
+        (weaker-passes (checks (liveRows t) i (bitAt bits) (v .slot) (length t) q) (checks (map lower (liveRows t)) i (bitAt bits) (v .slot) (length t) q) (checks-weaker (liveRows t) rights i (bitAt bits) (v .slot) (length t) q)
+        (rw (live-lower t, length-map) at (checks-pass low q z)))
 
   module _ (t : List Cap) (i : ℕ) (q : Request) where
     -- and leaves of the one what it leaves of the other, lowered
@@ -197,11 +205,6 @@ module _ (hit : ℕ → Bool) where
         (lent-changed lower (ap (λ b. lowered b emptyRow) empty) (length t) (rowsAfter sheet i (liveRows t) q))
 
 -- ---- rights in the table
-
-All-getD : {A : Type 0} (P : A → Type 0) (l : List A) (d : A) → P d → All P l → (k : ℕ) → P (getD l k d)
-All-getD P [] d p a k = p
-All-getD P (x ∷ l) d p a zero = a .0
-All-getD P (x ∷ l) d p a (suc k) = All-getD P l d p (a .1) k
 
 pub rights-table : (t : List Cap) (i : ℕ) → inOrder t i ≡ true → (k : ℕ) → not (named 0 (getD t k emptyRow)) ≡ true → isRight (getD t k emptyRow .right) ≡ true
 unfolding liveRows

@@ -8,15 +8,16 @@ use Prim.Native.Nat.{ℕ, zero, suc, _<_, _≤_}
 use native.Mathlib.Nat.{sub-zero}
 use native.Mathlib.Omega.{arith}
 use lib.Dec.{eqb, leb, ltb}
-use lib.ListN.{length}
-use borrow.Author.Tests.{eqb-true, ne-eqb, leb-true, ltb-false, not-false}
+use lib.ListN.{length, getD}
+use borrow.Author.Tests.{eqb-true, ne-eqb, leb-true, le-leb, ltb-false, not-false}
 use Rattle.model.specs.declared.Name.{Name}
 use Rattle.model.specs.declared.Span.{Span}
 use Rattle.model.specs.declared.Cap.{Cap}
 use Rattle.model.specs.declared.Tally.{Tally}
 use Rattle.model.specs.declared.Access.the-variants.{Reading, Writing}
 use Rattle.model.specs.declared.Event.the-variants.{Create, Borrow, Read, Write, Drop}
-use Rattle.model.specs.Requests.{Request, Single, Group}
+use Rattle.model.specs.Requests.{Request, Single, Group, Mark, Back}
+use Rattle.model.specs.Slots.{Memory, Slot, Nothing, Stored, slotMap}
 use Rattle.model.specs.declared.Sheet.{Sheet}
 use Rattle.model.specs.Lists.{filter, any, answers, final}
 use Rattle.model.specs.Derivation.{Derivation, ancestry, inSubtree}
@@ -24,9 +25,9 @@ use Rattle.model.specs.Strike.{isLower, isEnd, reached, struck, reclaime
 use Rattle.model.specs.Values.{end, inside, legal}
 use Rattle.model.specs.Bits.{bitAt, bitsAfter, spanWritten, inSpan}
 use Rattle.model.specs.Limits.{refusedSheet}
-use Rattle.model.specs.Step.{Memory, State, view, memoryAfter, initial}
+use Rattle.model.specs.Step.{State, view, worked, initial}
 use Rattle.model.specs.Table.{row, span, derivation, named, liveRows, lentTable, lookup, isRight, isMarked, termsInOrder, inOrder}
-use Rattle.model.specs.Refusals.{View, notADomain, notAHolder, unfitTable, notWritten, refusals, judge}
+use Rattle.model.specs.Refusals.{View, notADomain, notAHolder, tableIn, unfitTable, notWritten, refusals, judge}
 use Rattle.model.specs.Effects.{root, child, revoke, afterAccess, inSubtrees, rowsWithout, rowsAfter, issuedAfter}
 use Rattle.model.specs.Table
 use Rattle.model.specs.Refusals
@@ -36,12 +37,13 @@ use Rattle.model.specs.Step
 use Rattle.model.specs.History.{Note, New, Accessed, Dropped, derivedBy, derivations, ends, lowers, hits, lives, rowOf, rows, table, markOn, notesOf, written, emptyHistory}
 use Rattle.model.specs.History
 use Rattle.model.proofs.Lists.{All, All-of, All-map, test, clash, and-both, or-neither, and-neither, any-false, filter-all, filter-cong, filter-filter, map-id}
+use Rattle.model.proofs.Slots.{SlotBoth, SlotsBoth, both-first, both-set, both-at, both-stored, both-length, both-map}
 use Rattle.model.proofs.Ancestries.{Closed, Falling, ancestry-step, ancestry-zero, ancestry-above, ancestry-upto}
-use Rattle.model.proofs.Notes.{Sound, falling, lives-older, rows-all, rowOf-new, revokedBy, rows-noted}
+use Rattle.model.proofs.Notes.{Sound, sound-wider, falling, lives-older, rows-all, rowOf-new, revokedBy, rows-noted}
 use Rattle.model.proofs.Agree.{Through, closed-noted, falling-rows, ancestry-rows, rows-live, present-lives, rows-after}
 use Rattle.model.proofs.Lent.{Named, live-lent, length-lent, lookup-found, lookup-named}
 use Rattle.model.proofs.Judged.{allowed, in-order, root-given, child-given, counted-issued, Stands, Rising, drop-stands, group-rises, group-stands}
-use Rattle.model.proofs.Order.{terms-given, marked-low, ordered, next-fits, order-next, order-fresh}
+use Rattle.model.proofs.Order.{rowsInOrder-wider, names-enough, terms-given, marked-low, ordered, next-fits, order-next, order-fresh}
 use Rattle.model.proofs.Bits.{BitsTold, told-first, span-law, length-after, all-same}
 
 -- and never down
@@ -52,6 +54,8 @@ count-raised i (Single by (Read u s)) = omega arith
 count-raised i (Single by (Write u s)) = omega arith
 count-raised i (Single by (Drop u)) = omega arith
 count-raised i (Group by names) = omega arith
+count-raised i (Mark by k) = omega arith
+count-raised i (Back by k) = omega arith
 
 right-given : (r : ℕ) → isRight r ≡ true → cond (eqb r 2) 2 1 ≡ r
 right-given r h = go (test (eqb r 2))
@@ -208,68 +212,72 @@ module _ (sheet : Sheet) where
     unfolding live
     outside = ancestry-zero (suc i) live falls ∙ sym (ancestry-above (suc i) (suc i) live falls (omega arith))
 
-    pub next : (q : Request) → judge (History.view sheet n notes i) q ≡ 0 → Next q
+    pub next : (slots : List (Slot (List Note))) (q : Request) → judge (History.view sheet n slots notes i) q ≡ 0 → Next q
     unfolding refusals notesOf derivedBy ends lowers hits struck reclaimed revoke afterAccess rowsAfter live reclaim
-    next (Single by (Create w s r)) h =
+    next slots (Single by (Create w s r)) h =
         let sound : Sound (suc (suc i)) (New (root by i s r) (r .right) ∷ notes) = (omega arith, omega arith, k .sound) in
         next-noted (Single by (Create w s r)) (New (root by i s r) (r .right)) refl sound refl
         (ap₂ {C = List Cap} (λ c l. c ∷ l)
-        (new-row (root by i s r) (r .right) 0 sound (root-given (History.view sheet n notes i) by w s r h .0 .right) (rw (ancestry-zero (suc i) (derivations notes) (falling (suc i) notes (k .sound)))))
+        (new-row (root by i s r) (r .right) 0 sound (root-given (History.view sheet n slots notes i) by w s r h .0 .right) (rw (ancestry-zero (suc i) (derivations notes) (falling (suc i) notes (k .sound)))))
         (ap (λ user. reclaim true user s) outside))
-    next (Single by (Borrow w u s r)) h =
-        let p = allowed (History.view sheet n notes i) (Single by (Borrow w u s r)) h in
+    next slots (Single by (Borrow w u s r)) h =
+        let p = allowed (History.view sheet n slots notes i) (Single by (Borrow w u s r)) h in
         let stands : Stands (liveRows (table sheet n notes)) i (u .0) = (p 4, not-false (any (named (u .0)) (liveRows (table sheet n notes))) (p 5)) in
         let new : Derivation = child by i u (markOn (ancestry (derivations notes) (u .0))) s r in
         let sound : Sound (suc (suc i)) (New new (r .right) ∷ notes) = (omega arith, stands-given (u .0) stands, k .sound) in
         next-noted (Single by (Borrow w u s r)) (New new (r .right)) refl sound (stands-through (u .0) stands)
         (ap₂ {C = List Cap} (λ c l. c ∷ l)
-        (new-row new (r .right) (lookup (u .0) (rows sheet notes) .depth) sound (child-given (History.view sheet n notes i) by w s r u h .0 .right) (depth-found (u .0) (stands .1))
+        (new-row new (r .right) (lookup (u .0) (rows sheet notes) .depth) sound (child-given (History.view sheet n slots notes i) by w s r u h .0 .right) (depth-found (u .0) (stands .1))
         ∙ ap (λ (m : ℕ). row (child by i u m s r) (r .right) (suc (lookup (u .0) (rows sheet notes) .depth))) (sym (mark-found (u .0) (stands .1))))
         (ap (λ isRoot. reclaim isRoot (ancestry live (u .0)) s) (or-neither (eqb (u .0) 0) (ltb i (u .0)) (p 4) .0) ∙ map-id _ ∙ all-left (rows sheet notes)))
-    next (Single by (Read u s)) h =
-        let p = allowed (History.view sheet n notes i) (Single by (Read u s)) h in
+    next slots (Single by (Read u s)) h =
+        let p = allowed (History.view sheet n slots notes i) (Single by (Read u s)) h in
         let stands : Stands (liveRows (table sheet n notes)) i (u .0) = (p 4, not-false (any (named (u .0)) (liveRows (table sheet n notes))) (p 5)) in
         next-noted (Single by (Read u s)) (Accessed Reading (u .0) s) refl (tt, stands-given (u .0) stands, k .sound) (stands-through (u .0) stands) refl
-    next (Single by (Write u s)) h =
-        let p = allowed (History.view sheet n notes i) (Single by (Write u s)) h in
+    next slots (Single by (Write u s)) h =
+        let p = allowed (History.view sheet n slots notes i) (Single by (Write u s)) h in
         let stands : Stands (liveRows (table sheet n notes)) i (u .0) = (p 4, not-false (any (named (u .0)) (liveRows (table sheet n notes))) (p 5)) in
         next-noted (Single by (Write u s)) (Accessed Writing (u .0) s) refl (tt, stands-given (u .0) stands, k .sound) (stands-through (u .0) stands) refl
-    next (Single by (Drop u)) h =
-        let w = without (u .0 ∷ []) (tt, tt) (drop-stands (History.view sheet n notes i) by u h, tt) in
+    next slots (Single by (Drop u)) h =
+        let w = without (u .0 ∷ []) (tt, tt) (drop-stands (History.view sheet n slots notes i) by u h, tt) in
         record { is-sound = w .sound; is-closed = w .closed; same-rows = rows-without (u .0 ∷ []) w }
-    next (Group by names) h =
-        let w = without names (group-rises (History.view sheet n notes i) by names h) (group-stands (History.view sheet n notes i) by names h) in
+    next slots (Group by names) h =
+        let w = without names (group-rises (History.view sheet n slots notes i) by names h) (group-stands (History.view sheet n slots notes i) by names h) in
         record { is-sound = w .sound; is-closed = w .closed; same-rows = rows-without names w }
+    next slots (Mark by j) h = record { is-sound = k .sound; is-closed = k .closed; same-rows = refl }
+    next slots (Back by j) h = record { is-sound = k .sound; is-closed = k .closed; same-rows = refl }
 
-    pub kept-next : (q : Request) → judge (History.view sheet n notes i) q ≡ 0 → Kept n (issuedAfter i q) (notesOf notes i q ++ notes)
-    kept-next q h =
+    pub kept-next : (slots : List (Slot (List Note))) (q : Request) → judge (History.view sheet n slots notes i) q ≡ 0 → Kept n (issuedAfter i q) (notesOf notes i q ++ notes)
+    kept-next slots q h =
         record {
-          sound = next q h .is-sound;
-          closed = next q h .is-closed;
-          fits = rw (next q h .same-rows) (rw (live-rows, rows-fit) at (next-fits sheet (History.view sheet n notes i) (ordered (table sheet n notes) i (in-order (History.view sheet n notes i) q h)) q h));
+          sound = next slots q h .is-sound;
+          closed = next slots q h .is-closed;
+          fits = rw (next slots q h .same-rows) (rw (live-rows, rows-fit) at (next-fits sheet (History.view sheet n slots notes i) (ordered (table sheet n notes) i (in-order (History.view sheet n slots notes i) q h)) q h));
         }
 
     -- the bits after an allowed request are what its notes say
-    bits-said : (bytes : List ℕ) → BitsTold bytes notes → (q : Request) → judge (History.view sheet n notes i) q ≡ 0 → (a : ℕ) → a < 65536 → bitAt (bitsAfter bytes q) a ≡ written (notesOf notes i q ++ notes) a
+    bits-said : (slots : List (Slot (List Note))) (bytes : List ℕ) → BitsTold bytes notes → (q : Request) → judge (History.view sheet n slots notes i) q ≡ 0 → (a : ℕ) → a < 65536 → bitAt (bitsAfter bytes q) a ≡ written (notesOf notes i q ++ notes) a
     unfolding bitsAfter notesOf written refusals
-    bits-said bytes b (Single by (Create w s r)) h a l = span-law false s a bytes (b .size) l ∙ ap (cond (inSpan s a) false) (b .told a l)
-    bits-said bytes b (Single by (Borrow w u s r)) h a l =
-        b .told a l ∙ sym (ap (λ (c : Bool). cond (c && inSpan s a) false (written notes a)) (or-neither (eqb (u .0) 0) (ltb i (u .0)) (allowed (History.view sheet n notes i) (Single by (Borrow w u s r)) h 4) .0))
-    bits-said bytes b (Single by (Read u s)) h a l = b .told a l
-    bits-said bytes b (Single by (Write u s)) h a l = span-law true s a bytes (b .size) l ∙ ap (cond (inSpan s a) true) (b .told a l) ∙ either (inSpan s a) (written notes a)
+    bits-said slots bytes b (Single by (Create w s r)) h a l = span-law false s a bytes (b .size) l ∙ ap (cond (inSpan s a) false) (b .told a l)
+    bits-said slots bytes b (Single by (Borrow w u s r)) h a l =
+        b .told a l ∙ sym (ap (λ (c : Bool). cond (c && inSpan s a) false (written notes a)) (or-neither (eqb (u .0) 0) (ltb i (u .0)) (allowed (History.view sheet n slots notes i) (Single by (Borrow w u s r)) h 4) .0))
+    bits-said slots bytes b (Single by (Read u s)) h a l = b .told a l
+    bits-said slots bytes b (Single by (Write u s)) h a l = span-law true s a bytes (b .size) l ∙ ap (cond (inSpan s a) true) (b .told a l) ∙ either (inSpan s a) (written notes a)
       where
         either : (c d : Bool) → cond c true d ≡ c || d
         either true d = refl
         either false d = refl
-    bits-said bytes b (Single by (Drop u)) h a l = b .told a l
-    bits-said bytes b (Group by names) h a l = b .told a l ∙ sym (dropped names)
+    bits-said slots bytes b (Single by (Drop u)) h a l = b .told a l
+    bits-said slots bytes b (Group by names) h a l = b .told a l ∙ sym (dropped names)
       where
         dropped : (names : List ℕ) → written (map Dropped names ++ notes) a ≡ written notes a
         dropped [] = refl
         dropped (u ∷ names) = dropped names
+    bits-said slots bytes b (Mark by k) h a l = b .told a l
+    bits-said slots bytes b (Back by k) h a l = b .told a l
 
-    bits-next : (bytes : List ℕ) → BitsTold bytes notes → (q : Request) → judge (History.view sheet n notes i) q ≡ 0 → BitsTold (bitsAfter bytes q) (notesOf notes i q ++ notes)
-    bits-next bytes b q h = record { size = length-after bytes q ∙ b .size; told = bits-said bytes b q h }
+    bits-next : (slots : List (Slot (List Note))) (bytes : List ℕ) → BitsTold bytes notes → (q : Request) → judge (History.view sheet n slots notes i) q ≡ 0 → BitsTold (bitsAfter bytes q) (notesOf notes i q ++ notes)
+    bits-next slots bytes b q h = record { size = length-after bytes q ∙ b .size; told = bits-said slots bytes b q h }
 
   -- ---- one request, and a list of requests
 
@@ -282,10 +290,44 @@ module _ (sheet : Sheet) where
     pub is-ordered : leb n 1024 ≡ true → inOrder (table sheet n notes) i ≡ true
     pub nothing-noted : leb n 1024 ≡ false → notes ≡ []
 
+  -- as names are given, what agreed agrees still
+  later : (n i : ℕ) (m : Memory) (notes : List Note) → suc i ≤ 1000000 → Agrees n i m notes → Agrees n (suc i) m notes
+  unfolding inOrder
+  later n i m notes l a =
+      record {
+        same-table = a .same-table;
+        kept = record { sound = sound-wider (suc i) (suc (suc i)) notes (omega arith) (a .kept .sound); closed = a .kept .closed; fits = a .kept .fits };
+        bits = a .bits;
+        is-ordered =
+            λ y. let o = ordered (table sheet n notes) i (a .is-ordered y) in
+            rw (o .few, o .rest-is-empty, le-leb (suc i) 1000000 l) (rowsInOrder-wider (suc i) (suc (suc i)) (liveRows (table sheet n notes)) (omega arith) (o .rise));
+        nothing-noted = a .nothing-noted;
+      }
+
+  -- ---- what is stored
+
+  module _ (n i : ℕ) where
+    slot-same : (s : Slot Memory) (t : Slot (List Note)) → SlotBoth (Agrees n i) s t → tableIn s ≡ slotMap (table sheet n) t
+    slot-same Nothing Nothing a = refl
+    slot-same Nothing (Stored notes) a = absurd a
+    slot-same (Stored m) Nothing a = absurd a
+    slot-same (Stored m) (Stored notes) a = ap {B = Slot (List Cap)} (λ (u : List Cap). Stored u) (a .same-table)
+
+    slots-next : (q : Request) → leb (issuedAfter i q) 1000000 ≡ true → (ss : List (Slot Memory)) (ts : List (Slot (List Note))) → SlotsBoth (Agrees n i) ss ts → SlotsBoth (Agrees n (issuedAfter i q)) ss ts
+    slots-next (Single by (Create w s r)) l ss ts = both-map (Agrees n i) (Agrees n (suc i)) (λ m notes. later n i m notes (leb-true (suc i) 1000000 l)) ss ts
+    slots-next (Single by (Borrow w u s r)) l ss ts = both-map (Agrees n i) (Agrees n (suc i)) (λ m notes. later n i m notes (leb-true (suc i) 1000000 l)) ss ts
+    slots-next (Single by (Read u s)) l ss ts = λ a. a
+    slots-next (Single by (Write u s)) l ss ts = λ a. a
+    slots-next (Single by (Drop u)) l ss ts = λ a. a
+    slots-next (Group by names) l ss ts = λ a. a
+    slots-next (Mark by k) l ss ts = λ a. a
+    slots-next (Back by k) l ss ts = λ a. a
+
   -- what is lent matches the history
   pub record Match (n : ℕ) (h : State) (H : History.History) : Type 0 where
     pub memory : Agrees n (H .count) (h .memory) (H .notes)
     pub same-issued : h .tally .issued ≡ H .count
+    pub slots : SlotsBoth (Agrees n (H .count)) (h .slots) (H .kept)
 
   -- ---- both judge alike
 
@@ -312,70 +354,104 @@ module _ (sheet : Sheet) where
             low : end (span found) ≤ 65536
             low = marked-low (derivation found) (lookup-found (λ c. termsInOrder (derivation c) ≡ true) (u .0) listed-rows l (terms-given (suc i) listed-rows (ordered (table sheet n notes) i f .rise))) y
 
-  -- the history's table with the lent bits
-  abbrev pub lentView : ℕ → ℕ → List Note → List ℕ → View
-  lentView n i notes bytes = record { table = table sheet n notes; issued = i; isWritten = bitAt bytes; bytes = 8192 }
+  -- the history's table and slots with the lent bits
+  abbrev pub lentView : ℕ → ℕ → List (Slot (List Note)) → List Note → List ℕ → View
+  lentView n i slots notes bytes = record { table = table sheet n notes; issued = i; isWritten = bitAt bytes; bytes = 8192; slot = λ k. slotMap (table sheet n) (getD slots k Nothing); slotCount = length slots }
 
-  told-judge : (n i : ℕ) (notes : List Note) (bytes : List ℕ) → BitsTold bytes notes → (q : Request) → judge (lentView n i notes bytes) q ≡ judge (History.view sheet n notes i) q
+  told-judge : (n i : ℕ) (slots : List (Slot (List Note))) (notes : List Note) (bytes : List ℕ) → BitsTold bytes notes → (q : Request) → judge (lentView n i slots notes bytes) q ≡ judge (History.view sheet n slots notes i) q
   unfolding judge refusals
-  told-judge n i notes bytes b (Single by (Create w s r)) = refl
-  told-judge n i notes bytes b (Single by (Borrow w u s r)) = refl
-  told-judge n i notes bytes b (Single by (Read u s)) =
-      last (unfitTable (by .limits) (table sheet n notes) i) (notADomain (by .actor)) (not (legal s)) (eqb (u .0) 0 || ltb i (u .0)) (not (any (named (u .0)) live)) (notAHolder live i (by .actor) u) (not (inside s (span (lookup (u .0) live)))) (notWritten live i (bitAt bytes) u s) (notWritten live i (written notes) u s)
+  told-judge n i slots notes bytes b (Single by (Create w s r)) = refl
+  told-judge n i slots notes bytes b (Single by (Borrow w u s r)) = refl
+  told-judge n i slots notes bytes b (Single by (Read u s)) =
+      last (unfitTable (by .limits) (table sheet n notes) i) (not (eqb (length slots) 8)) (notADomain (by .actor)) (not (legal s)) (eqb (u .0) 0 || ltb i (u .0)) (not (any (named (u .0)) live)) (notAHolder live i (by .actor) u) (not (inside s (span (lookup (u .0) live)))) (notWritten live i (bitAt bytes) u s) (notWritten live i (written notes) u s)
       (λ f e o. same-sixteen n i notes bytes b u s (not-false (inOrder (table sheet n notes) i) (or-neither (not (inOrder (table sheet n notes) i)) (refusedSheet (table sheet n notes) (by .limits)) f .0)) (not-false (any (named (u .0)) live) e) (not-false (inside s (span (lookup (u .0) live))) o))
     where
       live : List Cap
       live = liveRows (table sheet n notes)
 
-      last : (x d j p e h o w w₀ : Bool) → (x ≡ false → e ≡ false → o ≡ false → w ≡ w₀)
-          → _≡_ {A = ℕ} (cond (x || false) 1 (cond d 2 (cond j 3 (cond p 4 (cond e 5 (cond h 17 (cond o 6 (cond w 16 0)))))))) (cond (x || false) 1 (cond d 2 (cond j 3 (cond p 4 (cond e 5 (cond h 17 (cond o 6 (cond w₀ 16 0))))))))
-      last true d j p e h o w w₀ f = refl
-      last false d j p true h o w w₀ f = refl
-      last false d j p false h true w w₀ f = refl
-      last false d j p false h false w w₀ f = ap (λ (c : Bool). cond d 2 (cond j 3 (cond p 4 (cond h 17 (cond c 16 0))))) (f refl refl refl)
-  told-judge n i notes bytes b (Single by (Write u s)) = refl
-  told-judge n i notes bytes b (Single by (Drop u)) = refl
-  told-judge n i notes bytes b (Group by names) = refl
+      last : (x y d j p e h o w w₀ : Bool) → (x ≡ false → e ≡ false → o ≡ false → w ≡ w₀)
+          → _≡_ {A = ℕ} (cond (x || y) 1 (cond d 2 (cond j 3 (cond p 4 (cond e 5 (cond h 17 (cond o 6 (cond w 16 0)))))))) (cond (x || y) 1 (cond d 2 (cond j 3 (cond p 4 (cond e 5 (cond h 17 (cond o 6 (cond w₀ 16 0))))))))
+      last true y d j p e h o w w₀ f = refl
+      last false y d j p true h o w w₀ f = refl
+      last false y d j p false h true w w₀ f = refl
+      last false y d j p false h false w w₀ f = ap (λ (c : Bool). cond y 1 (cond d 2 (cond j 3 (cond p 4 (cond h 17 (cond c 16 0)))))) (f refl refl refl)
+  told-judge n i slots notes bytes b (Single by (Write u s)) = refl
+  told-judge n i slots notes bytes b (Single by (Drop u)) = refl
+  told-judge n i slots notes bytes b (Group by names) = refl
+  told-judge n i slots notes bytes b (Mark by k) = refl
+  told-judge n i slots notes bytes b (Back by k) = refl
 
   module _ (n : ℕ) (h : State) (H : History.History) (m : Match n h H) (q : Request) where
-    pub same-judge : judge (view h) q ≡ judge (History.view sheet n (H .notes) (H .count)) q
-    same-judge = rw (m .memory .same-table, m .same-issued, m .memory .bits .size) (told-judge n (H .count) (H .notes) (h .memory .bits) (m .memory .bits) q)
+    same-view : view h ≡ lentView n (H .count) (H .kept) (H .notes) (h .memory .bits)
+    same-view =
+        λ j. record {
+          table = m .memory .same-table j;
+          issued = m .same-issued j;
+          isWritten = bitAt (h .memory .bits);
+          bytes = m .memory .bits .size j;
+          slot = λ k. slot-same n (H .count) (getD (h .slots) k Nothing) (getD (H .kept) k Nothing) (both-at (Agrees n (H .count)) (h .slots) (H .kept) (m .slots) k) j;
+          slotCount = both-length (Agrees n (H .count)) (h .slots) (H .kept) (m .slots) j;
+        }
+
+    pub same-judge : judge (view h) q ≡ judge (History.view sheet n (H .kept) (H .notes) (H .count)) q
+    same-judge = ap (λ v. judge v q) same-view ∙ told-judge n (H .count) (H .kept) (H .notes) (h .memory .bits) (m .memory .bits) q
 
     pub same-answer : Step.answer h q ≡ History.answer sheet n H q
     unfolding Step.answer History.answer
     same-answer = ap₂ Step.verdict same-judge (ap (λ i. Effects.newName i q) (m .same-issued))
 
-  -- an allowed request does to the table and the bits what its notes say
-  agrees-next : (n i : ℕ) (m : Memory) (notes : List Note) → Agrees n i m notes → (q : Request) → judge (History.view sheet n notes i) q ≡ 0 → Agrees n (issuedAfter i q) (memoryAfter sheet i m q) (notesOf notes i q ++ notes)
-  agrees-next n i m notes a q z =
+  -- an allowed event or group does to the table and the bits what its notes say
+  agrees-next : (n : ℕ) (slots : List (Slot (List Note))) (i : ℕ) (m : Memory) (notes : List Note) → Agrees n i m notes → (q : Request) → judge (History.view sheet n slots notes i) q ≡ 0 → Agrees n (issuedAfter i q) (worked sheet i m q) (notesOf notes i q ++ notes)
+  agrees-next n slots i m notes a q z =
       record {
         same-table =
             ap (λ t. lentTable (length t) (rowsAfter sheet i (liveRows t) q)) (a .same-table)
-            ∙ rw (rows-fit n i notes (a .kept), live-rows n i notes (a .kept)) (ap (lentTable n) (sym (next n i notes (a .kept) q z .same-rows)));
-        kept = kept-next n i notes (a .kept) q z;
-        bits = bits-next n i notes (a .kept) (m .bits) (a .bits) q z;
+            ∙ rw (rows-fit n i notes (a .kept), live-rows n i notes (a .kept)) (ap (lentTable n) (sym (next n i notes (a .kept) slots q z .same-rows)));
+        kept = kept-next n i notes (a .kept) slots q z;
+        bits = bits-next n i notes (a .kept) slots (m .bits) (a .bits) q z;
         is-ordered =
-            λ y. rw (next n i notes (a .kept) q z .same-rows)
-            (rw (rows-fit n i notes (a .kept), live-rows n i notes (a .kept)) at (order-next sheet (History.view sheet n notes i) (ordered (table sheet n notes) i now) q z));
+            λ y. rw (next n i notes (a .kept) slots q z .same-rows)
+            (rw (rows-fit n i notes (a .kept), live-rows n i notes (a .kept)) at (order-next sheet (History.view sheet n slots notes i) (ordered (table sheet n notes) i now) q z));
         nothing-noted = λ f. clash (rw (rows-fit n i notes (a .kept)) at (ordered (table sheet n notes) i now .few)) f;
       }
     where
       now : inOrder (table sheet n notes) i ≡ true
-      now = in-order (History.view sheet n notes i) q z
+      now = in-order (History.view sheet n slots notes i) q z
 
   module _ (n : ℕ) (h : State) (H : History.History) (m : Match n h H) (q : Request) where
-    match-outcome : (j : ℕ) → judge (History.view sheet n (H .notes) (H .count)) q ≡ j → Match n (Step.outcome sheet j h q) (History.outcome j H q)
-    match-outcome zero z =
+    abbrev seen : View
+    seen = History.view sheet n (H .kept) (H .notes) (H .count)
+
+    match-worked : judge seen q ≡ 0 → Agrees n (issuedAfter (H .count) q) (worked sheet (h .tally .issued) (h .memory) q) (notesOf (H .notes) (H .count) q ++ H .notes)
+    match-worked z = rw (m .same-issued) (agrees-next n (H .kept) (H .count) (h .memory) (H .notes) (m .memory) q z)
+
+    issued-next : Counts.countAllowed q (h .tally) .issued ≡ issuedAfter (H .count) q
+    issued-next = counted-issued q (h .tally) ∙ ap (λ i. issuedAfter i q) (m .same-issued)
+
+    slots-kept : judge seen q ≡ 0 → SlotsBoth (Agrees n (issuedAfter (H .count) q)) (h .slots) (H .kept)
+    slots-kept z = slots-next n (H .count) q (names-enough sheet seen (ordered (table sheet n (H .notes)) (H .count) (in-order seen q z)) q z) (h .slots) (H .kept) (m .slots)
+
+  module _ (n : ℕ) (h : State) (H : History.History) (m : Match n h H) where
+    match-allowed : (q : Request) → judge (History.view sheet n (H .kept) (H .notes) (H .count)) q ≡ 0 → Match n (Step.outcome sheet 0 h q) (History.outcome 0 H q)
+    match-allowed (Single by e) z = record { memory = match-worked n h H m (Single by e) z; same-issued = issued-next n h H m (Single by e); slots = slots-kept n h H m (Single by e) z }
+    match-allowed (Group by names) z = record { memory = match-worked n h H m (Group by names) z; same-issued = issued-next n h H m (Group by names); slots = slots-kept n h H m (Group by names) z }
+    match-allowed (Mark by k) z = record { memory = m .memory; same-issued = m .same-issued; slots = both-set (Agrees n (H .count)) (h .slots) (H .kept) (m .slots) (h .memory) (H .notes) (m .memory) k }
+    match-allowed (Back by k) z =
         record {
-          memory = rw (m .same-issued) (agrees-next n (H .count) (h .memory) (H .notes) (m .memory) q z);
-          same-issued = counted-issued q (h .tally) ∙ ap (λ i. issuedAfter i q) (m .same-issued);
+          memory = both-stored (Agrees n (H .count)) (h .memory) (H .notes) (m .memory) (getD (h .slots) k Nothing) (getD (H .kept) k Nothing) (both-at (Agrees n (H .count)) (h .slots) (H .kept) (m .slots) k);
+          same-issued = m .same-issued;
+          slots = m .slots;
         }
+
+  module _ (n : ℕ) (h : State) (H : History.History) (m : Match n h H) (q : Request) where
+    match-outcome : (j : ℕ) → judge (History.view sheet n (H .kept) (H .notes) (H .count)) q ≡ j → Match n (Step.outcome sheet j h q) (History.outcome j H q)
+    match-outcome zero z = match-allowed n h H m q z
     match-outcome (suc zero) z = m
-    match-outcome (suc (suc j)) z = record { memory = m .memory; same-issued = m .same-issued }
+    match-outcome (suc (suc j)) z = record { memory = m .memory; same-issued = m .same-issued; slots = m .slots }
 
     pub match-after : Match n (Step.after sheet h q) (History.after sheet n H q)
     unfolding Step.after History.after
-    match-after = rw (same-judge n h H m q) (match-outcome (judge (History.view sheet n (H .notes) (H .count)) q) refl)
+    match-after = rw (same-judge n h H m q) (match-outcome (judge (History.view sheet n (H .kept) (H .notes) (H .count)) q) refl)
 
   pub run : (n : ℕ) (qs : List Request) (h : State) (H : History.History) → Match n h H
       → (answers (Step.after sheet) Step.answer h qs ≡ answers (History.after sheet n) (History.answer sheet n) H qs)
@@ -405,4 +481,5 @@ module _ (sheet : Sheet) where
               nothing-noted = λ f. refl;
             };
         same-issued = z;
+        slots = both-first (Agrees n 0) 8;
       }

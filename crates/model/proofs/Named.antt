@@ -5,7 +5,7 @@ use mathlib.Core.Path.{_≡_, refl, _∙_}
 use borrow.Author.Tests.{eq-eqb}
 use Rattle.model.specs.declared.Sheet.{Sheet}
 use Rattle.model.specs.declared.Event.the-variants.{Create, Borrow, Read, Write, Drop}
-use Rattle.model.specs.Requests.{Request, Single, Group}
+use Rattle.model.specs.Requests.{Request, Single, Group, Mark, Back}
 use Rattle.model.specs.Refusals.{View, refusals, judge}
 use Rattle.model.specs.Effects.{rowsAfter, issuedAfter}
 use Rattle.model.specs.Bits.{bitsAfter}
@@ -21,6 +21,8 @@ same-judge v (Single by (Read u s)) = refl
 same-judge v (Single by (Write u s)) = refl
 same-judge v (Single by (Drop u)) = refl
 same-judge v (Group by names) = refl
+same-judge v (Mark by k) = refl
+same-judge v (Back by k) = refl
 
 pub same-answer : (h : State) (q : Request) → answer h (rightlyNamed (h .tally .issued) q) ≡ answer h (unnamed q)
 unfolding answer rightlyNamed unnamed
@@ -30,6 +32,8 @@ same-answer h (Single by (Read u s)) = refl
 same-answer h (Single by (Write u s)) = refl
 same-answer h (Single by (Drop u)) = refl
 same-answer h (Group by names) = refl
+same-answer h (Mark by k) = refl
+same-answer h (Back by k) = refl
 
 same-outcome : (sheet : Sheet) (k : ℕ) (h : State) (q : Request) → outcome sheet k h (rightlyNamed (h .tally .issued) q) ≡ outcome sheet k h (unnamed q)
 unfolding rowsAfter bitsAfter rightlyNamed unnamed
@@ -39,6 +43,8 @@ same-outcome sheet zero h (Single by (Read u s)) = refl
 same-outcome sheet zero h (Single by (Write u s)) = refl
 same-outcome sheet zero h (Single by (Drop u)) = refl
 same-outcome sheet zero h (Group by names) = refl
+same-outcome sheet zero h (Mark by k) = refl
+same-outcome sheet zero h (Back by k) = refl
 same-outcome sheet (suc zero) h q = refl
 same-outcome sheet (suc (suc k)) h q = refl
 
@@ -54,6 +60,8 @@ same-issued i (Single by (Read u s)) = refl
 same-issued i (Single by (Write u s)) = refl
 same-issued i (Single by (Drop u)) = refl
 same-issued i (Group by names) = refl
+same-issued i (Mark by k) = refl
+same-issued i (Back by k) = refl
 
 -- the issued number after an allowed request, whether it writes its name or not
 pub issued-allowed : (sheet : Sheet) (h : State) (q : Request) → answer h (unnamed q) .refusal ≡ 0 → after sheet h (unnamed q) .tally .issued ≡ issuedAfter (h .tally .issued) q

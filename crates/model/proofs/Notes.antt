@@ -41,6 +41,13 @@ floor-below n (New b r) h = omega arith
 floor-below n (Accessed a u s) h = omega arith
 floor-below n (Dropped u) h = omega arith
 
+-- Card 11: notes that stood at a mark are in order under a later bound
+pub sound-wider : (n m : ℕ) (notes : List Note) → n ≤ m → Sound n notes → Sound m notes
+sound-wider n m [] l s = tt
+sound-wider n m (New b r ∷ notes) l s = (omega arith, s .1, s .2)
+sound-wider n m (Accessed a u t ∷ notes) l s = (tt, omega arith, sound-wider n m notes l (s .2))
+sound-wider n m (Dropped u ∷ notes) l s = (tt, omega arith, sound-wider n m notes l (s .2))
+
 users-below : (n m : ℕ) (notes : List Note) → n ≤ m → Sound n notes → All (λ w. user w < m) notes
 users-below n m [] h s = tt
 users-below n m (w ∷ notes) h s = let l = floor-below n w (s .0) in (omega arith, users-below (floor n w) m notes (omega arith) (s .2))

@@ -16,7 +16,8 @@ use Rattle.model.specs.declared.Tally.{Tally}
 use Rattle.model.specs.declared.Terms.{Terms}
 use Rattle.model.specs.declared.NewName.{NewName}
 use Rattle.model.specs.declared.Event.the-variants.{Create, Borrow, Read, Write, Drop}
-use Rattle.model.specs.Requests.{Limits, Unlimited, Limited, Caller, Request, Single, Group, callerOf}
+use Rattle.model.specs.Requests.{Limits, Unlimited, Limited, Caller, Request, Single, Group, Mark, Back, callerOf}
+use Rattle.model.specs.Slots.{Memory, Slot, Nothing, Stored, storedOr, unstored}
 use Rattle.model.specs.declared.Effect.{Effect}
 use Rattle.model.specs.declared.Sheet.{Sheet}
 use Rattle.model.specs.Lists.{consIf, filter, any, all, final}
@@ -27,19 +28,20 @@ use Rattle.model.specs.Derivation.{Derivation, ancestry, inSubtree, onAn
 use Rattle.model.specs.Strike.{isLower, isEnd, strike, reached, struck}
 use Rattle.model.specs.Step.{State, view}
 use Rattle.model.specs.Table.{row, emptyRow, span, derivation, derivations, named, liveRows, lentTable, lookup, isEmptyRow, liveRowsFirst, isRight, isKind, isMark, isMarked, isDomain, holds, termsInOrder, rowFitsParent, parentInOrder, rowInOrder, rowsInOrder, inOrder}
-use Rattle.model.specs.Refusals.{View, unfit, refusals, judge}
+use Rattle.model.specs.Refusals.{View, tableIn, unfitTable, unfitSlot, unfit, refusals, judge}
 use Rattle.model.specs.Effects.{lowered, revoke, afterAccess, inSubtrees, rowsWithout, root, child, rowsAfter, issuedAfter}
 use Rattle.model.specs.Table
 use Rattle.model.specs.Refusals
 use Rattle.model.specs.Effects
 use Rattle.model.specs.Counts
 use Rattle.model.specs.Step
-use Rattle.model.proofs.Lists.{All, All-map, All-of, All-sub, All-mapped, All-unmap, test, clash, unless, passes, and-both, or-neither, filter-reverse, filter-none, any-map, any-or, any-kept}
+use Rattle.model.proofs.Lists.{All, All-map, All-of, All-sub, All-getD, All-replicate, All-set, All-mapped, All-unmap, test, clash, unless, passes, and-both, or-neither, filter-reverse, filter-none, any-map, any-or, any-kept}
 use Rattle.model.specs.Limits.{made, sum, exceeds, refusedSheet, noRow, limitReached}
 use Rattle.model.proofs.Limits.{made-revoke, exceeds-fewer, exceeds-new, fewer-than-limits}
+use Rattle.model.proofs.Slots.{InSlot, in-stored}
 use Rattle.model.proofs.Ancestries.{Falling, ancestry-step}
 use Rattle.model.proofs.Lent.{Named, live-lent, length-lent, lookup-kept, lookup-found, lookup-named}
-use Rattle.model.proofs.Judged.{allowed, root-given, child-given, length-live, sheet-allowed, revoke-fits, access-fits, counted-issued, fit-order, fit-size, fit-sheet, fit-all}
+use Rattle.model.proofs.Judged.{allowed, root-given, child-given, length-live, sheet-allowed, stored-fit, is-fit, fit-table, slots-size, revoke-fits, access-fits, counted-issued, fit-order, fit-size, fit-sheet, fit-slots, fit-all}
 use Rattle.model.proofs.Bits.{length-after}
 
 -- ---- the lent table is arranged
@@ -341,6 +343,8 @@ module _ (sheet : Sheet) (v : View) (o : Ordered (v .table) (v .issued)) where
   next-named (Single by (Write u s)) = access-named sheet (liveRows t) (live-named t) Writing (u .0) s
   next-named (Single by (Drop u)) = revoke-named _ _ (liveRows t) (live-named t)
   next-named (Group by names) = revoke-named _ _ (liveRows t) (live-named t)
+  next-named (Mark by k) = live-named t
+  next-named (Back by k) = live-named t
 
   pub names-enough : (q : Request) → judge v q ≡ 0 → leb (issuedAfter i q) 1000000 ≡ true
   unfolding refusals
@@ -350,6 +354,8 @@ module _ (sheet : Sheet) (v : View) (o : Ordered (v .table) (v .issued)) where
   names-enough (Single by (Write u s)) h = o .names-left
   names-enough (Single by (Drop u)) h = o .names-left
   names-enough (Group by names) h = o .names-left
+  names-enough (Mark by k) h = o .names-left
+  names-enough (Back by k) h = o .names-left
 
   rowInOrder-root : (by : Caller) (w : NewName) (s : Span) (r : Terms) → judge v (Single by (Create w s r)) ≡ 0 → (earlier : List Cap) → rowInOrder (row (root by i s r) (r .right) 1) earlier ≡ true
   unfolding rowInOrder parentInOrder termsInOrder refusals
@@ -410,6 +416,8 @@ module _ (sheet : Sheet) (v : View) (o : Ordered (v .table) (v .issued)) where
   next-rowsInOrder (Single by (Write u s)) h = used-rowsInOrder Writing (u .0) s
   next-rowsInOrder (Single by (Drop u)) h = without-rowsInOrder (u .0 ∷ [])
   next-rowsInOrder (Group by names) h = without-rowsInOrder names
+  next-rowsInOrder (Mark by k) h = o .rise
+  next-rowsInOrder (Back by k) h = o .rise
 
   -- a new row over what is left of the rows fits: by an empty row, or by the limits' sum
   new-fits : (limits : Limits) (c : Cap) (left : List Cap) → refusedSheet t limits ≡ false → noRow limits (liveRows t) (length t) ≡ false → limitReached limits (liveRows t) (c .maker) ≡ false
@@ -442,6 +450,8 @@ module _ (sheet : Sheet) (v : View) (o : Ordered (v .table) (v .issued)) where
   next-fits (Single by (Write u s)) h = revoke-fits _ _ (liveRows t) (length t) (length-live t)
   next-fits (Single by (Drop u)) h = revoke-fits _ _ (liveRows t) (length t) (length-live t)
   next-fits (Group by names) h = revoke-fits _ _ (liveRows t) (length t) (length-live t)
+  next-fits (Mark by k) h = length-live t
+  next-fits (Back by k) h = length-live t
 
   -- an allowed request keeps the rows within the sheet of limits that is lent with it
   pub exceeds-next : (limits : List ℕ) (q : Request) → callerOf q .limits ≡ Limited limits → judge v q ≡ 0 → exceeds 0 (liveRows t) limits ≡ false → exceeds 0 (rowsAfter sheet i (liveRows t) q) limits ≡ false
@@ -460,6 +470,8 @@ module _ (sheet : Sheet) (v : View) (o : Ordered (v .table) (v .issued)) where
   exceeds-next limits (Single by (Write u s)) l z x = exceeds-fewer (liveRows t) (afterAccess sheet Writing (u .0) s (liveRows t)) (λ d. made-revoke d _ _ (liveRows t)) 0 limits x
   exceeds-next limits (Single by (Drop u)) l z x = exceeds-fewer (liveRows t) (rowsWithout (u .0 ∷ []) (liveRows t)) (λ d. made-revoke d _ _ (liveRows t)) 0 limits x
   exceeds-next limits (Group by names) l z x = exceeds-fewer (liveRows t) (rowsWithout names (liveRows t)) (λ d. made-revoke d _ _ (liveRows t)) 0 limits x
+  exceeds-next limits (Mark by k) l z x = x
+  exceeds-next limits (Back by k) l z x = x
 
   pub sheet-next : (q : Request) → judge v q ≡ 0 → refusedSheet (lentTable (length t) (rowsAfter sheet i (liveRows t) q)) (callerOf q .limits) ≡ false
   unfolding refusedSheet
@@ -485,10 +497,42 @@ module _ (sheet : Sheet) (v : View) (o : Ordered (v .table) (v .issued)) where
   access-inOrder a u s =
       lent-inOrder (afterAccess sheet a u s (liveRows t)) i (omega (arith, access-fits sheet a u s (liveRows t), length-live t)) (access-named sheet (liveRows t) (live-named t) a u s) (o .names-left) (used-rowsInOrder a u s)
 
+-- what a back brings, where it is allowed: a table that is fit with the sheet of limits lent with it, and has as many rows as the present one
+pub record Brought (limits : Limits) (present table : List Cap) (issued : ℕ) : Type 0 where
+  pub fit : unfitTable limits table issued ≡ false
+  pub size : length table ≡ length present
+
+pub brought : (h : State) (by : Caller) (k : ℕ) → judge (view h) (Back by k) ≡ 0 → Brought (by .limits) (h .memory .table) (storedOr (h .memory) (getD (h .slots) k Nothing) .table) (h .tally .issued)
+unfolding unfitSlot
+brought h by k z = go (getD (h .slots) k Nothing) (stored-fit (view h) (Back by k) z)
+  where
+    go : (s : Slot Memory) → unfitSlot (by .limits) (length (h .memory .table)) (h .tally .issued) (tableIn s) ≡ false → Brought (by .limits) (h .memory .table) (storedOr (h .memory) s .table) (h .tally .issued)
+    go Nothing f = record { fit = fit-table (by .limits) (view h) (is-fit (view h) (Back by k) z); size = refl }
+    go (Stored m) f =
+        let p = or-neither (not (eqb (length (m .table)) (length (h .memory .table)))) (unfitTable (by .limits) (m .table) (h .tally .issued)) f in
+        record { fit = p .1; size = eqb-true (length (m .table)) (length (h .memory .table)) (not-false (eqb (length (m .table)) (length (h .memory .table))) (p .0)) }
+
+-- its parts
+module _ (h : State) (by : Caller) (k : ℕ) (z : judge (view h) (Back by k) ≡ 0) where
+  abbrev came : List Cap
+  came = storedOr (h .memory) (getD (h .slots) k Nothing) .table
+
+  parts : (not (inOrder came (h .tally .issued)) ≡ false) × (refusedSheet came (by .limits) ≡ false)
+  parts = or-neither (not (inOrder came (h .tally .issued))) (refusedSheet came (by .limits)) (brought h by k z .fit)
+
+  pub brought-order : inOrder came (h .tally .issued) ≡ true
+  brought-order = not-false (inOrder came (h .tally .issued)) (parts .0)
+
+  pub brought-sheet : refusedSheet came (by .limits) ≡ false
+  brought-sheet = parts .1
+
 order-outcome : (sheet : Sheet) (h : State) (q : Request) (j : ℕ) → judge (view h) q ≡ j → inOrder (h .memory .table) (h .tally .issued) ≡ true
     → inOrder (Step.outcome sheet j h q .memory .table) (Step.outcome sheet j h q .tally .issued) ≡ true
-order-outcome sheet h q zero z o =
-    rw (counted-issued q (h .tally)) (order-next sheet (view h) (ordered (h .memory .table) (h .tally .issued) o) q z)
+order-outcome sheet h (Single by e) zero z o =
+    rw (counted-issued (Single by e) (h .tally)) (order-next sheet (view h) (ordered (h .memory .table) (h .tally .issued) o) (Single by e) z)
+order-outcome sheet h (Group by names) zero z o = order-next sheet (view h) (ordered (h .memory .table) (h .tally .issued) o) (Group by names) z
+order-outcome sheet h (Mark by k) zero z o = o
+order-outcome sheet h (Back by k) zero z o = brought-order h by k z
 order-outcome sheet h q (suc zero) z o = o
 order-outcome sheet h q (suc (suc j)) z o = o
 
@@ -497,32 +541,72 @@ pub order-after : (sheet : Sheet) (h : State) (q : Request) → inOrder (h .memo
 unfolding Step.after
 order-after sheet h q = order-outcome sheet h q (judge (view h) q) refl
 
--- a request keeps the number of bytes
-size-after : (sheet : Sheet) (h : State) (q : Request) → length (Step.after sheet h q .memory .bits) ≡ length (h .memory .bits)
-unfolding Step.after
-size-after sheet h q = go (judge (view h) q)
-  where
-    go : (j : ℕ) → length (Step.outcome sheet j h q .memory .bits) ≡ length (h .memory .bits)
-    go zero = length-after (h .memory .bits) q
-    go (suc zero) = refl
-    go (suc (suc j)) = refl
-
 -- a sheet of limits that is not refused stays so
+sheet-outcome : (sheet : Sheet) (h : State) (q : Request) (j : ℕ) → judge (view h) q ≡ j → inOrder (h .memory .table) (h .tally .issued) ≡ true → refusedSheet (h .memory .table) (callerOf q .limits) ≡ false
+    → refusedSheet (Step.outcome sheet j h q .memory .table) (callerOf q .limits) ≡ false
+sheet-outcome sheet h (Single by e) zero z o l = sheet-next sheet (view h) (ordered (h .memory .table) (h .tally .issued) o) (Single by e) z
+sheet-outcome sheet h (Group by names) zero z o l = sheet-next sheet (view h) (ordered (h .memory .table) (h .tally .issued) o) (Group by names) z
+sheet-outcome sheet h (Mark by k) zero z o l = l
+sheet-outcome sheet h (Back by k) zero z o l = brought-sheet h by k z
+sheet-outcome sheet h q (suc zero) z o l = l
+sheet-outcome sheet h q (suc (suc j)) z o l = l
+
 sheet-after : (sheet : Sheet) (h : State) (q : Request) → inOrder (h .memory .table) (h .tally .issued) ≡ true → refusedSheet (h .memory .table) (callerOf q .limits) ≡ false
     → refusedSheet (Step.after sheet h q .memory .table) (callerOf q .limits) ≡ false
 unfolding Step.after
-sheet-after sheet h q o l = go (judge (view h) q) refl
-  where
-    go : (j : ℕ) → judge (view h) q ≡ j → refusedSheet (Step.outcome sheet j h q .memory .table) (callerOf q .limits) ≡ false
-    go zero z = sheet-next sheet (view h) (ordered (h .memory .table) (h .tally .issued) o) q z
-    go (suc zero) z = l
-    go (suc (suc j)) z = l
+sheet-after sheet h q = sheet-outcome sheet h q (judge (view h) q) refl
 
--- What is fit, with the sheet of limits that is lent with a request, stays fit with it.
-pub fit-after : (sheet : Sheet) (h : State) (q : Request) → unfit (callerOf q .limits) (view h) ≡ false → unfit (callerOf q .limits) (view (Step.after sheet h q)) ≡ false
-fit-after sheet h q f =
+-- ---- sizes
+
+-- what is stored has as many bytes as are lent
+abbrev pub SizedSlot : Slot Memory → Type 0
+SizedSlot = InSlot (λ m. length (m .bits) ≡ 8192)
+
+pub none-sized : All SizedSlot unstored
+none-sized = All-replicate SizedSlot Nothing tt 8
+
+-- a request keeps the number of bytes, where what is stored has as many
+size-outcome : (sheet : Sheet) (h : State) (q : Request) (j : ℕ) → All SizedSlot (h .slots) → length (h .memory .bits) ≡ 8192 → length (Step.outcome sheet j h q .memory .bits) ≡ 8192
+size-outcome sheet h (Single by e) zero a l = length-after (h .memory .bits) (Single by e) ∙ l
+size-outcome sheet h (Group by names) zero a l = length-after (h .memory .bits) (Group by names) ∙ l
+size-outcome sheet h (Mark by k) zero a l = l
+size-outcome sheet h (Back by k) zero a l = in-stored (λ m. length (m .bits) ≡ 8192) (h .memory) l (getD (h .slots) k Nothing) (All-getD SizedSlot (h .slots) Nothing tt a k)
+size-outcome sheet h q (suc zero) a l = l
+size-outcome sheet h q (suc (suc j)) a l = l
+
+size-after : (sheet : Sheet) (h : State) (q : Request) → All SizedSlot (h .slots) → length (h .memory .bits) ≡ 8192 → length (Step.after sheet h q .memory .bits) ≡ 8192
+unfolding Step.after
+size-after sheet h q = size-outcome sheet h q (judge (view h) q)
+
+-- and what is stored keeps having them
+sized-outcome : (sheet : Sheet) (h : State) (q : Request) (j : ℕ) → All SizedSlot (h .slots) → length (h .memory .bits) ≡ 8192 → All SizedSlot (Step.outcome sheet j h q .slots)
+sized-outcome sheet h (Single by e) zero a l = a
+sized-outcome sheet h (Group by names) zero a l = a
+sized-outcome sheet h (Mark by k) zero a l = All-set SizedSlot (h .slots) k (Stored (h .memory)) l a
+sized-outcome sheet h (Back by k) zero a l = a
+sized-outcome sheet h q (suc zero) a l = a
+sized-outcome sheet h q (suc (suc j)) a l = a
+
+pub sized-after : (sheet : Sheet) (h : State) (q : Request) → All SizedSlot (h .slots) → length (h .memory .bits) ≡ 8192 → All SizedSlot (Step.after sheet h q .slots)
+unfolding Step.after
+sized-after sheet h q = sized-outcome sheet h q (judge (view h) q)
+
+-- no request makes slots more or fewer
+pub slots-after : (sheet : Sheet) (h : State) (q : Request) → length (Step.after sheet h q .slots) ≡ length (h .slots)
+unfolding Step.after
+slots-after sheet h q = go (judge (view h) q)
+  where
+    go : (j : ℕ) → length (Step.outcome sheet j h q .slots) ≡ length (h .slots)
+    go zero = slots-size (h .memory) (h .slots) q
+    go (suc zero) = refl
+    go (suc (suc j)) = refl
+
+-- What is fit, with the sheet of limits that is lent with a request, stays fit with it, where all that is stored has as many bytes as are lent: how
+-- many bytes are stored is nowhere judged.
+pub fit-after : (sheet : Sheet) (h : State) (q : Request) → All SizedSlot (h .slots) → unfit (callerOf q .limits) (view h) ≡ false → unfit (callerOf q .limits) (view (Step.after sheet h q)) ≡ false
+fit-after sheet h q a f =
     let limits = callerOf q .limits in
-    fit-all limits (view (Step.after sheet h q)) (order-after sheet h q (fit-order limits (view h) f)) (sheet-after sheet h q (fit-order limits (view h) f) (fit-sheet limits (view h) f)) (size-after sheet h q ∙ fit-size limits (view h) f)
+    fit-all limits (view (Step.after sheet h q)) (order-after sheet h q (fit-order limits (view h) f)) (sheet-after sheet h q (fit-order limits (view h) f) (fit-sheet limits (view h) f)) (size-after sheet h q a (fit-size limits (view h) f)) (slots-after sheet h q ∙ fit-slots limits (view h) f)
 
 pub order-final : (sheet : Sheet) (qs : List Request) (h : State) → inOrder (h .memory .table) (h .tally .issued) ≡ true → inOrder (final (Step.after sheet) h qs .memory .table) (final (Step.after sheet) h qs .tally .issued) ≡ true
 order-final sheet [] h o = o

@@ -1,4 +1,4 @@
--- The number given, to an event or to a group, is the first in order of precedence that applies: its condition holds, and none that comes
+-- The number given, to an event, a group, a mark or a back, is the first in order of precedence that applies: its condition holds, and none that comes
 -- before it does. And the order of precedence, worded again.
 -- Assumes nothing.
 use mathlib.Core.Path.{_≡_, refl, sym, ap, _∙_}
@@ -15,7 +15,7 @@ use Rattle.model.specs.declared.Cap.{Cap}
 use Rattle.model.specs.declared.Event.{Event}
 use Rattle.model.specs.declared.Event.the-variants.{Create, Borrow, Read, Write, Drop}
 use Rattle.model.specs.Lists.{filter, any, all, first}
-use Rattle.model.specs.Requests.{Caller, Request, Single, Group}
+use Rattle.model.specs.Requests.{Caller, Request, Single, Group, Mark, Back, turnsState}
 use Rattle.model.specs.Table.{liveRows}
 use Rattle.model.specs.Refusals.{View, notADomain, unfit, misgrouped, standing, standings, precedence, place, refusals, judge}
 use Rattle.model.proofs.Lists.{listed, first-none, test, clash, and-both, all-append}
@@ -137,6 +137,13 @@ rising v by (Read u s) = refl
 rising v by (Write u s) = refl
 rising v by (Drop u) = refl
 
+rising-state : (v : View) (q : Request) → turnsState q ≡ true → risesFrom 0 (refusals v q) ≡ true
+unfolding refusals
+rising-state v (Single by e) t = clash t refl
+rising-state v (Group by names) t = clash t refl
+rising-state v (Mark by k) t = refl
+rising-state v (Back by k) t = refl
+
 -- the checks of the later names of a group repeat the numbers of the first one's
 standings-repeat : (cs : List (ℕ × Bool)) (rows : List Cap) (i actor : ℕ) (names : List ℕ) → ((u : Name) → all (λ d. isNumber cs (d .0)) (standing rows i actor u) ≡ true)
     → all (λ d. isNumber cs (d .0)) (standings rows i actor names) ≡ true
@@ -147,11 +154,15 @@ standings-repeat cs rows i actor (u ∷ names) h =
     all-append again (standing rows i actor (record { 0 = u })) (standings rows i actor names)
     ∙ rw (h (record { 0 = u }), standings-repeat cs rows i actor names h)
 
--- A refusal's condition holds: of an event the one that is listed under its number, of a group some one, since 4 and 5 are listed once for
--- each name.
+-- A refusal's condition holds: of an event, a mark or a back the one that is listed under its number, of a group some one, since 4 and 5 are listed
+-- once for each name.
 pub given-holds : (v : View) (by : Caller) (e : Event) (k : ℕ) → judge v (Single by e) ≡ suc k → listed (suc k) (refusals v (Single by e)) ≡ true
 unfolding judge
 given-holds v by e k h = first-holds (refusals v (Single by e)) 0 k (rising v by e) h
+
+pub given-holds-state : (v : View) (q : Request) → turnsState q ≡ true → (k : ℕ) → judge v q ≡ suc k → listed (suc k) (refusals v q) ≡ true
+unfolding judge
+given-holds-state v q t k h = first-holds (refusals v q) 0 k (rising-state v q t) h
 
 pub given-some : (v : View) (q : Request) (k : ℕ) → judge v q ≡ suc k → any (λ c. eqb (suc k) (c .0) && c .1) (refusals v q) ≡ true
 unfolding judge
@@ -162,6 +173,8 @@ given-some v q k h = first-some (refusals v q) k h
 pub given-first : (v : View) (q : Request) (j : ℕ) → place j < place (judge v q) → listed j (refusals v q) ≡ false
 unfolding judge refusals standings
 given-first v (Single by e) j l = first-lowest (refusals v (Single by e)) 0 j (rising v by e) l
+given-first v (Mark by k) j l = first-lowest (refusals v (Mark by k)) 0 j (rising-state v (Mark by k) refl) l
+given-first v (Back by k) j l = first-lowest (refusals v (Back by k)) 0 j (rising-state v (Back by k) refl) l
 given-first v (Group by []) j l = first-lowest (refusals v (Group by [])) 0 j refl l
 given-first v (Group by (u ∷ names)) j l =
     let front : List (ℕ × Bool) = (1, unfit (by .limits) v) ∷ (13, misgrouped (u ∷ names)) ∷ (2, notADomain (by .actor)) ∷ standing (liveRows (v .table)) (v .issued) (by .actor) (record { 0 = u }) in
@@ -196,6 +209,10 @@ seventeen-after = refl
 pub eighteen-after : place 18 ≡ suc (place 10)
 eighteen-after = refl
 
+-- Card 11: 19 is "after 2": behind 14 and 15, which no request gets, and before 3.
+pub nineteen-after : (place 19 ≡ suc (place 15)) × (place 3 ≡ suc (place 19))
+nineteen-after = (refl, refl)
+
 -- There are no more.
-pub eighteen-numbers : length precedence ≡ 18
-eighteen-numbers = refl
+pub nineteen-numbers : length precedence ≡ 19
+nineteen-numbers = refl

@@ -9,7 +9,7 @@ use Prim.Native.Nat.{ℕ, zero, suc, _≤_, _<_}
 use native.Mathlib.Omega.{arith}
 use lib.Dec.{eqb, ltb}
 use lib.ListN.{length, getD, List·getD-map}
-use borrow.Author.Tests.{eqb-true}
+use borrow.Author.Tests.{eqb-true, not-true}
 use Rattle.model.specs.declared.Name.{Name}
 use Rattle.model.specs.declared.Span.{Span}
 use Rattle.model.specs.declared.Cap.{Cap}
@@ -21,7 +21,7 @@ use Rattle.model.specs.declared.Origin.the-variants.{Cell, Kin, Stranger
 use Rattle.model.specs.declared.Sheet.{Sheet}
 use Rattle.model.specs.declared.Tally.{Tally}
 use Rattle.model.specs.Lists.{consIf, any, all, without, answers, final}
-use Rattle.model.specs.Requests.{Caller, Request, Single, Group}
+use Rattle.model.specs.Requests.{Caller, Request, Single, Group, Mark, Back, turnsState}
 use Rattle.model.specs.Values.{touches}
 use Rattle.model.specs.Derivation.{Derivation, ancestry, inSubtree, onAncestry}
 use Rattle.model.specs.Strike.{isLower, isEnd, resultOf, origin, strike, reached, struck}
@@ -36,13 +36,12 @@ use Rattle.model.specs.History.{historyAfter}
 use Rattle.model.specs.History
 use Rattle.model.specs.Traces.{mildSheet}
 use Rattle.model.specs.Given.{namesIn, given}
-use Rattle.model.specs.ReadRemoved.{NoReadEnds, isStrike, livesIn, readStrikes, rightless, OnlyRights, ReadRemoved, Thinner, whole, one-fewer, ReadsRemoved}
-use Rattle.model.proofs.Lists.{All-of, test, clash, unless, and-both, or-neither, all-append, final-append, answers-append, filter-all}
+use Rattle.model.specs.ReadRemoved.{NoReadEnds, NoStates, isStrike, livesIn, readStrikes, rightless, OnlyRights, ReadRemoved, Thinner, whole, one-fewer, ReadsRemoved}
+use Rattle.model.proofs.Lists.{All-of, test, clash, cond-same, unless, and-both, or-neither, all-append, final-append, answers-append, filter-all}
 use Rattle.model.proofs.Ancestries.{Falling, ancestry-zero, ancestry-above, ancestry-past}
 use Rattle.model.proofs.Notes.{taken-cong}
-use Rattle.model.proofs.Judged.{in-order, sized, counted-issued}
+use Rattle.model.proofs.Judged.{in-order, counted-issued, works-memory, stores-nothing}
 use Rattle.model.proofs.Match.{count-raised}
-use Rattle.model.proofs.Bits.{length-after}
 use Rattle.model.proofs.Order.{rowsInOrder-falling, live-named, ordered, order-after}
 use Rattle.model.proofs.Lowered.{lower, allowed-lower, after-lower, rights-table, lowered-right}
 use Rattle.model.proofs.Rows.{table-changed}
@@ -58,27 +57,29 @@ counts-commute (Single by (Read x v)) t = refl
 counts-commute (Single by (Write x v)) t = refl
 counts-commute (Single by (Drop x)) t = refl
 counts-commute (Group by names) t = refl
+counts-commute (Mark by k) t = refl
+counts-commute (Back by k) t = refl
 
 module _ (hit : ℕ → Bool) where
   -- The second has the table of the first, lowered where `hit` says, and one read more. No empty row is hit, and no name given out later.
   record Below (h l : State) : Type 0 where
     pub ordered-table : inOrder (h .memory .table) (h .tally .issued) ≡ true
-    pub bits-sized : length (h .memory .bits) ≡ 8192
     pub same-bits : l .memory .bits ≡ h .memory .bits
+    pub same-slots : l .slots ≡ h .slots
     pub lower-table : l .memory .table ≡ map (lower hit) (h .memory .table)
     pub one-read-more : l .tally ≡ countRead (h .tally)
     pub zero-kept : hit 0 ≡ false
     pub later-kept : (x : ℕ) → h .tally .issued < x → hit x ≡ false
 
-  module _ (sheet : Sheet) (h l : State) (b : Below h l) (q : Request) (z : judge (view l) q ≡ 0) where
+  module _ (sheet : Sheet) (h l : State) (b : Below h l) (q : Request) (s : turnsState q ≡ false) (z : judge (view l) q ≡ 0) where
     same-issued : l .tally .issued ≡ h .tally .issued
     same-issued = ap (λ t. t .issued) (b .one-read-more)
 
     also-allowed : judge (view h) q ≡ 0
     also-allowed =
-        allowed-lower hit (h .memory .table) (h .memory .bits) (h .tally .issued) q (b .ordered-table) (b .bits-sized)
-        (ap (λ bits. judge (viewOf (map (lower hit) (h .memory .table)) bits (h .tally .issued)) q) (sym (b .same-bits))
-        ∙ ap₂ (λ t i. judge (viewOf t (l .memory .bits) i) q) (sym (b .lower-table)) (sym same-issued) ∙ z)
+        allowed-lower hit (h .memory .table) (h .memory .bits) (h .slots) (h .tally .issued) q s (b .ordered-table)
+        (ap₂ (λ bits slots. judge (viewOf (map (lower hit) (h .memory .table)) bits slots (h .tally .issued)) q) (sym (b .same-bits)) (sym (b .same-slots))
+        ∙ ap₂ (λ t i. judge (viewOf t (l .memory .bits) (l .slots) i) q) (sym (b .lower-table)) (sym same-issued) ∙ z)
 
     same-answer : answer h q ≡ answer l q
     unfolding answer
@@ -89,24 +90,26 @@ module _ (hit : ℕ → Bool) where
     below-after =
         record {
           ordered-table = order-after sheet h q (b .ordered-table);
-          bits-sized = rw also-allowed (length-after (h .memory .bits) q ∙ b .bits-sized);
-          same-bits = rw (also-allowed, z) (ap (λ bits. bitsAfter bits q) (b .same-bits));
-          lower-table = rw (also-allowed, z, b .lower-table, same-issued) (after-lower hit (h .memory .table) (h .tally .issued) q (b .zero-kept) (b .later-kept (suc (h .tally .issued)) (omega arith)) sheet);
+          same-bits = rw (also-allowed, z, works-memory sheet h q s, works-memory sheet l q s) (ap (λ bits. bitsAfter bits q) (b .same-bits));
+          same-slots = rw (also-allowed, z) (stores-nothing (l .memory) (l .slots) q s ∙ b .same-slots ∙ sym (stores-nothing (h .memory) (h .slots) q s));
+          lower-table = rw (also-allowed, z, works-memory sheet h q s, works-memory sheet l q s, b .lower-table, same-issued) (after-lower hit (h .memory .table) (h .tally .issued) q (b .zero-kept) (b .later-kept (suc (h .tally .issued)) (omega arith)) sheet);
           one-read-more = rw (also-allowed, z) (ap (countAllowed q) (b .one-read-more) ∙ counts-commute q (h .tally));
           zero-kept = b .zero-kept;
           later-kept = rw also-allowed (λ x later. b .later-kept x (omega (arith, counted-issued q (h .tally), count-raised (h .tally .issued) q)));
         }
 
   -- while the second allows every request, the first answers alike
-  alike : (sheet : Sheet) (qs : List Request) (h l : State) → Below h l → all isAllowed (answers (after sheet) answer l qs) ≡ true
+  alike : (sheet : Sheet) (qs : List Request) (h l : State) → Below h l → NoStates qs → all isAllowed (answers (after sheet) answer l qs) ≡ true
       → (answers (after sheet) answer h qs ≡ answers (after sheet) answer l qs) × Below (final (after sheet) h qs) (final (after sheet) l qs)
   unfolding answer
-  alike sheet [] h l b a = (refl, b)
-  alike sheet (q ∷ qs) h l b a =
+  alike sheet [] h l b s a = (refl, b)
+  alike sheet (q ∷ qs) h l b s a =
       let p = and-both (isAllowed (answer l q)) (all isAllowed (answers (after sheet) answer (after sheet l q) qs)) a in
       let z : judge (view l) q ≡ 0 = eqb-true (judge (view l) q) 0 (p .0) in
-      let r = alike sheet qs (after sheet h q) (after sheet l q) (below-after sheet h l b q z) (p .1) in
-      (ap₂ {C = List Verdict} (λ x xs. x ∷ xs) (same-answer sheet h l b q z) (r .0), r .1)
+      let u = and-both (not (turnsState q)) (all (λ q. not (turnsState q)) qs) s in
+      let t = not-true (turnsState q) (u .0) in
+      let r = alike sheet qs (after sheet h q) (after sheet l q) (below-after sheet h l b q t z) (u .1) (p .1) in
+      (ap₂ {C = List Verdict} (λ x xs. x ∷ xs) (same-answer sheet h l b q t z) (r .0), r .1)
 
 -- ---- the read
 
@@ -173,8 +176,8 @@ module _ (sheet : Sheet) (h : State) (u : Name) (s : Span) where
         let zero-unstruck = unstruck 0 (ancestry-zero (suc (h .tally .issued)) (derivations (liveRows (h .memory .table))) falls) in
         record {
           ordered-table = orderly;
-          bits-sized = sized (view h) (Single by (Read u s)) z;
           same-bits = rw z;
+          same-slots = rw z;
           lower-table =
               rw (z, read-lowers (liveRows (h .memory .table)) refl)
               (table-changed (h .memory .table) (ordered (h .memory .table) (h .tally .issued) orderly .rest-is-empty) (lower (readStrikes sheet h u s)) (ap (λ b. lowered b emptyRow) zero-unstruck));
@@ -197,6 +200,7 @@ module _ (sheet : Sheet) (here : State) (u : Name) (s : Span) (l h : State) (b :
         rights-differ = differ;
         exactly = b .lower-table;
         same-bits = b .same-bits;
+        same-slots = b .same-slots;
         one-read-more = b .one-read-more;
         unless-full = λ few. let e : l .tally .reads ≡ countUp (h .tally .reads) = ap (λ t. t .reads) (b .one-read-more) in omega (arith);
       }
@@ -234,10 +238,10 @@ answers-without sheet [] h q later = refl
 answers-without sheet (p ∷ before) h q later = ap {B = List Verdict} (λ l. answer h p ∷ l) (answers-without sheet before (after sheet h p) q later)
 
 -- "if one read is removed from a trace whose every event is allowed"
-pub read-removed : (sheet : Sheet) → NoReadEnds sheet → (lent : State) (before : List Request) (by : Caller) (u : Name) (s : Span) (later : List Request)
+pub read-removed : (sheet : Sheet) → NoReadEnds sheet → (lent : State) (before : List Request) (by : Caller) (u : Name) (s : Span) (later : List Request) → NoStates later
     → all isAllowed (answers (after sheet) answer lent (before ++ (Single by (Read u s) ∷ later))) ≡ true → ReadRemoved sheet lent before by u s later
 unfolding answer
-read-removed sheet none-end lent before by u s later a =
+read-removed sheet none-end lent before by u s later n a =
     record {
       all-allowed =
           rw (answers-append (after sheet) answer lent before later, all-append isAllowed (answers (after sheet) answer lent before) (answers (after sheet) answer here later), p .0)
@@ -265,7 +269,7 @@ read-removed sheet none-end lent before by u s later a =
 
     runs : (answers (after sheet) answer here later ≡ answers (after sheet) answer (after sheet here (Single by (Read u s))) later)
         × Below (readStrikes sheet here u s) (final (after sheet) here later) (final (after sheet) (after sheet here (Single by (Read u s))) later)
-    runs = alike (readStrikes sheet here u s) sheet later here (after sheet here (Single by (Read u s))) (below-read sheet here u s by none-end z) (q .1)
+    runs = alike (readStrikes sheet here u s) sheet later here (after sheet here (Single by (Read u s))) (below-read sheet here u s by none-end z) n (q .1)
 
 -- ---- several reads
 
@@ -273,19 +277,15 @@ read-removed sheet none-end lent before by u s later a =
 read-unnamed : (sheet : Sheet) (before : List Request) (h : State) (by : Caller) (u : Name) (s : Span) (later : List Request)
     → namesIn (without (length before) (answers (after sheet) answer h (before ++ (Single by (Read u s) ∷ later)))) ≡ given sheet h (before ++ (Single by (Read u s) ∷ later))
 unfolding answer given
-read-unnamed sheet [] h by u s later = rw (none-named (eqb (judge (view h) (Single by (Read u s))) 0))
-  where
-    none-named : (b : Bool) → cond {A = ℕ} b 0 0 ≡ 0
-    none-named true = refl
-    none-named false = refl
+read-unnamed sheet [] h by u s later = rw (cond-same {A = ℕ} (eqb (judge (view h) (Single by (Read u s))) 0) 0)
 read-unnamed sheet (q ∷ before) h by u s later = ap (λ l. consIf (ltb 0 (answer h q .name)) (answer h q .name) l) (read-unnamed sheet before (after sheet h q) by u s later)
 
 pub reads-removed : (sheet : Sheet) → NoReadEnds sheet → (lent : State) {qs thinner : List Request} → Thinner qs thinner → all isAllowed (answers (after sheet) answer lent qs) ≡ true → ReadsRemoved sheet lent qs thinner
 unfolding given
 reads-removed sheet none-end lent (whole qs) a = record { all-allowed = a; same-names = refl; only-rights = refl; none-lower = λ k. omega arith }
-reads-removed sheet none-end lent (one-fewer before by u s later t) a =
+reads-removed sheet none-end lent (one-fewer before by u s later n t) a =
     let more = reads-removed sheet none-end lent t a in
-    let one = read-removed sheet none-end lent before by u s later (more .all-allowed) in
+    let one = read-removed sheet none-end lent before by u s later n (more .all-allowed) in
     record {
       all-allowed = one .all-allowed;
       same-names = ap namesIn (one .same-answers) ∙ read-unnamed sheet before lent by u s later ∙ more .same-names;
@@ -300,13 +300,13 @@ reads-removed sheet none-end lent (one-fewer before by u s later t) a =
 -- ---- the history
 
 -- The history tells the same of a trace, which begins with n rows, all zeros: by demand 3 its table is the lent one.
-pub history-removed : (sheet : Sheet) → NoReadEnds sheet → (n : ℕ) (t : Tally) → t .issued ≡ 0 → (before : List Request) (by : Caller) (u : Name) (s : Span) (later : List Request)
+pub history-removed : (sheet : Sheet) → NoReadEnds sheet → (n : ℕ) (t : Tally) → t .issued ≡ 0 → (before : List Request) (by : Caller) (u : Name) (s : Span) (later : List Request) → NoStates later
     → all isAllowed (answers (after sheet) answer (initial n t) (before ++ (Single by (Read u s) ∷ later))) ≡ true
     → History.table sheet n (historyAfter sheet n (before ++ (Single by (Read u s) ∷ later)) .notes)
     ≡ map (λ c. lowered (readStrikes sheet (stateAfter sheet n t before) u s (c .name .0)) c) (History.table sheet n (historyAfter sheet n (before ++ later) .notes))
-history-removed sheet none-end n t z before by u s later a =
+history-removed sheet none-end n t z before by u s later none a =
     sym (demand3 sheet n t z (before ++ (Single by (Read u s) ∷ later)) .same-table)
-    ∙ read-removed sheet none-end (initial n t) before by u s later a .rights .exactly
+    ∙ read-removed sheet none-end (initial n t) before by u s later none a .rights .exactly
     ∙ ap (map (λ c. lowered (readStrikes sheet (stateAfter sheet n t before) u s (c .name .0)) c)) (demand3 sheet n t z (before ++ later) .same-table)
 
 -- By card 6's sheet no read ends anything; by that of card 7's traces one does.

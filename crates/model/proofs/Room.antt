@@ -12,7 +12,7 @@ use borrow.Author.Tests.{eqb-true, leb-false, ltb-true, ltb-false, not-false}
 use Rattle.model.specs.declared.Cap.{Cap}
 use Rattle.model.specs.declared.Event.the-variants.{Create, Borrow, Read, Write, Drop}
 use Rattle.model.specs.Lists.{any}
-use Rattle.model.specs.Requests.{Unlimited, Limited, Request, Single, Group, callerOf}
+use Rattle.model.specs.Requests.{Unlimited, Limited, Request, Single, Group, Mark, Back, callerOf}
 use Rattle.model.specs.Table.{row, span, derivation, emptyRow, liveRows, isDomain, termsInOrder, inOrder}
 use Rattle.model.specs.Limits.{made, sum, exceeds, refusedSheet, noRow, limitReached}
 use Rattle.model.specs.Refusals.{View, standings, refusals, judge}
@@ -39,6 +39,8 @@ no-ten v (Single by (Read u s)) limits l = refl
 no-ten v (Single by (Write u s)) limits l = refl
 no-ten v (Single by (Drop u)) limits l = refl
 no-ten v (Group by names) limits l = no-room-of-names (liveRows (v .table)) (v .issued) (by .actor) names .0
+no-ten v (Mark by k) limits l = refl
+no-ten v (Back by k) limits l = refl
 
 no-eighteen : (v : View) (q : Request) → callerOf q .limits ≡ Unlimited → given 18 (refusals v q) ≡ false
 unfolding refusals limitReached
@@ -48,6 +50,8 @@ no-eighteen v (Single by (Read u s)) l = refl
 no-eighteen v (Single by (Write u s)) l = refl
 no-eighteen v (Single by (Drop u)) l = refl
 no-eighteen v (Group by names) l = no-room-of-names (liveRows (v .table)) (v .issued) (by .actor) names .1
+no-eighteen v (Mark by k) l = refl
+no-eighteen v (Back by k) l = refl
 
 -- With a sheet of limits 10 is never given,
 pub ten-never : (v : View) (q : Request) (limits : List ℕ) → callerOf q .limits ≡ Limited limits → judge v q ≡ 10 → ⊥

@@ -27,7 +27,7 @@ use Rattle.model.specs.History
 use Rattle.model.proofs.Lists.{test, All, All-map, All-of, All-sub, and-both, or-neither, and-neither, any-false, any-kept, passes, filter-cong, filter-filter, filter-map, filter-all, length-filter, map-id, all-append, final-append, answers-append}
 use Rattle.model.proofs.Ancestries.{Closed, ancestry-kept, ancestry-upto}
 use Rattle.model.proofs.Lent.{Named, live-lent, length-lent}
-use Rattle.model.proofs.Judged.{allowed, Stands, Rising, group-rises, group-held, length-live, in-order, sized, Held, sheet-allowed}
+use Rattle.model.proofs.Judged.{allowed, Stands, Rising, group-rises, group-held, length-live, in-order, sized, Held, sheet-allowed, eight-slots}
 use Rattle.model.proofs.Order.{lookup-left, group-step, rowsInOrder-falling, live-named, ordered, order-final}
 use Rattle.model.proofs.Rows.{lent-live}
 use Rattle.model.proofs.Match.{Match, same-judge, run}
@@ -190,8 +190,9 @@ module _ (sheet : Sheet) where
     pub table-left : final (after sheet) h (singleDrops by names) .memory .table ≡ lentTable (length (h .memory .table)) (rowsWithout names (liveRows (h .memory .table)))
     pub issued-left : final (after sheet) h (singleDrops by names) .tally .issued ≡ h .tally .issued
     pub bits-left : final (after sheet) h (singleDrops by names) .memory .bits ≡ h .memory .bits
+    pub slots-left : final (after sheet) h (singleDrops by names) .slots ≡ h .slots
 
-  module _ (h : State) (o : inOrder (h .memory .table) (h .tally .issued) ≡ true) (b : length (h .memory .bits) ≡ 8192) (by : Caller) (d : isDomain (by .actor) ≡ true) (r : refusedSheet (h .memory .table) (by .limits) ≡ false) where
+  module _ (h : State) (o : inOrder (h .memory .table) (h .tally .issued) ≡ true) (b : length (h .memory .bits) ≡ 8192) (e8 : length (h .slots) ≡ 8) (by : Caller) (d : isDomain (by .actor) ≡ true) (r : refusedSheet (h .memory .table) (by .limits) ≡ false) where
     abbrev rows : List Cap
     rows = liveRows (h .memory .table)
 
@@ -214,7 +215,7 @@ module _ (sheet : Sheet) where
       drop-allowed : judge (view then) (Single by (Drop (record { 0 = x }))) ≡ 0
       unfolding judge refusals
       drop-allowed =
-          rw (sheet-left, d, order-final sheet (singleDrops by names) h o, s .bits-left, b, s .table-left, s .issued-left, live-lent (length (h .memory .table)) (rowsWithout names rows) (without-named (h .memory .table) names))
+          rw (sheet-left, d, order-final sheet (singleDrops by names) h o, s .bits-left, b, s .slots-left, e8, s .table-left, s .issued-left, live-lent (length (h .memory .table)) (rowsWithout names rows) (without-named (h .memory .table) names))
           (rw (
             stands .0,
             smaller-stays (suc (h .tally .issued)) rows (live-named (h .memory .table)) (ordered (h .memory .table) (h .tally .issued) o .rise) names x below,
@@ -249,6 +250,10 @@ module _ (sheet : Sheet) where
       unfolding after bitsAfter
       bits-then = rw drop-allowed (s .bits-left)
 
+      slots-then : after sheet then (Single by (Drop (record { 0 = x }))) .slots ≡ h .slots
+      unfolding after
+      slots-then = rw drop-allowed (s .slots-left)
+
       singly-more : Singly h by (x ∷ names)
       singly-more =
           record {
@@ -258,6 +263,7 @@ module _ (sheet : Sheet) where
             table-left = rw (singleDrops-cons by x names, final-append (after sheet) h (singleDrops by names) drop) left-then;
             issued-left = rw (singleDrops-cons by x names, final-append (after sheet) h (singleDrops by names) drop) issued-then;
             bits-left = rw (singleDrops-cons by x names, final-append (after sheet) h (singleDrops by names) drop) bits-then;
+            slots-left = rw (singleDrops-cons by x names, final-append (after sheet) h (singleDrops by names) drop) slots-then;
           }
 
     singly-rising : (names : List ℕ) → Rising names → All (λ u. Stands rows (h .tally .issued) u × Held rows by u) names → Singly h by names
@@ -267,6 +273,7 @@ module _ (sheet : Sheet) where
           table-left = sym (rw dropped-none (lent-live (h .memory .table) (ordered (h .memory .table) (h .tally .issued) o .rest-is-empty)));
           issued-left = refl;
           bits-left = refl;
+          slots-left = refl;
         }
     singly-rising (x ∷ names) i a = singly-more x names (i .0) (a .0 .0) (a .0 .1) (singly-rising names (i .1) (a .1))
 
@@ -280,7 +287,7 @@ module _ (sheet : Sheet) where
     pub group-singly : Singly h by names
     unfolding refusals
     group-singly =
-        singly-rising h (in-order (view h) (Group by names) group-judged) (sized (view h) (Group by names) group-judged) by (not-false (isDomain (by .actor)) (allowed (view h) (Group by names) group-judged 2)) (sheet-allowed (view h) (Group by names) group-judged) names
+        singly-rising h (in-order (view h) (Group by names) group-judged) (sized (view h) (Group by names) group-judged) (eight-slots (view h) (Group by names) group-judged) by (not-false (isDomain (by .actor)) (allowed (view h) (Group by names) group-judged 2)) (sheet-allowed (view h) (Group by names) group-judged) names
         (group-rises (view h) by names group-judged)
         (group-held (view h) by names group-judged)
 
@@ -291,17 +298,17 @@ module _ (sheet : Sheet) where
   -- ---- the notes of single drops
 
   one-noted : (n : ℕ) (K : History) (by : Caller) (x : ℕ) → isAllowed (History.answer sheet n K (Single by (Drop (record { 0 = x })))) ≡ true
-      → History.after sheet n K (Single by (Drop (record { 0 = x }))) ≡ record { notes = Dropped x ∷ K .notes; count = K .count }
+      → History.after sheet n K (Single by (Drop (record { 0 = x }))) ≡ record { notes = Dropped x ∷ K .notes; count = K .count; kept = K .kept }
   unfolding History.after History.answer notesOf
-  one-noted n K by x a = rw (eqb-true (judge (History.view sheet n (K .notes) (K .count)) (Single by (Drop (record { 0 = x })))) 0 a)
+  one-noted n K by x a = rw (eqb-true (judge (History.view sheet n (K .kept) (K .notes) (K .count)) (Single by (Drop (record { 0 = x })))) 0 a)
 
   -- single drops that the history allows add their notes, the smallest name's last
   drops-noted : (n : ℕ) (H : History) (by : Caller) (names : List ℕ) → all isAllowed (answers (History.after sheet n) (History.answer sheet n) H (singleDrops by names)) ≡ true
-      → final (History.after sheet n) H (singleDrops by names) ≡ record { notes = map Dropped names ++ H .notes; count = H .count }
+      → final (History.after sheet n) H (singleDrops by names) ≡ record { notes = map Dropped names ++ H .notes; count = H .count; kept = H .kept }
   drops-noted n H by [] a = refl
   drops-noted n H by (x ∷ names) a =
       rw (singleDrops-cons by x names, final-append (History.after sheet n) H (singleDrops by names) drop)
-      (noted-last then (p .1) ∙ ap {B = History} (λ K. record { notes = Dropped x ∷ K .notes; count = K .count }) (drops-noted n H by names (p .0)))
+      (noted-last then (p .1) ∙ ap {B = History} (λ K. record { notes = Dropped x ∷ K .notes; count = K .count; kept = K .kept }) (drops-noted n H by names (p .0)))
     where
       drop : List Request
       drop = Single by (Drop (record { 0 = x })) ∷ []
@@ -315,7 +322,7 @@ module _ (sheet : Sheet) where
           (rw (singleDrops-cons by x names, answers-append (History.after sheet n) (History.answer sheet n) H (singleDrops by names) drop, all-append isAllowed (answers (History.after sheet n) (History.answer sheet n) H (singleDrops by names)) (answers (History.after sheet n) (History.answer sheet n) then drop)) at a)
 
       noted-last : (K : History) → isAllowed (History.answer sheet n K (Single by (Drop (record { 0 = x })))) && true ≡ true
-          → History.after sheet n K (Single by (Drop (record { 0 = x }))) ≡ record { notes = Dropped x ∷ K .notes; count = K .count }
+          → History.after sheet n K (Single by (Drop (record { 0 = x }))) ≡ record { notes = Dropped x ∷ K .notes; count = K .count; kept = K .kept }
       noted-last K h = one-noted n K by x (and-both (isAllowed (History.answer sheet n K (Single by (Drop (record { 0 = x }))))) true h .0)
 
   -- "in the history the notes, that single drops in falling order of name leave"

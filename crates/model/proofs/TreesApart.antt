@@ -7,7 +7,7 @@ use mathlib.Core.List.{List, [], _∷_, map-map}
 use Prim.Native.Nat.{ℕ, zero, suc, _+_, _<_, _≤_}
 use native.Mathlib.Omega.{arith}
 use lib.Dec.{eqb, leb, ltb}
-use lib.ListN.{length}
+use lib.ListN.{length, getD}
 use borrow.Author.Tests.{eqb-true, eq-eqb, ne-eqb, leb-true, le-leb, lt-leb, not-true, not-false}
 use Rattle.model.specs.declared.Span.{Span}
 use Rattle.model.specs.declared.Cap.{Cap}
@@ -20,24 +20,27 @@ use Rattle.model.specs.declared.Event.the-variants.{Create, Borrow, Read
 use Rattle.model.specs.declared.Access.{Access}
 use Rattle.model.specs.declared.Access.the-variants.{Reading, Writing}
 use Rattle.model.specs.declared.Origin.the-variants.{Stranger}
-use Rattle.model.specs.Requests.{Unlimited, Caller, Request, Single, Group, callerOf}
+use Rattle.model.specs.Requests.{Unlimited, Caller, Request, Single, Group, Mark, Back, callerOf, turnsState, isBack}
+use Rattle.model.specs.Slots.{Memory, Slot, Nothing, Stored}
 use Rattle.model.specs.Strike.{isLower, isEnd, resultOf, struck}
 use Rattle.model.specs.Lists.{consIf, filter, any, all, first, final}
 use Rattle.model.specs.Values.{end, inside, touches}
 use Rattle.model.specs.Derivation.{Derivation, ancestry}
-use Rattle.model.specs.Table.{row, emptyRow, span, derivation, derivations, named, lookup, rowFitsParent, parentInOrder, rowsInOrder, inOrder}
+use Rattle.model.specs.Table.{row, emptyRow, span, derivation, derivations, named, liveRows, lookup, rowFitsParent, parentInOrder, rowsInOrder, inOrder}
 use Rattle.model.specs.Sheet6.{sheet6}
-use Rattle.model.specs.Effects.{lowered, revoke, afterAccess, inSubtrees, rowsWithout, root, child, rowsAfter, newName}
+use Rattle.model.specs.Effects.{lowered, revoke, afterAccess, inSubtrees, rowsWithout, root, child, rowsAfter, newName, issuedAfter}
 use Rattle.model.specs.Refusals.{room, notWritten, standings, checks, unfit, refusals, judge}
 use Rattle.model.specs.Bits.{bitAt}
 use Rattle.model.specs.Limits.{refusedSheet, noRow, limitReached}
 use Rattle.model.specs.Step.{State, view, initial, outcome, after, stateAfter}
 use Rattle.model.specs.TreesApart.{StrangersEnd, lastName, rootOf, tree, isRoot, rootsApart, staysIn, concerns, treeAfter, live, treeAlone, TreesApart}
-use Rattle.model.proofs.Lists.{All, All-map, All-of, All-sub, All-filter, All-unfilter, All-zip, All-mapped, All-unmap, any-kept, test, clash, unless, and-both, or-neither, any-false, any-none, any-found, of-all, all-of, passes, filter-cong, filter-nothing}
+use Rattle.model.proofs.Lists.{All, All-map, All-of, All-sub, All-filter, All-unfilter, All-zip, All-mapped, All-unmap, All-getD, All-replicate, All-set, any-kept, test, clash, unless, and-both, or-neither, any-false, any-none, any-found, of-all, all-of, passes, filter-cong, filter-nothing}
+use Rattle.model.proofs.Slots.{InSlot, in-stored}
 use Rattle.model.proofs.Ancestries.{Falling, Closed, same, below-differs, ancestry-here, ancestry-past}
 use Rattle.model.proofs.Lent.{Named, no-rows, live-lent, length-lent, lookup-kept, lookup-found, lookup-named, lookup-none}
-use Rattle.model.proofs.Order.{Ordered, ordered, liveRowsFirst-lent, rowsInOrder-kept, spreads-kept, live-named, next-named, next-rowsInOrder, Spreads, struck-spreads, dropped-spreads, access-rowsInOrder, access-named, rises, steps, place, found-below, parentInOrder-rowFitsParent, rowsInOrder-falling}
-use Rattle.model.proofs.Judged.{allowed, in-order, fit-order, fit-size, counted-issued}
+use Rattle.model.proofs.Order.{Ordered, ordered, liveRowsFirst-lent, rowsInOrder-kept, rowsInOrder-wider, spreads-kept, live-named, next-named, next-rowsInOrder, Spreads, struck-spreads, dropped-spreads, access-rowsInOrder, access-named, rises, steps, place, found-below, parentInOrder-rowFitsParent, rowsInOrder-falling}
+use Rattle.model.proofs.Judged.{allowed, in-order, fit-order, fit-size, fit-slots, fit-all, no-slot, works-memory, stores-nothing, counted-issued}
+use Rattle.model.proofs.Match.{count-raised}
 use Rattle.model.proofs.Rows.{lookup-each, found-each, no-ancestry}
 use Rattle.model.proofs.Parts.{part, revoke-found, revoke-part, revoke-all, ancestry-part, access-spared, without-spared, access-part, without-part}
 use Rattle.model.proofs.Fresh.{stranger-takes}
@@ -371,6 +374,8 @@ module _ (sheet : Sheet) (i : ℕ) (rows : List Cap) (n : Named rows) (h : rowsI
   root-after (Single by (Write u s)) x e d = root-stays (struck sheet isEnd Writing (derivations rows) (u .0) s) (struck sheet isLower Writing (derivations rows) (u .0) s) (struck-spreads (suc i) rows n h sheet isEnd Writing (u .0) s) x e
   root-after (Single by (Drop u)) x e d = root-stays (λ y. inSubtrees (u .0 ∷ []) (ancestry (derivations rows) y)) (λ y. false) (dropped-spreads (suc i) rows n h (u .0 ∷ [])) x e
   root-after (Group by names) x e d = root-stays (λ y. inSubtrees names (ancestry (derivations rows) y)) (λ y. false) (dropped-spreads (suc i) rows n h names) x e
+  root-after (Mark by k) x e d = (e, refl)
+  root-after (Back by k) x e d = (e, refl)
 
   -- a new one is its own root, or has that of what it is borrowed from
   pub root-created : (by : Caller) (w : NewName) (s : Span) (t : Terms) → rootOf (rowsAfter sheet i rows (Single by (Create w s t))) (suc i) ≡ suc i
@@ -434,10 +439,24 @@ module _ (sheet : Sheet) (i : ℕ) (rows : List Cap) (n : Named rows) (h : rowsI
 
 -- ---- every request
 
--- What stays true: the live rows are in order, and their roots apart. (A table above 1,024 rows stays empty.)
+-- what is stored is such that a back to it, when so many names have been issued, leaves rows in order with their roots apart
+abbrev Grown : ℕ → Memory → Type 0
+Grown i m = (rowsInOrder (suc i) (liveRows (m .table)) ≡ true) × (rootsApart (liveRows (m .table)) ≡ true)
+
+abbrev pub Planted : ℕ → Slot Memory → Type 0
+Planted i = InSlot (Grown i)
+
+-- What stays true: the live rows are in order, and their roots apart; and so are the rows of each stored table. (A table above 1,024 rows stays
+-- empty.)
 pub record Forest (h : State) : Type 0 where
   pub rise : rowsInOrder (suc (h .tally .issued)) (live h) ≡ true
   pub roots-apart : rootsApart (live h) ≡ true
+  pub stored : All (Planted (h .tally .issued)) (h .slots)
+
+-- as names are given, it stays so
+planted-later : (i j : ℕ) → i ≤ j → (s : Slot Memory) → Planted i s → Planted j s
+planted-later i j l Nothing p = tt
+planted-later i j l (Stored m) p = (rowsInOrder-wider (suc i) (suc j) (liveRows (m .table)) (omega arith) (p .0), p .1)
 
 -- a name is found among some rows as among all
 abbrev pub Found : List Cap → List Cap → ℕ → Type 0
@@ -451,6 +470,23 @@ AllFound some rows (Single by (Read u s)) = Found some rows (u .0)
 AllFound some rows (Single by (Write u s)) = Found some rows (u .0)
 AllFound some rows (Single by (Drop u)) = Found some rows (u .0)
 AllFound some rows (Group by names) = All (Found some rows) names
+AllFound some rows (Mark by k) = Unit {0}
+AllFound some rows (Back by k) = Unit {0}
+
+-- what stays in a tree turns no state, and what does not concern one is no back
+stays-works : (rows : List Cap) (i r : ℕ) (q : Request) → staysIn rows i r q ≡ true → (turnsState q ≡ false) × (isBack q ≡ false)
+unfolding staysIn
+stays-works rows i r (Single by e) c = (refl, refl)
+stays-works rows i r (Group by names) c = (refl, refl)
+stays-works rows i r (Mark by k) c = clash c refl
+stays-works rows i r (Back by k) c = clash c refl
+
+unconcerned : (rows : List Cap) (i r : ℕ) (q : Request) → concerns rows i r q ≡ false → isBack q ≡ false
+unfolding concerns
+unconcerned rows i r (Single by e) c = refl
+unconcerned rows i r (Group by names) c = refl
+unconcerned rows i r (Mark by k) c = refl
+unconcerned rows i r (Back by k) c = clash refl c
 
 module _ (sheet : Sheet) (h : State) (f : Forest h) where
   abbrev i : ℕ
@@ -483,9 +519,19 @@ module _ (sheet : Sheet) (h : State) (f : Forest h) where
     in-place : Ordered (h .memory .table) i
     in-place = ordered (h .memory .table) i (in-order (view h) q z)
 
-    pub live-after : live (after sheet h q) ≡ rowsAfter sheet i rows q
-    unfolding after
-    live-after = rw z (live-lent (length (h .memory .table)) (rowsAfter sheet i rows q) (next-named sheet (view h) in-place q))
+    left-rows : turnsState q ≡ false → live (outcome sheet 0 h q) ≡ rowsAfter sheet i rows q
+    left-rows t = rw (works-memory sheet h q t) (live-lent (length (h .memory .table)) (rowsAfter sheet i rows q) (next-named sheet (view h) in-place q))
+
+  live-outcome : (q : Request) → isBack q ≡ false → judge (view h) q ≡ 0 → live (outcome sheet 0 h q) ≡ rowsAfter sheet i rows q
+  unfolding rowsAfter
+  live-outcome (Single by e) b z = left-rows (Single by e) z refl
+  live-outcome (Group by names) b z = left-rows (Group by names) z refl
+  live-outcome (Mark by k) b z = refl
+  live-outcome (Back by k) b z = clash refl b
+
+  pub live-after : (q : Request) → isBack q ≡ false → judge (view h) q ≡ 0 → live (after sheet h q) ≡ rowsAfter sheet i rows q
+  unfolding after
+  live-after q b z = rw z (live-outcome q b z)
 
   others-rows : (q : Request) → judge (view h) q ≡ 0 → (r : ℕ) → concerns rows i r q ≡ false → tree (rowsAfter sheet i rows q) r ≡ tree rows r
   unfolding concerns rowsAfter refusals
@@ -502,13 +548,15 @@ module _ (sheet : Sheet) (h : State) (f : Forest h) where
       access-others Writing (u .0) s r (not-false (any (named (u .0)) rows) (p 5)) (not-false (inside s (span (lookup (u .0) rows))) (p 6)) c
   others-rows (Single by (Drop u)) z r c = spared-names sheet i rows are-named (f .rise) (u .0 ∷ []) r (c, tt)
   others-rows (Group by names) z r c = spared-names sheet i rows are-named (f .rise) names r (any-none (inTree rows r) names c)
+  others-rows (Mark by k) z r c = refl
+  others-rows (Back by k) z r c = clash refl c
 
   others-stay : (q : Request) (r : ℕ) → concerns rows i r q ≡ false → tree (live (after sheet h q)) r ≡ tree rows r
   unfolding after
   others-stay q r c = go (judge (view h) q) refl
     where
       go : (j : ℕ) → judge (view h) q ≡ j → tree (live (outcome sheet j h q)) r ≡ tree rows r
-      go zero z = ap (λ l. tree l r) (live-lent (length (h .memory .table)) (rowsAfter sheet i rows q) (next-named sheet (view h) (in-place q z) q)) ∙ others-rows q z r c
+      go zero z = ap (λ l. tree l r) (live-outcome q (unconcerned rows i r q c) z) ∙ others-rows q z r c
       go (suc zero) z = refl
       go (suc (suc j)) z = refl
 
@@ -525,6 +573,8 @@ module _ (sheet : Sheet) (h : State) (f : Forest h) where
   own-rows (Single by (Write u s)) z r c = access-own Writing (u .0) s r c
   own-rows (Single by (Drop u)) z r c = without-own (u .0 ∷ []) r
   own-rows (Group by names) z r c = without-own names r
+  own-rows (Mark by k) z r c = clash c refl
+  own-rows (Back by k) z r c = clash c refl
 
   -- ---- answers in the tree alone
 
@@ -540,6 +590,8 @@ module _ (sheet : Sheet) (h : State) (f : Forest h) where
   all-in-own (Single by (Write u s)) r c = in-own (u .0) r c
   all-in-own (Single by (Drop u)) r c = in-own (u .0) r c
   all-in-own (Group by names) r c = All-map _ _ (λ u e. in-own u r e) names (of-all (inTree rows r) names c)
+  all-in-own (Mark by k) r c = tt
+  all-in-own (Back by k) r c = tt
 
   module _ (r m : ℕ) where
     abbrev own : List Cap
@@ -555,7 +607,7 @@ module _ (sheet : Sheet) (h : State) (f : Forest h) where
       same-standings actor [] c = refl
       same-standings actor (u ∷ names) c = rw (c .0 .0, c .0 .1, same-standings actor names (c .1))
 
-      same-checks : (q : Request) → callerOf q .limits ≡ Unlimited → AllFound own rows q → first (checks own i (bitAt (h .memory .bits)) m q) ≡ first (checks rows i (bitAt (h .memory .bits)) (length (h .memory .table)) q)
+      same-checks : (q : Request) → callerOf q .limits ≡ Unlimited → AllFound own rows q → first (checks own i (bitAt (h .memory .bits)) (view h .slot) m q) ≡ first (checks rows i (bitAt (h .memory .bits)) (view h .slot) (length (h .memory .table)) q)
       unfolding notWritten
       same-checks (Single by (Create w s t)) l c = rw (same-room by l w)
       same-checks (Single by (Borrow w u s t)) l c = rw (c .0, c .1, same-room by l w)
@@ -563,6 +615,8 @@ module _ (sheet : Sheet) (h : State) (f : Forest h) where
       same-checks (Single by (Write u s)) l c = rw (c .0, c .1)
       same-checks (Single by (Drop u)) l c = rw (c .0, c .1)
       same-checks (Group by names) l c = rw (same-standings (by .actor) names c)
+      same-checks (Mark by k) l c = refl
+      same-checks (Back by k) l c = refl
 
       own-named : Named own
       own-named = All-sub (λ c. inTree rows r (c .name .0)) (λ c. named 0 c ≡ false) rows are-named
@@ -574,27 +628,20 @@ module _ (sheet : Sheet) (h : State) (f : Forest h) where
       unfolding inOrder refusedSheet
       own-fit l k =
           let o = ordered (h .memory .table) i (fit-order Unlimited (view h) k) in
-          rw (
-            length-lent m own (omega arith),
-            le-leb m 1024 l,
-            liveRowsFirst-lent m own own-named,
-            o .names-left,
-            live-lent m own own-named,
-            own-rise,
-            fit-size Unlimited (view h) k,
-          )
+          fit-all Unlimited (treeAlone h m r) (rw (length-lent m own (omega arith), le-leb m 1024 l, liveRowsFirst-lent m own own-named, o .names-left, live-lent m own own-named) own-rise) refl (fit-size Unlimited (view h) k) (fit-slots Unlimited (view h) k)
 
-      pub answered-alone : (q : Request) → callerOf q .limits ≡ Unlimited → unfit Unlimited (view h) ≡ false → AllFound own rows q → m ≤ 1024 → judge (treeAlone h m r) q ≡ judge (view h) q
+      pub answered-alone : (q : Request) → turnsState q ≡ false → callerOf q .limits ≡ Unlimited → unfit Unlimited (view h) ≡ false → AllFound own rows q → m ≤ 1024 → judge (treeAlone h m r) q ≡ judge (view h) q
       unfolding judge refusals
-      answered-alone q l k c s =
-          rw (l, own-fit s k, k) (ap₂ (λ n o. first (checks o i (bitAt (h .memory .bits)) n q)) (length-lent m own (omega arith)) (live-lent m own own-named) ∙ same-checks q l c)
+      answered-alone q t l k c s =
+          rw (no-slot (treeAlone h m r) q t, no-slot (view h) q t, l, own-fit s k, k)
+          (ap₂ (λ n o. first (checks o i (bitAt (h .memory .bits)) (view h .slot) n q)) (length-lent m own (omega arith)) (live-lent m own own-named) ∙ same-checks q l c)
 
   -- ---- roots stay apart
 
   module _ (strangers-end : StrangersEnd sheet) where
     created-ends : (by : Caller) (w : NewName) (s : Span) (t : Terms) (r : ℕ) → judge (view h) (Single by (Create w s t)) ≡ 0 → touches s (span (lookup r rows)) ≡ true → tree (live (after sheet h (Single by (Create w s t)))) r ≡ []
     created-ends by w s t r z k =
-        ap (λ l. tree l r) (live-after (Single by (Create w s t)) z)
+        ap (λ l. tree l r) (live-after (Single by (Create w s t)) refl z)
         ∙ created sheet i rows are-named (f .rise) by w s t r
         ∙ rw (given-out (test (any (named r) rows))) (touched-tree sheet i rows are-named (f .rise) s strangers-end r k)
       where
@@ -655,6 +702,8 @@ module _ (sheet : Sheet) (h : State) (f : Forest h) where
     each-rows (Single by (Write u s)) z r = through (Single by (Write u s)) z (u .0) r (not-false (any (named (u .0)) rows) (allowed (view h) (Single by (Write u s)) z 5)) refl refl
     each-rows (Single by (Drop u)) z r = without-own (u .0 ∷ []) r
     each-rows (Group by names) z r = without-own names r
+    each-rows (Mark by k) z r = refl
+    each-rows (Back by k) z r = refl
 
     apart-rows : (q : Request) → judge (view h) q ≡ 0 → rootsApart (rowsAfter sheet i rows q) ≡ true
     unfolding rowsAfter afterAccess rowsWithout refusals
@@ -665,13 +714,26 @@ module _ (sheet : Sheet) (h : State) (f : Forest h) where
     apart-rows (Single by (Write u s)) z = apart-left (struck sheet isEnd Writing (derivations rows) (u .0) s) (struck sheet isLower Writing (derivations rows) (u .0) s) rows (f .roots-apart)
     apart-rows (Single by (Drop u)) z = apart-left (λ x. inSubtrees (u .0 ∷ []) (ancestry (derivations rows) x)) (λ x. false) rows (f .roots-apart)
     apart-rows (Group by names) z = apart-left (λ x. inSubtrees names (ancestry (derivations rows) x)) (λ x. false) rows (f .roots-apart)
+    apart-rows (Mark by k) z = f .roots-apart
+    apart-rows (Back by k) z = f .roots-apart
+
+    forest-worked : (q : Request) → turnsState q ≡ false → judge (view h) q ≡ 0 → Forest (outcome sheet 0 h q)
+    forest-worked q t z =
+        record {
+          rise = rw (left-rows q z t, counted-issued q (h .tally)) (next-rowsInOrder sheet (view h) (in-place q z) q z);
+          roots-apart = rw (left-rows q z t) (apart-rows q z);
+          stored = rw (stores-nothing (h .memory) (h .slots) q t, counted-issued q (h .tally)) (All-map _ _ (planted-later i (issuedAfter i q) (count-raised i q)) (h .slots) (f .stored));
+        }
 
     forest-outcome : (q : Request) (j : ℕ) → judge (view h) q ≡ j → Forest (outcome sheet j h q)
-    forest-outcome q zero z =
-        let left = live-lent (length (h .memory .table)) (rowsAfter sheet i rows q) (next-named sheet (view h) (in-place q z) q) in
-        record { rise = rw (left, counted-issued q (h .tally)) (next-rowsInOrder sheet (view h) (in-place q z) q z); roots-apart = rw left (apart-rows q z) }
+    forest-outcome (Single by e) zero z = forest-worked (Single by e) refl z
+    forest-outcome (Group by names) zero z = forest-worked (Group by names) refl z
+    forest-outcome (Mark by k) zero z = record { rise = f .rise; roots-apart = f .roots-apart; stored = All-set (Planted i) (h .slots) k (Stored (h .memory)) (f .rise, f .roots-apart) (f .stored) }
+    forest-outcome (Back by k) zero z =
+        let p = in-stored (Grown i) (h .memory) (f .rise, f .roots-apart) (getD (h .slots) k Nothing) (All-getD (Planted i) (h .slots) Nothing tt (f .stored) k) in
+        record { rise = p .0; roots-apart = p .1; stored = f .stored }
     forest-outcome q (suc zero) z = f
-    forest-outcome q (suc (suc j)) z = record { rise = f .rise; roots-apart = f .roots-apart }
+    forest-outcome q (suc (suc j)) z = record { rise = f .rise; roots-apart = f .roots-apart; stored = f .stored }
 
     pub forest-after : (q : Request) → Forest (after sheet h q)
     unfolding after
@@ -684,9 +746,9 @@ module _ (sheet : Sheet) (h : State) (f : Forest h) where
       rows-apart = trees-differ (suc i) rows are-named (f .rise) (f .roots-apart);
       others-stay = others-stay;
       create-ends = created-ends;
-      as-alone = λ q r z c. ap (λ l. tree l r) (live-after q z) ∙ own-rows q z r c;
-      each-tree = λ q z r. ap (λ l. tree l r) (live-after q z) ∙ each-rows q z r;
-      answered-alone = λ q r m l k c here-room own-room s. answered-alone r m here-room own-room q l k (all-in-own q r c) s;
+      as-alone = λ q r z c. ap (λ l. tree l r) (live-after q (stays-works rows i r q c .1) z) ∙ own-rows q z r c;
+      each-tree = λ q b z r. ap (λ l. tree l r) (live-after q b z) ∙ each-rows q z r;
+      answered-alone = λ q r m l k c here-room own-room s. answered-alone r m here-room own-room q (stays-works rows i r q c .0) l k (all-in-own q r c) s;
     }
 
 forest-final : (sheet : Sheet) → StrangersEnd sheet → (qs : List Request) (h : State) → Forest h → Forest (final (after sheet) h qs)
@@ -695,7 +757,7 @@ forest-final sheet e (q ∷ qs) h f = forest-final sheet e qs (after sheet h q) 
 
 pub forest-first : (n : ℕ) (t : Tally) → Forest (initial n t)
 unfolding rowsInOrder rootsApart
-forest-first n t = record { rise = rw (no-rows n); roots-apart = rw (no-rows n) }
+forest-first n t = record { rise = rw (no-rows n); roots-apart = rw (no-rows n); stored = All-replicate (Planted (t .issued)) Nothing tt 8 }
 
 -- From an empty table, by a sheet whose strangers' writes end references, after every list of requests the trees are apart, and stay apart.
 pub trees-apart : (sheet : Sheet) → StrangersEnd sheet → (n : ℕ) (t : Tally) (qs : List Request) → TreesApart sheet (stateAfter sheet n t qs)

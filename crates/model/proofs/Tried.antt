@@ -11,7 +11,7 @@ use Rattle.model.specs.Strike.{origin, strike, reached, struck}
 use Rattle.model.specs.Sheet6.{sheet6}
 use Rattle.model.specs.Table.{termsInOrder, liveRows, lentTable, lookup, isEmptyRow, liveRowsFirst, rowFitsParent, parentInOrder, rowInOrder, rowsInOrder, inOrder}
 use Rattle.model.specs.Limits.{exceeds, refusedSheet, noRow, limitReached}
-use Rattle.model.specs.Refusals.{notWritten, standings, refusals, judge}
+use Rattle.model.specs.Refusals.{notWritten, unfitSlot, standings, refusals, judge}
 use Rattle.model.specs.Bits.{hasBit, withBit, bitAt, putAt, putFrom, bitsAfter, allWritten}
 use Rattle.model.specs.Effects.{revoke, afterAccess, rowsWithout, rowsAfter}
 use Rattle.model.specs.Requests.{risesAbove, risesStrictly, isGroup}
@@ -28,21 +28,21 @@ supposed-met : (undisturbed sheet6 3 (begin 8 noCounts) mixed ≡ true)
     × (undisturbed sheet6 3 (begin 8 noCounts) nearlyAlone ≡ true)
     × (asked sheet6 3 (begin 8 noCounts) mixed ≡ asked sheet6 3 (begin 8 noCounts) nearlyAlone)
     × (answered sheet6 3 (begin 8 noCounts) mixed ≡ answersTo3)
-unfolding mixed nearlyAlone asked answered recounted undisturbed supposed usesItsOwn spares ordinal ancestry origin strike onAncestry reached struck liveRows lentTable lookup isEmptyRow liveRowsFirst rowFitsParent parentInOrder rowInOrder rowsInOrder inOrder refusals judge revoke afterAccess rowsAfter answer after risesAbove risesStrictly isGroup standings rowsWithout termsInOrder notWritten exceeds refusedSheet noRow limitReached hasBit withBit bitAt putAt putFrom bitsAfter allWritten
+unfolding mixed nearlyAlone asked answered recounted undisturbed supposed usesItsOwn spares ordinal ancestry origin strike onAncestry reached struck liveRows lentTable lookup isEmptyRow liveRowsFirst rowFitsParent parentInOrder rowInOrder rowsInOrder inOrder refusals judge revoke afterAccess rowsAfter answer after risesAbove risesStrictly isGroup standings rowsWithout termsInOrder notWritten unfitSlot exceeds refusedSheet noRow limitReached hasBit withBit bitAt putAt putFrom bitsAfter allWritten
 supposed-met = (refl, refl, refl, refl)
 
 mixed-limits : Throughout limits mixed
 unfolding mixed
-mixed-limits = (refl, (refl, (refl, (refl, (refl, (refl, (refl, (refl, (refl, (refl, (refl, (refl, (refl, (refl, tt))))))))))))))
+mixed-limits = (refl, (refl, (refl, (refl, (refl, (refl, (refl, (refl, (refl, (refl, (refl, (refl, (refl, (refl, (refl, (refl, (refl, (refl, (refl, (refl, (refl, (refl, (refl, (refl, tt))))))))))))))))))))))))
 
 alone-limits : Throughout limits nearlyAlone
 unfolding nearlyAlone
-alone-limits = (refl, (refl, (refl, (refl, (refl, (refl, (refl, (refl, (refl, (refl, tt))))))))))
+alone-limits = (refl, (refl, (refl, (refl, (refl, (refl, (refl, (refl, (refl, (refl, (refl, (refl, (refl, (refl, (refl, (refl, (refl, tt)))))))))))))))))
 
 pub tried : Independent sheet6 3 8 noCounts noCounts mixed nearlyAlone
 tried = independent sheet6 limits 3 8 noCounts noCounts refl refl mixed nearlyAlone mixed-limits alone-limits (supposed-met .0) (supposed-met .1) (supposed-met .2)
 
--- So it is answered the same in both, and these are its answers: 16, 18 and 5 among them.
+-- So it is answered the same in both, and these are its answers: 16, 18 and 5 among them, and a mark and a back.
 pub tried-answers : (answered sheet6 3 (begin 8 noCounts) mixed ≡ answersTo3) × (answered sheet6 3 (begin 8 noCounts) nearlyAlone ≡ answersTo3)
 tried-answers = (supposed-met .3, sym (tried .same-results) ∙ supposed-met .3)
 

@@ -14,6 +14,7 @@ use Rattle.model.specs.declared.Event.{Event}
 use Rattle.model.specs.declared.Event.the-variants.{Create, Borrow, Read, Write, Drop}
 use Rattle.model.specs.Lists.{answers, final}
 use Rattle.model.specs.Requests.{Unlimited, caller, Request, Single}
+use Rattle.model.specs.Slots.{unstored}
 use Rattle.model.specs.Table.{lentTable}
 use Rattle.model.specs.Refusals.{viewOf, judge}
 use Rattle.model.specs.Bits.{bitsAfter}
@@ -46,9 +47,9 @@ goesTo a (Read u s) = a .home (u .0)
 goesTo a (Write u s) = a .home (u .0)
 goesTo a (Drop u) = a .home (u .0)
 
--- its number there, where each table has m rows
+-- its number there, where each table has m rows. (No event looks at what is stored.)
 unfoldable pub number : ℕ → Allotted → ℕ × Event → ℕ
-number m a e = judge (viewOf (lentTable m (a .small (goesTo a (e .1)))) (a .bits) (a .issued)) (ask e)
+number m a e = judge (viewOf (lentTable m (a .small (goesTo a (e .1)))) (a .bits) unstored (a .issued)) (ask e)
 
 unfoldable pub answer : ℕ → Allotted → ℕ × Event → Verdict
 answer m a e = verdict (number m a e) (newName (a .issued) (ask e))

@@ -1,8 +1,8 @@
--- Document 01, "Eleven ways to be turned down", and cards 1, 5, 7, 9 and 10: the number of each refusal, and the number and name of each answer.
+-- Document 01, "Eleven ways to be turned down", and cards 1, 5, 7 and 9 to 11: the number of each refusal, and the number and name of each answer.
 -- Assumes nothing.
 use Prim.Native.Nat.{ℕ}
 use Rattle.model.specs.declared.Refusal.{Refusal}
-use Rattle.model.specs.declared.Refusal.the-variants.{Disordered, Misspelt, IllegalSpan, Unissued, Ended, OutsideSpan, ReadOnly, TooDeep, NamesSpent, TableFull, BufferTooShort, Misnamed, Misgrouped, GivenTwice, NotGiven, NotWritten, NoHolder, LimitReached}
+use Rattle.model.specs.declared.Refusal.the-variants.{Disordered, Misspelt, IllegalSpan, Unissued, Ended, OutsideSpan, ReadOnly, TooDeep, NamesSpent, TableFull, BufferTooShort, Misnamed, Misgrouped, GivenTwice, NotGiven, NotWritten, NoHolder, LimitReached, NothingStored}
 use Rattle.model.specs.declared.Answer.{Answer}
 use Rattle.model.specs.declared.Answer.the-variants.{Allowed, Refused}
 use Rattle.model.specs.Step.{Verdict}
@@ -26,6 +26,7 @@ number NotGiven = 15
 number NotWritten = 16
 number NoHolder = 17
 number LimitReached = 18
+number NothingStored = 19
 
 -- allowed is 0, with the name; a refusal carries name 0
 abbrev pub verdictOf : Answer → Verdict

@@ -7,7 +7,7 @@ use lib.Dec.{leb, ltb, eqb}
 use lib.ListN.{getD, set}
 use Rattle.model.specs.declared.Span.{Span}
 use Rattle.model.specs.declared.Event.the-variants.{Create, Borrow, Read, Write, Drop}
-use Rattle.model.specs.Requests.{Request, Single, Group}
+use Rattle.model.specs.Requests.{Request, Single, Group, Mark, Back}
 use Rattle.model.specs.Values.{end}
 
 -- ---- one bit
@@ -51,6 +51,8 @@ bitsAfter bytes (Single by (Read u s)) = bytes
 bitsAfter bytes (Single by (Write u s)) = putFrom true (s .start .0) (lowLength s) bytes
 bitsAfter bytes (Single by (Drop u)) = bytes
 bitsAfter bytes (Group by names) = bytes
+bitsAfter bytes (Mark by k) = bytes
+bitsAfter bytes (Back by k) = bytes
 
 -- every one of k addresses from a on is written
 unfoldable pub allWritten : (ℕ → Bool) → ℕ → ℕ → Bool

@@ -7,7 +7,7 @@ use lib.Dec.{leb, eqb}
 use Rattle.model.specs.declared.Tally.{Tally}
 use Rattle.model.specs.declared.Event.the-variants.{Create, Borrow, Read, Write, Drop}
 use Rattle.model.specs.declared.Sheet.{Sheet}
-use Rattle.model.specs.Requests.{Request, Single, Group}
+use Rattle.model.specs.Requests.{Request, Single, Group, Mark, Back}
 use Rattle.model.specs.Step.{Verdict, State, isAllowed, answer, after}
 
 -- "the allowed events of each of the five kinds, and refused events"
@@ -28,15 +28,6 @@ countIn Writes t = t .writes
 countIn Drops t = t .drops
 countIn Refusals t = t .refused
 
--- the kind of a request; names dropped together are of the kind of a drop
-abbrev pub kindOf : Request → Counter
-kindOf (Single by (Create w s r)) = Creates
-kindOf (Single by (Borrow w u s r)) = Borrows
-kindOf (Single by (Read u s)) = Reads
-kindOf (Single by (Write u s)) = Writes
-kindOf (Single by (Drop u)) = Drops
-kindOf (Group by names) = Drops
-
 -- document 01's order
 abbrev place : Counter → ℕ
 place Creates = 1
@@ -46,12 +37,23 @@ place Writes = 4
 place Drops = 5
 place Refusals = 6
 
+-- the kind of a request in that order; names dropped together are of the kind of a drop, and a mark or a back is of none
+abbrev pub kindOf : Request → ℕ
+kindOf (Single by (Create w s r)) = 1
+kindOf (Single by (Borrow w u s r)) = 2
+kindOf (Single by (Read u s)) = 3
+kindOf (Single by (Write u s)) = 4
+kindOf (Single by (Drop u)) = 5
+kindOf (Group by names) = 5
+kindOf (Mark by k) = 0
+kindOf (Back by k) = 0
+
 -- allowed, and of that kind
-abbrev allowedAs : Counter → Counter → Verdict → Bool
-allowedAs c kind v = isAllowed v && eqb (place c) (place kind)
+abbrev allowedAs : Counter → ℕ → Verdict → Bool
+allowedAs c kind v = isAllowed v && eqb (place c) kind
 
 -- what is of this kind and has this answer counts: allowed for its kind, refused by 2 or above for the refused events
-abbrev countsAs : Counter → Counter → Verdict → Bool
+abbrev countsAs : Counter → ℕ → Verdict → Bool
 countsAs Creates kind v = allowedAs Creates kind v
 countsAs Borrows kind v = allowedAs Borrows kind v
 countsAs Reads kind v = allowedAs Reads kind v

@@ -3,7 +3,7 @@
 use Prim.Native.Nat.{ℕ, suc, min}
 use Rattle.model.specs.declared.Tally.{Tally}
 use Rattle.model.specs.declared.Event.the-variants.{Create, Borrow, Read, Write, Drop}
-use Rattle.model.specs.Requests.{Request, Single, Group}
+use Rattle.model.specs.Requests.{Request, Single, Group, Mark, Back}
 
 -- "A count at 4,294,967,295 stays there."
 abbrev pub countUp : ℕ → ℕ
@@ -18,7 +18,8 @@ abbrev pub countRead : Tally → Tally
 countRead t = tally (t .issued) (t .creates) (t .borrows) (countUp (t .reads)) (t .writes) (t .drops) (t .refused)
 
 -- after an allowed request: the issued number, and one more of its kind; what a create, write or drop ends is not counted. Card 5: of
--- names dropped together, "It counts once in the tally."
+-- names dropped together, "It counts once in the tally." Card 11: a mark and a back "count
+-- only as a line".
 abbrev pub countAllowed : Request → Tally → Tally
 countAllowed (Single by (Create w s r)) t = tally (suc (t .issued)) (countUp (t .creates)) (t .borrows) (t .reads) (t .writes) (t .drops) (t .refused)
 countAllowed (Single by (Borrow w u s r)) t = tally (suc (t .issued)) (t .creates) (countUp (t .borrows)) (t .reads) (t .writes) (t .drops) (t .refused)
@@ -26,6 +27,8 @@ countAllowed (Single by (Read u s)) t = countRead t
 countAllowed (Single by (Write u s)) t = tally (t .issued) (t .creates) (t .borrows) (t .reads) (countUp (t .writes)) (t .drops) (t .refused)
 countAllowed (Single by (Drop u)) t = tally (t .issued) (t .creates) (t .borrows) (t .reads) (t .writes) (countUp (t .drops)) (t .refused)
 countAllowed (Group by names) t = tally (t .issued) (t .creates) (t .borrows) (t .reads) (t .writes) (countUp (t .drops)) (t .refused)
+countAllowed (Mark by k) t = t
+countAllowed (Back by k) t = t
 
 -- "Refusals 2 to 10 of an event .. add one to the refused count and change no more"
 abbrev pub countRefused : Tally → Tally

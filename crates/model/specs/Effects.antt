@@ -15,7 +15,7 @@ use Rattle.model.specs.Lists.{filter, any}
 use Rattle.model.specs.Derivation.{Derivation, ancestry, inSubtree}
 use Rattle.model.specs.Strike.{isLower, isEnd, struck}
 use Rattle.model.specs.Table.{row, derivation, derivations, lookup}
-use Rattle.model.specs.Requests.{Caller, Request, Single, Group}
+use Rattle.model.specs.Requests.{Caller, Request, Single, Group, Mark, Back}
 
 -- a row, with `ro` where it is hit
 abbrev pub lowered : Bool → Cap → Cap
@@ -50,6 +50,7 @@ child by issued u mark s r = record { name = suc issued; parent = u .0; span = s
 -- Card 4: "A create is now a fresh allocation"; card 7: "a create acts as a stranger's write". It is a write to its span through the new name.
 -- That name has no row yet, so it is in the subtree of none: the write is from outside every subtree but its own, and of no cell's.
 -- A write through the new row once it stands would leave the same (proofs/Fresh).
+-- A mark and a back change no row; what a back brings is in Step.
 unfoldable pub rowsAfter : Sheet → ℕ → List Cap → Request → List Cap
 rowsAfter sheet issued rows (Single by (Create w s r)) = row (root by issued s r) (r .right) 1 ∷ afterAccess sheet Writing (suc issued) s rows
 rowsAfter sheet issued rows (Single by (Borrow w u s r)) = row (child by issued u (lookup (u .0) rows .fresh) s r) (r .right) (suc (lookup (u .0) rows .depth)) ∷ rows
@@ -57,6 +58,8 @@ rowsAfter sheet issued rows (Single by (Read u s)) = afterAccess sheet Reading (
 rowsAfter sheet issued rows (Single by (Write u s)) = afterAccess sheet Writing (u .0) s rows
 rowsAfter sheet issued rows (Single by (Drop u)) = rowsWithout (u .0 ∷ []) rows
 rowsAfter sheet issued rows (Group by names) = rowsWithout names rows
+rowsAfter sheet issued rows (Mark by k) = rows
+rowsAfter sheet issued rows (Back by k) = rows
 
 -- "The result carries the new name"; "a read, write or drop answers with name 0"
 abbrev pub newName : ℕ → Request → ℕ
@@ -66,6 +69,8 @@ newName issued (Single by (Read u s)) = 0
 newName issued (Single by (Write u s)) = 0
 newName issued (Single by (Drop u)) = 0
 newName issued (Group by names) = 0
+newName issued (Mark by k) = 0
+newName issued (Back by k) = 0
 
 -- the issued number after an allowed request
 abbrev pub issuedAfter : ℕ → Request → ℕ
@@ -75,3 +80,5 @@ issuedAfter issued (Single by (Read u s)) = issued
 issuedAfter issued (Single by (Write u s)) = issued
 issuedAfter issued (Single by (Drop u)) = issued
 issuedAfter issued (Group by names) = issued
+issuedAfter issued (Mark by k) = issued
+issuedAfter issued (Back by k) = issued

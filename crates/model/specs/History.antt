@@ -1,10 +1,10 @@
--- Document 01, "The history", and cards 4 to 7, 9 and 10.
+-- Document 01, "The history", and cards 4 to 7 and 9 to 11.
 -- Assumes nothing.
 use Prim.Native.Nat.{ℕ, zero, suc}
 use mathlib.Core.Bool.{Bool, false, not, cond, _&&_, _||_}
 use mathlib.Core.List.{List, [], _∷_, _++_, map}
 use lib.Dec.{eqb}
-use lib.ListN.{length}
+use lib.ListN.{length, getD}
 use Rattle.model.specs.declared.Span.{Span}
 use Rattle.model.specs.declared.Cap.{Cap}
 use Rattle.model.specs.declared.Event.the-variants.{Create, Borrow, Read, Write, Drop}
@@ -18,10 +18,11 @@ use Rattle.model.specs.Strike.{isLower, isEnd, reached, reclaimed}
 use Rattle.model.specs.Table.{row, lentTable, isMarked, isDomain, holds}
 use Rattle.model.specs.Limits.{refusedSheet}
 use Rattle.model.specs.Bits.{inSpan, spanWritten}
-use Rattle.model.specs.Requests.{Caller, Request, Single, Group}
+use Rattle.model.specs.Requests.{Caller, Request, Single, Group, Mark, Back}
+use Rattle.model.specs.Slots.{Slot, Nothing, storedOr, slotMap, unstored}
 use Rattle.model.specs.Refusals.{View, judge}
 use Rattle.model.specs.Effects.{root, child, newName, issuedAfter}
-use Rattle.model.specs.Step.{Verdict, verdict}
+use Rattle.model.specs.Step.{Verdict, verdict, slotsAfter}
 
 -- ---- notes
 
@@ -173,13 +174,14 @@ module _ (sheet : Sheet) where
 
 -- ---- a request
 
--- "It holds notes in order and a count of names, at first none and 0."
+-- "It holds notes in order and a count of names, at first none and 0."; by card 11 also the notes that stood at each mark
 pub record History : Type 0 where
   pub notes : List Note
   pub count : ℕ
+  pub kept : List (Slot (List Note))
 
 abbrev pub emptyHistory : History
-emptyHistory = record { notes = []; count = 0 }
+emptyHistory = record { notes = []; count = 0; kept = unstored }
 
 -- the mark noted of the name with this ancestry
 abbrev pub markOn : List Derivation → ℕ
@@ -195,6 +197,8 @@ notesOf notes count (Single by (Read u s)) = Accessed Reading (u .0) s ∷ []
 notesOf notes count (Single by (Write u s)) = Accessed Writing (u .0) s ∷ []
 notesOf notes count (Single by (Drop u)) = Dropped (u .0) ∷ []
 notesOf notes count (Group by names) = map Dropped names
+notesOf notes count (Mark by k) = []
+notesOf notes count (Back by k) = []
 
 -- the name that notes make; 0 where they make none
 unfoldable pub notedName : List Note → ℕ
@@ -203,21 +207,29 @@ notedName (New d r ∷ notes) = d .name
 notedName (Accessed a u s ∷ notes) = notedName notes
 notedName (Dropped u ∷ notes) = notedName notes
 
--- what it judges a request on: "its own table", "its count as the issued number", and what it has noted as written
-abbrev pub view : Sheet → ℕ → List Note → ℕ → View
-view sheet n notes count = record { table = table sheet n notes; issued = count; isWritten = written notes; bytes = 8192 }
+-- what it judges a request on: "its own table", "its count as the issued number", what it has noted as written, and
+-- its own tables that stood at the marks
+abbrev pub view : Sheet → ℕ → List (Slot (List Note)) → List Note → ℕ → View
+view sheet n kept notes count = record { table = table sheet n notes; issued = count; isWritten = written notes; bytes = 8192; slot = λ k. slotMap (table sheet n) (getD kept k Nothing); slotCount = length kept }
 
 -- "It answers each event as this document says, judged on its own table and with its count as the issued number."
 unfoldable pub answer : Sheet → ℕ → History → Request → Verdict
-answer sheet n h q = verdict (judge (view sheet n (h .notes) (h .count)) q) (newName (h .count) q)
+answer sheet n h q = verdict (judge (view sheet n (h .kept) (h .notes) (h .count)) q) (newName (h .count) q)
+
+-- Card 11: "After a back, the history .. is the one that stood at the mark, except that its count of names stays as it is now"
+abbrev pub notesAfter : History → Request → List Note
+notesAfter h (Single by e) = notesOf (h .notes) (h .count) (Single by e) ++ h .notes
+notesAfter h (Group by names) = notesOf (h .notes) (h .count) (Group by names) ++ h .notes
+notesAfter h (Mark by k) = h .notes
+notesAfter h (Back by k) = storedOr (h .notes) (getD (h .kept) k Nothing)
 
 -- "A refused event changes nothing. An allowed create or borrow raises the count by one."
 abbrev pub outcome : ℕ → History → Request → History
-outcome zero h q = record { notes = notesOf (h .notes) (h .count) q ++ h .notes; count = issuedAfter (h .count) q }
+outcome zero h q = record { notes = notesAfter h q; count = issuedAfter (h .count) q; kept = slotsAfter (h .notes) (h .kept) q }
 outcome (suc k) h q = h
 
 unfoldable pub after : Sheet → ℕ → History → Request → History
-after sheet n h q = outcome (judge (view sheet n (h .notes) (h .count)) q) h q
+after sheet n h q = outcome (judge (view sheet n (h .kept) (h .notes) (h .count)) q) h q
 
 -- the history of a list of requests, over any number of rows, with one sheet kept throughout
 abbrev pub historyAfter : Sheet → ℕ → List Request → History

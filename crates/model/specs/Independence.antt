@@ -5,7 +5,7 @@
 -- Assumes nothing.
 use Prim.Native.Nat.{ℕ, suc}
 use mathlib.Core.Path.{_≡_}
-use mathlib.Core.Bool.{Bool, true, not, cond, _&&_, _||_}
+use mathlib.Core.Bool.{Bool, true, false, not, cond, _&&_, _||_}
 use mathlib.Core.List.{List, [], _∷_, map}
 use lib.Dec.{eqb}
 use lib.ListN.{length}
@@ -19,7 +19,7 @@ use Rattle.model.specs.declared.NewName.the-variants.{Unwritten}
 use Rattle.model.specs.declared.Event.the-variants.{Create, Borrow, Read, Write, Drop}
 use Rattle.model.specs.Lists.{consIf, filter, any, all, answers, final}
 use Rattle.model.specs.Values.{touches}
-use Rattle.model.specs.Requests.{Limited, Request, Single, Group, callerOf}
+use Rattle.model.specs.Requests.{Limited, Request, Single, Group, Mark, Back, callerOf}
 use Rattle.model.specs.Table.{span, named, liveRows}
 use Rattle.model.specs.Limits.{madeBy}
 use Rattle.model.specs.Refusals.{misnamed, namesSpent}
@@ -48,6 +48,8 @@ recounted given (Single by (Read u s)) = Single by (Read (ownName given u) s)
 recounted given (Single by (Write u s)) = Single by (Write (ownName given u) s)
 recounted given (Single by (Drop u)) = Single by (Drop (ownName given u))
 recounted given (Group by names) = Group by (map (ordinal given) names)
+recounted given (Mark by k) = Mark by k
+recounted given (Back by k) = Back by k
 
 -- an answer with its name so
 abbrev pub recountedVerdict : List ℕ → Verdict → Verdict
@@ -106,6 +108,8 @@ usesItsOwn given issued (Single by (Read u s)) = isGiven given (u .0)
 usesItsOwn given issued (Single by (Write u s)) = isGiven given (u .0)
 usesItsOwn given issued (Single by (Drop u)) = isGiven given (u .0)
 usesItsOwn given issued (Group by names) = all (isGiven given) names
+usesItsOwn given issued (Mark by k) = true
+usesItsOwn given issued (Back by k) = true
 
 -- ---- what is supposed of others' requests
 
@@ -118,7 +122,8 @@ abbrev pub namesNone : ℕ → List Cap → ℕ → Bool
 namesNone d rows u = all (λ c. not (madeBy d c && named u c)) rows
 
 -- "provided these touch no span of its live capabilities, drop none and borrow from none". Of a borrow nothing is asked, neither that it is from
--- another's nor where its span lies: it takes nothing away, and what it makes is another's.
+-- another's nor where its span lies: it takes nothing away, and what it makes is another's. Card 11: "The independence of card 10 now supposes
+-- that no other domain marks or goes back".
 unfoldable pub spares : ℕ → List Cap → Request → Bool
 spares d rows (Single by (Create w s r)) = touchesNone d rows s
 spares d rows (Single by (Borrow w u s r)) = true
@@ -126,6 +131,8 @@ spares d rows (Single by (Read u s)) = touchesNone d rows s
 spares d rows (Single by (Write u s)) = touchesNone d rows s
 spares d rows (Single by (Drop u)) = namesNone d rows (u .0)
 spares d rows (Group by names) = all (namesNone d rows) names
+spares d rows (Mark by k) = false
+spares d rows (Back by k) = false
 
 -- Each is judged where it comes. Of another's request that is refused nothing is asked: it touches and drops nothing.
 unfoldable pub supposed : ℕ → Point → Request → Bool

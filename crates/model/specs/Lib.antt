@@ -2,6 +2,7 @@ pub mod Lists
 pub mod Values
 pub mod Derivation
 pub mod Requests
+pub mod Slots
 pub mod Strike
 pub mod Sheet6
 pub mod Bits
@@ -12,6 +13,7 @@ pub mod Effects
 pub mod Named
 pub mod Counts
 pub mod Step
+pub mod GoingBack
 pub mod Counted
 pub mod Answers
 pub mod History

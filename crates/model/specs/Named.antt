@@ -4,7 +4,7 @@ use Prim.Native.Nat.{ℕ, suc}
 use mathlib.Core.List.{List, [], _∷_}
 use Rattle.model.specs.declared.NewName.the-variants.{Unwritten, Written}
 use Rattle.model.specs.declared.Event.the-variants.{Create, Borrow, Read, Write, Drop}
-use Rattle.model.specs.Requests.{Request, Single, Group}
+use Rattle.model.specs.Requests.{Request, Single, Group, Mark, Back}
 use Rattle.model.specs.Effects.{issuedAfter}
 
 -- a request that writes no name
@@ -15,6 +15,8 @@ unnamed (Single by (Read u s)) = Single by (Read u s)
 unnamed (Single by (Write u s)) = Single by (Write u s)
 unnamed (Single by (Drop u)) = Single by (Drop u)
 unnamed (Group by names) = Group by names
+unnamed (Mark by k) = Mark by k
+unnamed (Back by k) = Back by k
 
 -- the same that writes the right name, "the issued number plus one", when so many names have been issued
 unfoldable pub rightlyNamed : ℕ → Request → Request
@@ -24,6 +26,8 @@ rightlyNamed issued (Single by (Read u s)) = Single by (Read u s)
 rightlyNamed issued (Single by (Write u s)) = Single by (Write u s)
 rightlyNamed issued (Single by (Drop u)) = Single by (Drop u)
 rightlyNamed issued (Group by names) = Group by names
+rightlyNamed issued (Mark by k) = Mark by k
+rightlyNamed issued (Back by k) = Back by k
 
 -- requests in turn with their right names, where each before the next is allowed
 unfoldable pub allRightlyNamed : ℕ → List Request → List Request

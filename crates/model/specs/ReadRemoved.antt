@@ -3,7 +3,7 @@
 use Prim.Native.Nat.{ℕ, suc, _≤_, _<_}
 use mathlib.Core.Path.{_≡_}
 use mathlib.Core.Logic.{_⊎_}
-use mathlib.Core.Bool.{Bool, true, false}
+use mathlib.Core.Bool.{Bool, true, false, not}
 use mathlib.Core.List.{List, _∷_, _++_, map}
 use lib.ListN.{length, getD}
 use Rattle.model.specs.declared.Name.{Name}
@@ -16,7 +16,7 @@ use Rattle.model.specs.declared.Effect.the-variants.{Keep, Lower, End}
 use Rattle.model.specs.declared.Origin.{Origin}
 use Rattle.model.specs.declared.Sheet.{Sheet}
 use Rattle.model.specs.Lists.{any, all, without, answers, final}
-use Rattle.model.specs.Requests.{Caller, Request, Single}
+use Rattle.model.specs.Requests.{Caller, Request, Single, turnsState}
 use Rattle.model.specs.Strike.{isEnd, resultOf, struck}
 use Rattle.model.specs.Table.{row, emptyRow, derivation, derivations, named, liveRows}
 use Rattle.model.specs.Effects.{lowered}
@@ -64,11 +64,16 @@ module _ (sheet : Sheet) (atRead : State) (u : Name) (s : Span) (withRead withou
         ⊎ ((livesIn atRead (left k .name .0) ≡ true) × (readStrikes sheet atRead u s (left k .name .0) ≡ true) × (left k .right ≡ 2) × (with k .right ≡ 1))
     -- So it is exactly: with the read, every capability that it struck, or that has a struck ancestor, is `ro`, and the others are as without it.
     pub exactly : withRead .memory .table ≡ map (λ c. lowered (readStrikes sheet atRead u s (c .name .0)) c) (withoutRead .memory .table)
-    -- A read writes nothing.
+    -- A read writes and stores nothing.
     pub same-bits : withRead .memory .bits ≡ withoutRead .memory .bits
     -- With the read its tally has one read more, and all else of it is the same.
+    pub same-slots : withRead .slots ≡ withoutRead .slots
     pub one-read-more : withRead .tally ≡ countRead (withoutRead .tally)
     pub unless-full : withRead .tally .reads < 4294967295 → withRead .tally .reads ≡ suc (withoutRead .tally .reads)
+
+-- Card 11: "card 8" supposes "that the trace never does" mark or go back: here, that it does not after the read.
+abbrev pub NoStates : List Request → Type 0
+NoStates qs = all (λ q. not (turnsState q)) qs ≡ true
 
 -- What is lent at first may be anything: a trace begins with `initial`. The requests before the read, the read, and those after it.
 module _ (sheet : Sheet) (lent : State) (before : List Request) (by : Caller) (u : Name) (s : Span) (later : List Request) where
@@ -92,7 +97,7 @@ module _ (sheet : Sheet) (lent : State) (before : List Request) (by : Caller) (u
 -- may go one after the other.
 pub data Thinner : List Request → List Request → Type 0 where
   whole : (qs : List Request) → Thinner qs qs
-  one-fewer : {qs : List Request} (before : List Request) (by : Caller) (u : Name) (s : Span) (later : List Request) → Thinner qs (before ++ (Single by (Read u s) ∷ later)) → Thinner qs (before ++ later)
+  one-fewer : {qs : List Request} (before : List Request) (by : Caller) (u : Name) (s : Span) (later : List Request) → NoStates later → Thinner qs (before ++ (Single by (Read u s) ∷ later)) → Thinner qs (before ++ later)
 
 pub record ReadsRemoved (sheet : Sheet) (lent : State) (qs thinner : List Request) : Type 0 where
   pub all-allowed : all isAllowed (answers (after sheet) answer lent thinner) ≡ true

@@ -1,11 +1,11 @@
--- Document 01, "Eleven ways to be turned down", of a request, and cards 1, 5, 6, 9 and 10: the conditions 1 to 10, 12, 13 and 16 to 18, and which of
--- them each request meets.
+-- Document 01, "Eleven ways to be turned down", of a request, and cards 1, 5, 6 and 9 to 11: the conditions 1 to 10, 12, 13 and 16 to 19, and which
+-- of them each request meets.
 -- Assumes nothing. (2 is here in its half about events; its other half, and 11, are of the text.)
 use Prim.Native.Nat.{ℕ, suc}
 use mathlib.Core.Bool.{Bool, false, not, cond, _&&_, _||_}
 use mathlib.Core.List.{List, [], _∷_, _++_}
 use lib.Dec.{leb, ltb, eqb}
-use lib.ListN.{length}
+use lib.ListN.{length, getD}
 use Rattle.model.specs.declared.Name.{Name}
 use Rattle.model.specs.declared.Span.{Span}
 use Rattle.model.specs.declared.Cap.{Cap}
@@ -15,7 +15,8 @@ use Rattle.model.specs.declared.NewName.the-variants.{Unwritten, Written
 use Rattle.model.specs.declared.Event.the-variants.{Create, Borrow, Read, Write, Drop}
 use Rattle.model.specs.Lists.{any, first}
 use Rattle.model.specs.Values.{end, legal, inside}
-use Rattle.model.specs.Requests.{Limits, Caller, Request, Single, Group, callerOf, isGroup}
+use Rattle.model.specs.Requests.{Limits, Caller, Request, Single, Group, Mark, Back, callerOf, isGroup}
+use Rattle.model.specs.Slots.{Memory, Slot, Nothing, Stored, isNothing, slotMap}
 use Rattle.model.specs.Table.{span, derivation, named, liveRows, lookup, isRight, isKind, isMark, isMarked, isDomain, holds, inOrder}
 use Rattle.model.specs.Limits.{refusedSheet, noRow, limitReached}
 use Rattle.model.specs.Bits.{hasBit, bitAt, spanWritten}
@@ -59,6 +60,10 @@ illegalSpan s = not (legal s)
 -- Card 9: "A `fresh` create ending above 65,536 is refusal 3"
 abbrev pub misplaced : Terms → Span → Bool
 misplaced r s = illegalSpan s || (eqb (r .fresh) 1 && ltb 65536 (end s))
+
+-- Card 11: "K above 7 is 2"
+abbrev pub notASlot : ℕ → ℕ → Bool
+notASlot actor k = notADomain actor || ltb 7 k
 
 -- 12. "the written name is not the issued number plus one"
 abbrev pub misnamed : ℕ → NewName → Bool
@@ -122,19 +127,21 @@ module _ (rows : List Cap) (issued : ℕ) where
   abbrev pub room : Caller → ℕ → NewName → List (ℕ × Bool)
   room by size w = (9, namesSpent) ∷ (12, misnamed issued w) ∷ (10, noRow (by .limits) rows size) ∷ (18, limitReached (by .limits) rows (by .actor)) ∷ []
 
-  -- those that each request meets after 1; of a group, "the first name refused gives the number"
-  abbrev pub checks : (ℕ → Bool) → ℕ → Request → List (ℕ × Bool)
-  checks isWritten size (Single by (Create w s r)) = (2, unfitRoot (by .actor) r) ∷ (3, misplaced r s) ∷ room by size w
-  checks isWritten size (Single by (Borrow w u s r)) = (2, unfitChild (by .actor) r) ∷ usable (by .actor) u s (r .right) ++ ((8, tooDeep u) ∷ room by size w)
-  checks isWritten size (Single by (Read u s)) = (2, notADomain (by .actor)) ∷ within (by .actor) u s ++ ((16, notWritten isWritten u s) ∷ [])
-  checks isWritten size (Single by (Write u s)) = (2, notADomain (by .actor)) ∷ usable (by .actor) u s 2
-  checks isWritten size (Single by (Drop u)) = (2, notADomain (by .actor)) ∷ standing (by .actor) u
-  checks isWritten size (Group by names) = (13, misgrouped names) ∷ (2, notADomain (by .actor)) ∷ standings (by .actor) names
+  -- those that each request meets after 1; of a group, "the first name refused gives the number". 19, "after 2": "a back finds nothing stored"
+  abbrev pub checks : (ℕ → Bool) → (ℕ → Slot (List Cap)) → ℕ → Request → List (ℕ × Bool)
+  checks isWritten slot size (Single by (Create w s r)) = (2, unfitRoot (by .actor) r) ∷ (3, misplaced r s) ∷ room by size w
+  checks isWritten slot size (Single by (Borrow w u s r)) = (2, unfitChild (by .actor) r) ∷ usable (by .actor) u s (r .right) ++ ((8, tooDeep u) ∷ room by size w)
+  checks isWritten slot size (Single by (Read u s)) = (2, notADomain (by .actor)) ∷ within (by .actor) u s ++ ((16, notWritten isWritten u s) ∷ [])
+  checks isWritten slot size (Single by (Write u s)) = (2, notADomain (by .actor)) ∷ usable (by .actor) u s 2
+  checks isWritten slot size (Single by (Drop u)) = (2, notADomain (by .actor)) ∷ standing (by .actor) u
+  checks isWritten slot size (Group by names) = (13, misgrouped names) ∷ (2, notADomain (by .actor)) ∷ standings (by .actor) names
+  checks isWritten slot size (Mark by k) = (2, notASlot (by .actor) k) ∷ []
+  checks isWritten slot size (Back by k) = (2, notASlot (by .actor) k) ∷ (19, isNothing (slot k)) ∷ []
 
 -- The numbers of refusals in order of precedence; card 5: 13 is "after 1"; card 7: 14 and 15, of sheets alone, "in that
--- order after 2"; card 9: 16 is "after 7"; card 10: 17 "after 5", and 18 "in the place of 10".
+-- order after 2"; card 9: 16 is "after 7"; card 10: 17 "after 5", and 18 "in the place of 10"; card 11: 19 "after 2".
 abbrev pub precedence : List ℕ
-precedence = 1 ∷ 13 ∷ 2 ∷ 14 ∷ 15 ∷ 3 ∷ 4 ∷ 5 ∷ 17 ∷ 6 ∷ 7 ∷ 16 ∷ 8 ∷ 9 ∷ 12 ∷ 10 ∷ 18 ∷ 11 ∷ []
+precedence = 1 ∷ 13 ∷ 2 ∷ 14 ∷ 15 ∷ 19 ∷ 3 ∷ 4 ∷ 5 ∷ 17 ∷ 6 ∷ 7 ∷ 16 ∷ 8 ∷ 9 ∷ 12 ∷ 10 ∷ 18 ∷ 11 ∷ []
 
 -- the place of a number among others, from 1, or behind them
 abbrev pub placeIn : List ℕ → ℕ → ℕ
@@ -144,28 +151,47 @@ placeIn (j ∷ js) k = cond (eqb k j) 1 (suc (placeIn js k))
 abbrev pub place : ℕ → ℕ
 place = placeIn precedence
 
--- What judging looks at: the table, the issued number, which addresses are written, and how many bytes are lent to say so. The lent memory has
--- a view, and the history its own.
+-- What judging looks at: the table, the issued number, which addresses are written, how many bytes are lent to say so, the table stored in each
+-- slot, and how many slots there are. What is lent has a view, and the history its own.
 pub record View : Type 0 where
   pub table : List Cap
   pub issued : ℕ
   pub isWritten : ℕ → Bool
   pub bytes : ℕ
+  pub slot : ℕ → Slot (List Cap)
+  pub slotCount : ℕ
 
 -- 1 of a table, and of the sheet of limits that is lent with it
 abbrev pub unfitTable : Limits → List Cap → ℕ → Bool
 unfitTable limits table issued = disordered table issued || refusedSheet table limits
 
--- 1 of all that is lent. Card 9: "The caller lends 8,192 bytes (any other length is 1)"
+-- 1 of all that is lent. Card 9: "The caller lends 8,192 bytes (any other length is 1)"; card 11: "memory the caller lends for eight states of
+-- 1,024 rows (any other size is 1"
 abbrev pub unfit : Limits → View → Bool
-unfit limits v = unfitTable limits (v .table) (v .issued) || not (eqb (v .bytes) 8192)
+unfit limits v = unfitTable limits (v .table) (v .issued) || (not (eqb (v .bytes) 8192) || not (eqb (v .slotCount) 8))
 
--- what is lent: a table, written bits, and so many names issued
-abbrev pub viewOf : List Cap → List ℕ → ℕ → View
-viewOf table bits issued = record { table = table; issued = issued; isWritten = bitAt bits; bytes = length bits }
+-- Card 11: "A stored table that is out of order, over a lent limit, or has another number of rows, is 1 on going back to it"
+unfoldable pub unfitSlot : Limits → ℕ → ℕ → Slot (List Cap) → Bool
+unfitSlot limits size issued Nothing = false
+unfitSlot limits size issued (Stored table) = not (eqb (length table) size) || unfitTable limits table issued
+
+abbrev pub unfitStored : View → Request → Bool
+unfitStored v (Single by e) = false
+unfitStored v (Group by names) = false
+unfitStored v (Mark by k) = false
+unfitStored v (Back by k) = unfitSlot (by .limits) (length (v .table)) (v .issued) (v .slot k)
+
+-- the stored table
+abbrev pub tableIn : Slot Memory → Slot (List Cap)
+tableIn = slotMap (λ m. m .table)
+
+-- what is lent: a table, written bits, slots, and so many names issued
+abbrev pub viewOf : List Cap → List ℕ → List (Slot Memory) → ℕ → View
+viewOf table bits slots issued =
+    record { table = table; issued = issued; isWritten = bitAt bits; bytes = length bits; slot = λ k. tableIn (getD slots k Nothing); slotCount = length slots }
 
 unfoldable pub refusals : View → Request → List (ℕ × Bool)
-refusals v q = (1, unfit (callerOf q .limits) v) ∷ checks (liveRows (v .table)) (v .issued) (v .isWritten) (length (v .table)) q
+refusals v q = (1, unfitStored v q || unfit (callerOf q .limits) v) ∷ checks (liveRows (v .table)) (v .issued) (v .isWritten) (v .slot) (length (v .table)) q
 
 -- "The lowest number that applies is the one given", where the cards give their numbers places of their own: the first of the list
 -- that holds, or 0 where the request is allowed. The places rise in each list, but for the names of a group (proofs/Precedence).

@@ -1,11 +1,13 @@
--- What a caller asks for: an event by itself, or, by card 5, "frames dropped together", names that are dropped together; and, by card 10,
--- who asks.
+-- What a caller asks for: an event by itself, or, by card 5, "frames dropped together", names that are dropped together, or, by card 11,
+-- "states to come back to", a mark or a back; and, by card 10, who asks.
 -- Assumes nothing.
 use Prim.Native.Nat.{ℕ}
-use mathlib.Core.Bool.{Bool, true, _&&_}
+use mathlib.Core.Bool.{Bool, true, false, _&&_}
 use mathlib.Core.List.{List, [], _∷_, map, reverse}
-use lib.Dec.{leb, ltb}
+use lib.Dec.{leb, ltb, eqb}
 use lib.ListN.{length}
+use Rattle.model.specs.declared.Work.{Work}
+use Rattle.model.specs.declared.Work.the-variants as work
 use Rattle.model.specs.declared.Asked.{Asked}
 use Rattle.model.specs.declared.Asked.the-variants as asked
 use Rattle.model.specs.declared.Event.{Event}
@@ -27,15 +29,46 @@ caller actor limits = record { actor = actor; limits = limits }
 pub data Request : Type 0 where
   Single : Caller → Event → Request
   Group : Caller → List ℕ → Request
+  Mark : Caller → ℕ → Request
+  Back : Caller → ℕ → Request
 
 abbrev pub callerOf : Request → Caller
 callerOf (Single by e) = by
 callerOf (Group by names) = by
+callerOf (Mark by k) = by
+callerOf (Back by k) = by
 
--- what is asked and by whom, with the sheet of limits and the names that are lent beside it; an event has no use for the names
+-- what is asked and by whom, with the sheet of limits and the names that are lent beside it; only a group has a use for the names
+abbrev pub workOf : Limits → Work → List ℕ → Request
+workOf limits (work.Single actor e) names = Single (caller actor limits) e
+workOf limits (work.Group actor) names = Group (caller actor limits) names
+
 abbrev pub requestOf : Limits → Asked → List ℕ → Request
-requestOf limits (asked.Single actor e) names = Single (caller actor limits) e
-requestOf limits (asked.Group actor) names = Group (caller actor limits) names
+requestOf limits (asked.Work w) names = workOf limits w names
+requestOf limits (asked.Mark actor k) names = Mark (caller actor limits) k
+requestOf limits (asked.Back actor k) names = Back (caller actor limits) k
+
+-- ---- marks and backs
+
+-- the request is a mark or a back
+abbrev pub turnsState : Request → Bool
+turnsState (Single by e) = false
+turnsState (Group by names) = false
+turnsState (Mark by k) = true
+turnsState (Back by k) = true
+
+abbrev pub isBack : Request → Bool
+isBack (Single by e) = false
+isBack (Group by names) = false
+isBack (Mark by k) = false
+isBack (Back by k) = true
+
+-- it marks in this slot
+abbrev pub marks : ℕ → Request → Bool
+marks k (Single by e) = false
+marks k (Group by names) = false
+marks k (Mark by j) = eqb k j
+marks k (Back by j) = false
 
 -- ---- names dropped together
 

@@ -1,5 +1,5 @@
 -- Document 01, "Traces to try", those with a star; "Eleven ways to be turned down", the examples that are events; cards 1, 2 and 4
--- to 10; and capcheck's example.
+-- to 11; and capcheck's example.
 -- One table, and one computed proof over it (proofs/Traces).
 -- Assumes nothing.
 use Prim.Native.Nat.{ℕ, zero, suc}
@@ -19,7 +19,8 @@ use Rattle.model.specs.Lists.{answers, final}
 use Rattle.model.specs.Sheet6.{results, conflicts, sheet6}
 use Rattle.model.specs.Table.{row, emptyRow, liveRows}
 use Rattle.model.specs.Counts.{tally}
-use Rattle.model.specs.Requests.{Unlimited, Limited, Caller, Request, Single, Group}
+use Rattle.model.specs.Requests.{Unlimited, Limited, Caller, Request, Single, Group, Mark, Back}
+use Rattle.model.specs.Slots.{Nothing, Stored, unstored}
 use Rattle.model.specs.Step.{Verdict, State, initial, answer, after}
 
 -- ---- requests, as the text spells them
@@ -84,7 +85,7 @@ noCounts issued = tally issued 0 0 0 0 0 0
 
 -- this table with so many names issued, and nothing written
 abbrev lending : List Cap → ℕ → State
-lending table issued = record { memory = record { table = table; bits = replicate 8192 0 }; tally = noCounts issued }
+lending table issued = record { memory = record { table = table; bits = replicate 8192 0 }; tally = noCounts issued; slots = unstored }
 
 -- from so many rows, all zeros
 abbrev trace : ℕ → List (Request × ℕ × ℕ) → List (ℕ × ℕ) → Trace
@@ -314,7 +315,7 @@ writtenFirst =
     ∷ from (lending (namedOne ∷ markedRow 1 2 1 0 8 2 ∷ []) 2) ((read 1 0 8, 1, 0) ∷ []) ((1, RW) ∷ (2, RW) ∷ [])
     ∷ from (lending (markedRow 1 1 0 0 64 1 ∷ markedRow 0 2 1 0 8 2 ∷ []) 2) ((read 1 0 8, 1, 0) ∷ []) ((1, RW) ∷ (2, RW) ∷ [])
     ∷ from (lending (markedRow 2 1 0 0 64 1 ∷ []) 1) ((read 1 0 8, 1, 0) ∷ []) ((1, RW) ∷ [])
-    ∷ from (record { memory = record { table = namedOne ∷ []; bits = replicate 8191 0 }; tally = noCounts 1 }) ((read 1 0 8, 1, 0) ∷ (Group by [], 1, 0) ∷ []) ((1, RW) ∷ [])
+    ∷ from (record { memory = record { table = namedOne ∷ []; bits = replicate 8191 0 }; tally = noCounts 1; slots = unstored }) ((read 1 0 8, 1, 0) ∷ (Group by [], 1, 0) ∷ []) ((1, RW) ∷ [])
     -- every write sets, through whatever capability and also below an end above 65,536, and every create clears
     ∷ record {
       sheet = keepingSheet;
@@ -367,6 +368,40 @@ domains =
     ∷ from (lending (row (record { name = 1; parent = 0; span = span 0 64; kind = 0; fresh = 0; maker = 3; holders = 1 }) RW 1 ∷ []) 1) ((read 1 0 8, 1, 0) ∷ []) ((1, RW) ∷ [])
     ∷ []
 
+-- Card 11
+-- this table with so many names issued, and that one stored in slot 2
+abbrev storing : List Cap → ℕ → List Cap → State
+storing table issued stored =
+    record { memory = record { table = table; bits = replicate 8192 0 }; tally = noCounts issued; slots = set unstored 2 (Stored (record { table = stored; bits = replicate 8192 0 })) }
+
+unfoldable pub states : List Trace
+states =
+    -- a back brings the table and the bits of the mark, and again; names given since are 5, also once further names are given
+    trace 4
+    ((createFresh 0 8 RW, 0, 1) ∷ (Mark by 3, 0, 0) ∷ (write 1 0 8, 0, 0) ∷ (borrow 1 0 8 ro, 0, 2) ∷ (read 2 0 8, 0, 0) ∷ (Back by 3, 0, 0) ∷ (read 2 0 8, 5, 0) ∷ (read 1 0 8, 16, 0) ∷ (drop 1, 0, 0) ∷ (Back by 3, 0, 0) ∷ (borrow 1 0 4 RW, 0, 3) ∷ (read 2 0 4, 5, 0) ∷ [])
+    ((1, RW) ∷ (3, RW) ∷ [])
+    -- life and `rw` return with it
+    ∷ created 4
+    ((borrow 1 0 8 RW, 0, 2) ∷ (Mark by 1, 0, 0) ∷ (read 1 0 8, 0, 0) ∷ (write 2 0 8, 7, 0) ∷ (Back by 1, 0, 0) ∷ (write 2 0 8, 0, 0) ∷ (drop 2, 0, 0) ∷ (read 2 0 8, 5, 0) ∷ (Back by 1, 0, 0) ∷ (write 2 0 8, 0, 0) ∷ [])
+    ((1, RW) ∷ (2, RW) ∷ [])
+    -- each slot by itself; a mark in a slot that has one puts the present state there
+    ∷ created 4
+    ((Mark by 7, 0, 0) ∷ (borrow 1 0 8 RW, 0, 2) ∷ (Mark by 6, 0, 0) ∷ (borrow 1 8 8 RW, 0, 3) ∷ (Back by 7, 0, 0) ∷ (read 2 0 8, 5, 0) ∷ (Back by 6, 0, 0) ∷ (read 3 8 8, 5, 0) ∷ (borrow 1 16 8 RW, 0, 4) ∷ (Mark by 7, 0, 0) ∷ (Back by 6, 0, 0) ∷ (read 4 16 8, 5, 0) ∷ (Back by 7, 0, 0) ∷ [])
+    ((1, RW) ∷ (2, RW) ∷ (4, RW) ∷ [])
+    -- neither asks what the domain holds
+    ∷ created 4 ((Mark (acting 5) 2, 0, 0) ∷ (drop 1, 0, 0) ∷ (Back (acting 7) 2, 0, 0) ∷ (readBy (acting 5) 1 0 8, 17, 0) ∷ []) ((1, RW) ∷ [])
+    -- a back that finds nothing is 19; a slot above 7 and a domain above 63 are 2, before 19
+    ∷ created 4 ((Back by 3, 19, 0) ∷ (Mark by 8, 2, 0) ∷ (Back by 8, 2, 0) ∷ (Mark (acting 64) 0, 2, 0) ∷ (Back (acting 64) 0, 2, 0) ∷ []) ((1, RW) ∷ [])
+    -- a stored table that is over a limit lent with the back, that has another number of rows, or that is not in order is 1, before 2; it is judged
+    -- with the names issued now, and is in nobody's way but the back's
+    ∷ created 4 ((create 64 8 RW, 0, 2) ∷ (Mark by 0, 0, 0) ∷ (drop 2, 0, 0) ∷ (Back (within 1 0 0) 0, 1, 0) ∷ (Back (within 2 0 0) 0, 0, 0) ∷ []) ((1, RW) ∷ (2, RW) ∷ [])
+    ∷ from (storing (namedOne ∷ emptyRow ∷ []) 1 (namedOne ∷ [])) ((Back by 2, 1, 0) ∷ (Back (acting 64) 2, 1, 0) ∷ (read 1 0 8, 0, 0) ∷ (Back by 3, 19, 0) ∷ (Mark by 2, 0, 0) ∷ (Back by 2, 0, 0) ∷ []) ((1, RW) ∷ [])
+    ∷ from (storing (namedOne ∷ emptyRow ∷ []) 1 (markedRow 0 2 0 0 8 1 ∷ emptyRow ∷ [])) ((Back by 2, 1, 0) ∷ (Back (acting 64) 2, 1, 0) ∷ (create 64 8 RW, 0, 2) ∷ (Back by 2, 0, 0) ∷ []) ((2, RW) ∷ [])
+    -- other than eight slots are 1 of every request
+    ∷ from (record { memory = record { table = namedOne ∷ []; bits = replicate 8192 0 }; tally = noCounts 1; slots = replicate 7 Nothing }) ((read 1 0 8, 1, 0) ∷ (Mark by 0, 1, 0) ∷ (Back by 8, 1, 0) ∷ []) ((1, RW) ∷ [])
+    ∷ from (record { memory = record { table = namedOne ∷ []; bits = replicate 8192 0 }; tally = noCounts 1; slots = replicate 9 Nothing }) ((drop 1, 1, 0) ∷ (Back by 0, 1, 0) ∷ []) ((1, RW) ∷ [])
+    ∷ []
+
 -- "The bracket text": what capcheck is shown on
 unfoldable pub printed : Trace
 printed =
@@ -375,7 +410,7 @@ printed =
     ((1, RW) ∷ (2, ro) ∷ (3, RW) ∷ [])
 
 unfoldable pub traces : List Trace
-traces = starred ++ (refused ++ (written ++ (empty ++ (reused ++ (together ++ (kinds ++ (inRust ++ (sheets ++ (thinned ++ (writtenFirst ++ (domains ++ (printed ∷ []))))))))))))
+traces = starred ++ (refused ++ (written ++ (empty ++ (reused ++ (together ++ (kinds ++ (inRust ++ (sheets ++ (thinned ++ (writtenFirst ++ (domains ++ (states ++ (printed ∷ [])))))))))))))
 
 -- ---- when a trace goes as it says
 

@@ -20,7 +20,7 @@ use Rattle.model.specs.Lists.{filter, any, all}
 use Rattle.model.specs.Values.{touches, inside}
 use Rattle.model.specs.Derivation.{Derivation, ancestry}
 use Rattle.model.specs.Strike.{resultOf}
-use Rattle.model.specs.Requests.{Unlimited, Caller, Request, Single, Group, callerOf}
+use Rattle.model.specs.Requests.{Unlimited, Caller, Request, Single, Group, Mark, Back, isBack, callerOf}
 use Rattle.model.specs.Table.{span, derivations, named, liveRows, lentTable, lookup}
 use Rattle.model.specs.Refusals.{View, viewOf, unfit, judge}
 use Rattle.model.specs.Effects.{rowsAfter}
@@ -56,7 +56,7 @@ rootsApart (c ∷ earlier) = all (λ d. not (isRoot c && (isRoot d && touches (s
 
 -- ---- where a request goes
 
--- every name that it goes through is of this tree; or it is a create, and the tree is the one that it begins
+-- every name that it goes through is of this tree; or it is a create, and the tree is the one that it begins. A mark or back goes through none.
 unfoldable pub staysIn : List Cap → ℕ → ℕ → Request → Bool
 staysIn rows issued r (Single by (Create w s t)) = eqb r (suc issued)
 staysIn rows issued r (Single by (Borrow w u s t)) = eqb r (rootOf rows (u .0))
@@ -64,8 +64,11 @@ staysIn rows issued r (Single by (Read u s)) = eqb r (rootOf rows (u .0))
 staysIn rows issued r (Single by (Write u s)) = eqb r (rootOf rows (u .0))
 staysIn rows issued r (Single by (Drop u)) = eqb r (rootOf rows (u .0))
 staysIn rows issued r (Group by names) = all (λ u. eqb r (rootOf rows u)) names
+staysIn rows issued r (Mark by k) = false
+staysIn rows issued r (Back by k) = false
 
--- some name that it goes through is of this tree; or it is a create that begins the tree, or whose span shares an address with its root's
+-- some name that it goes through is of this tree; or it is a create that begins the tree, or whose span shares an address with its root's; or it is
+-- a back, which concerns every tree
 unfoldable pub concerns : List Cap → ℕ → ℕ → Request → Bool
 concerns rows issued r (Single by (Create w s t)) = eqb r (suc issued) || touches s (span (lookup r rows))
 concerns rows issued r (Single by (Borrow w u s t)) = eqb r (rootOf rows (u .0))
@@ -73,9 +76,11 @@ concerns rows issued r (Single by (Read u s)) = eqb r (rootOf rows (u .0))
 concerns rows issued r (Single by (Write u s)) = eqb r (rootOf rows (u .0))
 concerns rows issued r (Single by (Drop u)) = eqb r (rootOf rows (u .0))
 concerns rows issued r (Group by names) = any (λ u. eqb r (rootOf rows u)) names
+concerns rows issued r (Mark by k) = false
+concerns rows issued r (Back by k) = true
 
 -- What an allowed request leaves of the tree of r, told by that tree alone, of which these are the rows. A create begins the tree, or, where it
--- touches one of its rows, ends it. What goes through a name leaves a tree that has not that name.
+-- touches one of its rows, ends it. What goes through a name leaves a tree that has not that name. What a back brings is not told by the tree.
 unfoldable pub treeAfter : Sheet → ℕ → ℕ → List Cap → Request → List Cap
 treeAfter sheet issued r rows (Single by (Create w s t)) = cond (eqb r (suc issued)) (rowsAfter sheet issued [] (Single by (Create w s t))) (cond (any (λ c. touches s (span c)) rows) [] rows)
 treeAfter sheet issued r rows (Single by (Borrow w u s t)) = cond (any (named (u .0)) rows) (rowsAfter sheet issued rows (Single by (Borrow w u s t))) rows
@@ -83,6 +88,8 @@ treeAfter sheet issued r rows (Single by (Read u s)) = cond (any (named (u .0)) 
 treeAfter sheet issued r rows (Single by (Write u s)) = cond (any (named (u .0)) rows) (rowsAfter sheet issued rows (Single by (Write u s))) rows
 treeAfter sheet issued r rows (Single by (Drop u)) = rowsAfter sheet issued rows (Single by (Drop u))
 treeAfter sheet issued r rows (Group by names) = rowsAfter sheet issued rows (Group by names)
+treeAfter sheet issued r rows (Mark by k) = rows
+treeAfter sheet issued r rows (Back by k) = rows
 
 -- ---- the theorem
 
@@ -99,7 +106,7 @@ module _ (h : State) where
 
   -- what judging would look at if the tree of r stood alone in a table of m rows, with the same bits and as many names issued
   abbrev pub treeAlone : ℕ → ℕ → View
-  treeAlone m r = viewOf (lentTable m (tree live r)) (h .memory .bits) issued
+  treeAlone m r = viewOf (lentTable m (tree live r)) (h .memory .bits) (h .slots) issued
 
 pub record TreesApart (sheet : Sheet) (h : State) : Type 0 where
   -- No two live roots share an address.
@@ -114,8 +121,8 @@ pub record TreesApart (sheet : Sheet) (h : State) : Type 0 where
   -- An allowed request that stays in one tree does to it what it would do if the tree stood alone. So what is borrowed is in the tree of what it
   -- is borrowed from, and what is created in a tree of its own.
   pub as-alone : (q : Request) (r : ℕ) → judge (view h) q ≡ 0 → staysIn (live h) (issued h) r q ≡ true → tree (live (after sheet h q)) r ≡ rowsAfter sheet (issued h) (tree (live h) r) q
-  -- All of this at once: every tree goes by itself.
-  pub each-tree : (q : Request) → judge (view h) q ≡ 0 → (r : ℕ) → tree (live (after sheet h q)) r ≡ treeAfter sheet (issued h) r (tree (live h) r) q
+  -- All of this at once: every tree goes by itself, but where a back brings them all.
+  pub each-tree : (q : Request) → isBack q ≡ false → judge (view h) q ≡ 0 → (r : ℕ) → tree (live (after sheet h q)) r ≡ treeAfter sheet (issued h) r (tree (live h) r) q
   -- Without limits it is answered as it would be if the tree stood alone, where what is lent is fit and neither table is full.
   pub answered-alone : (q : Request) (r m : ℕ) → callerOf q .limits ≡ Unlimited → unfit Unlimited (view h) ≡ false → staysIn (live h) (issued h) r q ≡ true → length (live h) < length (h .memory .table) → length (tree (live h) r) < m → m ≤ 1024
       → judge (treeAlone h m r) q ≡ judge (view h) q

@@ -1,4 +1,4 @@
--- Card 10, tried: two sequences that differ only in another domain's events, and meet all that independence supposes; why it supposes that limits
+-- Card 10, tried, with the states of card 11: two sequences that differ only in another domain's events, and meet all that independence supposes; why it supposes that limits
 -- are lent; and trees apart, with a sheet by which they are not. What is said of them is computed in proofs/Tried.
 -- Assumes nothing.
 use Prim.Native.Nat.{ℕ}
@@ -13,7 +13,7 @@ use Rattle.model.specs.declared.Event.the-variants.{Create, Borrow, Read
 use Rattle.model.specs.declared.Effect.the-variants.{Keep, Lower, End}
 use Rattle.model.specs.declared.Sheet.{Sheet}
 use Rattle.model.specs.Counts.{tally}
-use Rattle.model.specs.Requests.{Unlimited, Limited, Caller, Request, Single, Group}
+use Rattle.model.specs.Requests.{Unlimited, Limited, Caller, Request, Single, Group, Mark, Back}
 use Rattle.model.specs.Sheet6.{results, conflicts}
 use Rattle.model.specs.Step.{Verdict}
 
@@ -58,7 +58,7 @@ as0 = record { actor = 0; limits = Limited limits }
 abbrev as3 : Caller
 as3 = record { actor = 3; limits = Limited limits }
 
--- The names are given out to both in turn: domain 3 is given 2 and 3, which it counts as its first and second.
+-- The names are given out to both in turn: domain 3 is given 2, 3 and 6, which it counts as its first, second and third.
 unfoldable pub mixed : List Request
 mixed =
     -- domain 0's, at the other end of the addresses
@@ -85,6 +85,19 @@ mixed =
     -- 5: domain 3 has dropped it itself
     ∷ read as3 3 16 4
     ∷ read as3 2 16 4
+    -- It marks. Domain 0 does not, nor goes back: 2 and 19.
+    ∷ Mark as3 4
+    ∷ Mark as0 8
+    ∷ Back as0 1
+    -- 6, and four addresses more are written; domain 0 drops what it made
+    ∷ borrow as3 0 8 2 16 4
+    ∷ write as3 2 20 4
+    ∷ drop as0 4
+    -- domain 3 goes back: 6 is 5, the addresses are not yet written, 16, and the rest is as it was
+    ∷ Back as3 4
+    ∷ read as3 6 16 4
+    ∷ read as3 2 16 8
+    ∷ read as3 2 16 4
     -- 5, for the second of the two names
     ∷ Group as3 (2 ∷ 3 ∷ [])
     ∷ []
@@ -101,12 +114,22 @@ nearlyAlone =
     ∷ create as0 0 1 40 8
     ∷ read as3 2 16 4
     ∷ read as3 1 16 4
+    ∷ Mark as3 4
+    ∷ borrow as3 0 8 1 16 4
+    ∷ write as3 1 20 4
+    ∷ Back as3 4
+    ∷ read as3 4 16 4
+    ∷ read as3 1 16 8
+    ∷ read as3 1 16 4
     ∷ Group as3 (1 ∷ 2 ∷ [])
     ∷ []
 
 -- what domain 3 is answered in both, by its own count of names
 abbrev pub answersTo3 : List Verdict
-answersTo3 = says 0 1 ∷ says 16 0 ∷ says 0 0 ∷ says 0 2 ∷ says 18 0 ∷ says 0 0 ∷ says 5 0 ∷ says 0 0 ∷ says 5 0 ∷ []
+answersTo3 =
+    says 0 1 ∷ says 16 0 ∷ says 0 0 ∷ says 0 2 ∷ says 18 0 ∷ says 0 0 ∷ says 5 0 ∷ says 0 0
+    ∷ says 0 0 ∷ says 0 3 ∷ says 0 0 ∷ says 0 0 ∷ says 5 0 ∷ says 16 0 ∷ says 0 0
+    ∷ says 5 0 ∷ []
 
 -- ---- without limits
 

@@ -71,11 +71,18 @@ pub enum Event {
     Drop(Name),
 }
 
-// What is asked, and by which domain: an event, or, card 5, that the names which are lent beside it are dropped together. An enum holds no
-// list, so the names stand beside; `requestOf` of specs/Requests puts both together. The domain may be any 32-bit number.
-pub enum Asked {
+// What works on the table, and by which domain: an event, or, card 5, that the names which are lent beside it are dropped together. An enum holds
+// no list, so the names stand beside; `workOf` of specs/Requests puts both together. The domain may be any 32-bit number.
+pub enum Work {
     Single(u32, Event),
     Group(u32),
+}
+
+// What is asked: such work; or, card 11, a mark or a back, by which domain and in which slot, each any 32-bit number.
+pub enum Asked {
+    Work(Work),
+    Mark(u32, u32),
+    Back(u32, u32),
 }
 
 // "What each event does": the two kinds of access to memory.
@@ -118,10 +125,11 @@ pub struct Sheet {
 
 // "Eleven ways to be turned down", and those of the cards: each is named for its condition.
 pub enum Refusal {
-    // 1: table not in order, written bits of another length than 8,192 bytes, or a sheet of limits that is refused.
+    // 1: table not in order, written bits of another length than 8,192 bytes, a sheet of limits that is refused, memory for other than eight
+    // states, or, in a back, a stored table that is not in order, over a limit, or of another number of rows.
     Disordered,
     // 2: line or listing not in the one spelling; event whose right is neither 1 nor 2, whose kind, mark or domain is none, or whose mask of
-    // holders lacks its maker.
+    // holders lacks its maker; mark or back above 7.
     Misspelt,
     // 3: span not legal: it ends above 4,294,967,296, or that of a `fresh` create above 65,536.
     IllegalSpan,
@@ -155,6 +163,8 @@ pub enum Refusal {
     NoHolder,
     // 18, in the place of 10: the domain's limit is reached.
     LimitReached,
+    // 19, after 2: a back finds nothing stored.
+    NothingStored,
 }
 
 // The answer to an event: allowed, with the new name of a create or borrow and name 0 of the others; or refused.

@@ -1,3 +1,4 @@
 pub mod Engine
 pub mod Steps
+pub mod States
 pub mod Records

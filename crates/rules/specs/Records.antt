@@ -11,7 +11,7 @@ use Rattle.model.specs.declared.Tally.{Tally}
 use Rattle.model.specs.Requests.{Request}
 use Rattle.model.specs.Answers.{verdictOf}
 use Rattle.rules.specs.declared.Outcome.{Outcome}
-use Rattle.rules.specs.Steps.{Stepped}
+use Rattle.rules.specs.Steps.{Worked}
 
 -- how many of n records are taken apart: none of more than 1,024, which are not in order
 abbrev pub held : ℕ → ℕ
@@ -21,5 +21,5 @@ held n = cond (leb n 1024) n 0
 -- the tally stay
 pub record Requested (sheet : Sheet) (ws : List (List ℕ)) (n : ℕ) (bs : List ℕ) (t : Tally) (q : Request) (ws′ : List (List ℕ)) (bs′ : List ℕ) (r : Outcome) : Type 0 where
   pub long : length ws′ ≡ length ws
-  pub few : n ≤ 1024 → Stepped sheet (take n ws) bs t q (take n ws′) bs′ r
+  pub few : n ≤ 1024 → Worked sheet (take n ws) bs t q (take n ws′) bs′ r
   pub many : 1024 < n → (bs′ ≡ bs) × (r .tally ≡ t) × (verdictOf (r .answer) ≡ record { refusal = 1; name = 0 })

@@ -8,6 +8,7 @@ pub mod lent;
 mod marks;
 pub mod records;
 mod settle;
+mod states;
 pub mod steps;
 
 // What a request leaves of the tally, and its answer.

@@ -1,13 +1,13 @@
 // The lent table as a run of records, and the tally as a struct: one thin function for every request. It takes the records apart into
 // rows, has the engine work on these, and puts the records back. A table of more than 1,024 rows is not touched.
 use crate::Outcome;
-use crate::steps::step;
+use crate::steps::step_work;
 use model::Answer;
-use model::Asked;
 use model::Cap;
 use model::Refusal;
 use model::Sheet;
 use model::Tally;
+use model::Work;
 use table::Row;
 use table::SheetBytes;
 use table::WIDTH;
@@ -18,13 +18,14 @@ ghost use mathlib.Core.Path.{_≡_};
 ghost use mathlib.Core.List.{_++_, map};
 ghost use Prim.Native.Nat.{_<_, _≤_};
 ghost use lib.ListN.{length, getD, set, take, drop};
+ghost use Rattle.model.specs.Slots.{unstored};
 ghost use Rattle.model.specs.Step;
 ghost use Rattle.model.specs.Table.{emptyRow};
 ghost use Rattle.model.specs.Answers.{verdictOf};
 ghost use Rattle.table.specs.Words.{wordsOf, rowsIn};
 ghost use Rattle.table.specs.Sheets.{sheetIn};
 ghost use Rattle.table.specs.Limits.{limitsIn};
-ghost use Rattle.model.specs.Requests.{requestOf};
+ghost use Rattle.model.specs.Requests.{workOf};
 ghost use Rattle.rules.specs.Steps.{lends};
 ghost use Rattle.rules.specs.Records;
 ghost use Rattle.rules.specs.Records.{Requested};
@@ -76,7 +77,7 @@ fn store(table: &mut [Cap], n: usize, rows: &[Row; 1024])
     }
 }
 
-// What is asked, on the first n of 1,024 rows; above 1,024 it is refusal 1.
+// Work on the first n of 1,024 rows; above 1,024 it is refusal 1.
 fn request_first(
     rows: &mut [Row],
     n: usize,
@@ -84,14 +85,14 @@ fn request_first(
     t: Tally,
     sheet: &SheetBytes,
     limits: &[u32],
-    asked: Asked,
+    work: Work,
     names: &[u32],
 ) -> Outcome
     requires { ⌜ length (now rows) ≡ 1024 ⌝ }
-    ensures { λ r. ⌜ Requested (sheetIn (now (sheet .entry))) (now (rows .entry)) n (now (bits .entry)) t (requestOf (limitsIn (now (limits .entry))) asked (now (names .entry))) (now (rows .exit)) (now (bits .exit)) r ⌝ }
+    ensures { λ r. ⌜ Requested (sheetIn (now (sheet .entry))) (now (rows .entry)) n (now (bits .entry)) t (workOf (limitsIn (now (limits .entry))) work (now (names .entry))) (now (rows .exit)) (now (bits .exit)) r ⌝ }
 {
     if n <= 1024 {
-        return step(&mut rows[..n], bits, t, sheet, limits, asked, names);
+        return step_work(&mut rows[..n], bits, t, sheet, limits, work, names);
     }
     Outcome {
         tally: t,
@@ -107,17 +108,17 @@ fn request_held(
     t: Tally,
     sheet: Sheet,
     limits: &[u32],
-    asked: Asked,
+    work: Work,
     names: &[u32],
 ) -> Outcome
     requires { ⌜ length (now rows) ≡ 1024 ⌝ }
-    ensures { λ r. ⌜ Requested sheet (now (rows .entry)) n (now (bits .entry)) t (requestOf (limitsIn (now (limits .entry))) asked (now (names .entry))) (now (rows .exit)) (now (bits .exit)) r ⌝ }
+    ensures { λ r. ⌜ Requested sheet (now (rows .entry)) n (now (bits .entry)) t (workOf (limitsIn (now (limits .entry))) work (now (names .entry))) (now (rows .exit)) (now (bits .exit)) r ⌝ }
 {
     let bytes = bytes_of(sheet);
-    request_first(rows, n, bits, t, &bytes, limits, asked, names)
+    request_first(rows, n, bits, t, &bytes, limits, work, names)
 }
 
-// A request on the table, the bits and the tally that are lent, by a sheet, with limits where some are lent; the names are those of names
+// Work on the table, the bits and the tally that are lent, by a sheet, with limits where some are lent; the names are those of names
 // dropped together.
 pub fn apply(
     table: &mut [Cap],
@@ -125,19 +126,19 @@ pub fn apply(
     tally: &mut Tally,
     sheet: Sheet,
     limits: &[u32],
-    asked: Asked,
+    work: Work,
     names: &[u32],
 ) -> Answer
-    ensures { λ r. ⌜ (now (table .exit) ≡ Step.after sheet (lends (now (table .entry)) (now (bits .entry)) (now (tally .entry))) (requestOf (limitsIn (now (limits .entry))) asked (now (names .entry))) .memory .table)
-        × (now (bits .exit) ≡ Step.after sheet (lends (now (table .entry)) (now (bits .entry)) (now (tally .entry))) (requestOf (limitsIn (now (limits .entry))) asked (now (names .entry))) .memory .bits)
-        × (now (tally .exit) ≡ Step.after sheet (lends (now (table .entry)) (now (bits .entry)) (now (tally .entry))) (requestOf (limitsIn (now (limits .entry))) asked (now (names .entry))) .tally)
-        × (verdictOf r ≡ Step.answer (lends (now (table .entry)) (now (bits .entry)) (now (tally .entry))) (requestOf (limitsIn (now (limits .entry))) asked (now (names .entry)))) ⌝ }
+    ensures { λ r. ⌜ (now (table .exit) ≡ Step.after sheet (lends (now (table .entry)) (now (bits .entry)) unstored (now (tally .entry))) (workOf (limitsIn (now (limits .entry))) work (now (names .entry))) .memory .table)
+        × (now (bits .exit) ≡ Step.after sheet (lends (now (table .entry)) (now (bits .entry)) unstored (now (tally .entry))) (workOf (limitsIn (now (limits .entry))) work (now (names .entry))) .memory .bits)
+        × (now (tally .exit) ≡ Step.after sheet (lends (now (table .entry)) (now (bits .entry)) unstored (now (tally .entry))) (workOf (limitsIn (now (limits .entry))) work (now (names .entry))) .tally)
+        × (verdictOf r ≡ Step.answer (lends (now (table .entry)) (now (bits .entry)) unstored (now (tally .entry))) (workOf (limitsIn (now (limits .entry))) work (now (names .entry)))) ⌝ }
 {
     let mut rows = [[0u32; WIDTH]; 1024];
     let n = table.len();
     let m = held(n);
     load(table, m, &mut rows);
-    let out = request_held(&mut rows, n, bits, *tally, sheet, limits, asked, names);
+    let out = request_held(&mut rows, n, bits, *tally, sheet, limits, work, names);
     store(table, m, &rows);
     *tally = out.tally;
     out.answer

@@ -126,7 +126,7 @@ fn close(
 }
 
 // Zeros from one row up to another.
-fn clear(table: &mut [Row], from: usize, to: usize)
+pub(crate) fn clear(table: &mut [Row], from: usize, to: usize)
     requires { ⌜ (from ≤ to) × (to ≤ length (now table)) ⌝ }
     ensures { λ _. ⌜ Clears (rowsIn (now (table .entry))) (rowsIn (now (table .exit))) from to ⌝ }
 {

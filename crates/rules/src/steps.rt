@@ -1,4 +1,4 @@
-// One request on a lent table, its written bits and a tally.
+// One request on a lent table, its written bits, what is stored and a tally.
 use crate::Outcome;
 use crate::Progress;
 use crate::count::count_allowed;
@@ -11,6 +11,8 @@ use crate::marks::spread_access;
 use crate::marks::spread_names;
 use crate::settle::lower;
 use crate::settle::settle;
+use crate::states::take_back;
+use crate::states::take_mark;
 use model::Access;
 use model::Answer;
 use model::Asked;
@@ -21,11 +23,13 @@ use model::Refusal;
 use model::Span;
 use model::Tally;
 use model::Terms;
+use model::Work;
 use table::Row;
 use table::SheetBytes;
 use table::bits::put_span;
 use table::find::find;
 use table::lent::look;
+use table::lent::look_all;
 use table::ordered::Look;
 use table::requests::judge_request;
 use table::words::row_at;
@@ -40,14 +44,15 @@ ghost use Rattle.model.specs.Table.{row, named, lookup};
 ghost use Rattle.model.specs.Effects.{afterAccess, rowsWithout, rowsAfter};
 ghost use Rattle.model.specs.Answers.{verdictOf};
 ghost use Rattle.model.specs.Bits.{bitsAfter};
-ghost use Rattle.model.specs.Requests.{Unlimited, Single, caller, requestOf};
+ghost use Rattle.model.specs.Requests.{Unlimited, Single, caller, workOf, requestOf};
 ghost use Rattle.table.specs.Words.{rowsIn};
 ghost use Rattle.table.specs.Sheets.{sheetIn};
 ghost use Rattle.table.specs.Rows.{before, Rise, Found, Places, Orderly};
-ghost use Rattle.table.specs.Known.{Known, Sized, Fit};
+ghost use Rattle.table.specs.Known.{Known, Sized, Fit, FitAll};
 ghost use Rattle.table.specs.Limits.{limitsIn};
+ghost use Rattle.table.specs.States.{statesIn};
 ghost use Rattle.rules.specs.Engine.{Ready, Downward, Quiet, Most, kept, Settled};
-ghost use Rattle.rules.specs.Steps.{Stepped, AllowedOn};
+ghost use Rattle.rules.specs.Steps.{Stepped, Worked, AllowedOn};
 
 // The row of a new capability.
 fn new_row(
@@ -172,7 +177,7 @@ fn change_event(
     actor: u32,
     e: Event,
 ) -> usize
-    requires { ⌜ Orderly (rowsIn (now table)) (length (now table)) k issued × AllowedOn (rowsIn (now table)) issued (Asked.Single actor e) [] × Places (rowsIn (now table)) k (now places) ⌝ }
+    requires { ⌜ Orderly (rowsIn (now table)) (length (now table)) k issued × AllowedOn (rowsIn (now table)) issued (Work.Single actor e) [] × Places (rowsIn (now table)) k (now places) ⌝ }
     ensures { λ r. ⌜ Settled (rowsIn (now (table .exit))) (length (now (table .entry))) r (rowsAfter (sheetIn (now (sheet .entry))) issued (before (rowsIn (now (table .entry))) k) (Single (caller actor Unlimited) e)) (now (places .exit)) ⌝ }
 {
     match e {
@@ -196,22 +201,22 @@ fn change_event(
     }
 }
 
-// What an allowed request does to the rows; the answer is how many live then.
+// What allowed work does to the rows; the answer is how many live then.
 fn change(
     table: &mut [Row],
     k: usize,
     places: &mut [u16; 1024],
     sheet: &SheetBytes,
     issued: u32,
-    asked: Asked,
+    work: Work,
     names: &[u32],
 ) -> usize
-    requires { ⌜ Known (now table) k issued (now places) × AllowedOn (rowsIn (now table)) issued asked (now names) ⌝ }
-    ensures { λ r. ⌜ Settled (rowsIn (now (table .exit))) (length (now (table .entry))) r (rowsAfter (sheetIn (now (sheet .entry))) issued (before (rowsIn (now (table .entry))) k) (requestOf Unlimited asked (now (names .entry)))) (now (places .exit)) ⌝ }
+    requires { ⌜ Known (now table) k issued (now places) × AllowedOn (rowsIn (now table)) issued work (now names) ⌝ }
+    ensures { λ r. ⌜ Settled (rowsIn (now (table .exit))) (length (now (table .entry))) r (rowsAfter (sheetIn (now (sheet .entry))) issued (before (rowsIn (now (table .entry))) k) (workOf Unlimited work (now (names .entry)))) (now (places .exit)) ⌝ }
 {
-    match asked {
-        Asked::Single(actor, e) => change_event(table, k, places, sheet, issued, actor, e),
-        Asked::Group(_) => drop_names(table, k, places, names),
+    match work {
+        Work::Single(actor, e) => change_event(table, k, places, sheet, issued, actor, e),
+        Work::Group(_) => drop_names(table, k, places, names),
     }
 }
 
@@ -229,20 +234,21 @@ fn event_bits(bits: &mut [u8], e: Event)
     }
 }
 
-// What an allowed request does to them. Names dropped together leave them as they are.
-fn change_bits(bits: &mut [u8], asked: Asked)
+// What allowed work does to them. Names dropped together leave them as they are.
+fn change_bits(bits: &mut [u8], work: Work)
     requires { ⌜ Sized (now bits) ⌝ }
-    ensures { λ _. ⌜ now (bits .exit) ≡ bitsAfter (now (bits .entry)) (requestOf Unlimited asked []) ⌝ }
+    ensures { λ _. ⌜ now (bits .exit) ≡ bitsAfter (now (bits .entry)) (workOf Unlimited work []) ⌝ }
 {
-    match asked {
-        Asked::Single(_, e) => event_bits(bits, e),
-        Asked::Group(_) => {}
+    match work {
+        Work::Single(_, e) => event_bits(bits, e),
+        Work::Group(_) => {}
     }
 }
 
-// A request on what is fit: a table in order, of which it is known how many rows live and where each row's parent stands, with as many bits
-// as there are to be, and limits that are not refused. All that is known after it too, so that a run of requests looks for it once. The names are those of names dropped together.
-pub fn take(
+// Work on what is fit: a table in order, of which it is known how many rows live and where each row's parent stands, with as many bits as there
+// are to be, and limits that are not refused. All that is known after it too, so that a run of requests looks for it once. The names are those
+// of names dropped together.
+fn take_work(
     table: &mut [Row],
     k: usize,
     places: &mut [u16; 1024],
@@ -250,14 +256,14 @@ pub fn take(
     t: Tally,
     sheet: &SheetBytes,
     limits: &[u32],
-    asked: Asked,
+    work: Work,
     names: &[u32],
 ) -> Progress
     requires { ⌜ Fit (now table) (now bits) k (t .issued) (now limits) (now places) ⌝ }
-    ensures { λ r. ⌜ Stepped (sheetIn (now (sheet .entry))) (now (table .entry)) (now (bits .entry)) t (requestOf (limitsIn (now (limits .entry))) asked (now (names .entry))) (now (table .exit)) (now (bits .exit)) (r .outcome)
+    ensures { λ r. ⌜ Worked (sheetIn (now (sheet .entry))) (now (table .entry)) (now (bits .entry)) t (workOf (limitsIn (now (limits .entry))) work (now (names .entry))) (now (table .exit)) (now (bits .exit)) (r .outcome)
         × Fit (now (table .exit)) (now (bits .exit)) (r .live) (r .outcome .tally .issued) (now (limits .entry)) (now (places .exit)) ⌝ }
 {
-    let a = judge_request(table, k, bits, t.issued, limits, asked, names);
+    let a = judge_request(table, k, bits, t.issued, limits, work, names);
     match a {
         Answer::Refused(x) => {
             let outcome = Outcome {
@@ -267,13 +273,51 @@ pub fn take(
             Progress { outcome, live: k }
         }
         Answer::Allowed(x) => {
-            let live = change(table, k, places, sheet, t.issued, asked, names);
-            change_bits(bits, asked);
+            let live = change(table, k, places, sheet, t.issued, work, names);
+            change_bits(bits, work);
             let outcome = Outcome {
-                tally: count_allowed(asked, t),
+                tally: count_allowed(work, t),
                 answer: Answer::Allowed(x),
             };
             Progress { outcome, live }
+        }
+    }
+}
+
+// A request on all that is lent, where that is fit: work, a mark or a back. It is so after it too. The names are those of names dropped together.
+pub fn take(
+    table: &mut [Row],
+    k: usize,
+    places: &mut [u16; 1024],
+    bits: &mut [u8],
+    stored: &mut [Row],
+    copies: &mut [u8],
+    t: Tally,
+    sheet: &SheetBytes,
+    limits: &[u32],
+    asked: Asked,
+    names: &[u32],
+) -> Progress
+    requires { ⌜ FitAll (now table) (now bits) (now stored) (now copies) k (t .issued) (now limits) (now places) ⌝ }
+    ensures { λ r. ⌜ Stepped (sheetIn (now (sheet .entry))) (now (table .entry)) (now (bits .entry)) (statesIn (now (stored .entry)) (now (copies .entry))) t (requestOf (limitsIn (now (limits .entry))) asked (now (names .entry))) (now (table .exit)) (now (bits .exit)) (statesIn (now (stored .exit)) (now (copies .exit))) (r .outcome)
+        × FitAll (now (table .exit)) (now (bits .exit)) (now (stored .exit)) (now (copies .exit)) (r .live) (r .outcome .tally .issued) (now (limits .entry)) (now (places .exit)) ⌝ }
+{
+    match asked {
+        Asked::Work(work) => { take_work(table, k, places, bits, t, sheet, limits, work, names) }
+        Asked::Mark(actor, slot) => take_mark(table, k, bits, stored, copies, t, actor, slot),
+        Asked::Back(actor, slot) => {
+            take_back(
+                table,
+                k,
+                places,
+                bits,
+                stored,
+                copies,
+                t,
+                limits,
+                actor,
+                slot,
+            )
         }
     }
 }
@@ -288,21 +332,57 @@ fn disordered(t: Tally) -> Outcome
     }
 }
 
-// A request on any table, any bits and any limits: a table that is not in order, as above 1,024 rows, is refusal 1, and so are another number
+// Work on any table, any bits and any limits: a table that is not in order, as above 1,024 rows, is refusal 1, and so are another number
 // of bytes than 8,192, and limits that are refused.
+pub(crate) fn step_work(
+    table: &mut [Row],
+    bits: &mut [u8],
+    t: Tally,
+    sheet: &SheetBytes,
+    limits: &[u32],
+    work: Work,
+    names: &[u32],
+) -> Outcome
+    ensures { λ r. ⌜ Worked (sheetIn (now (sheet .entry))) (now (table .entry)) (now (bits .entry)) t (workOf (limitsIn (now (limits .entry))) work (now (names .entry))) (now (table .exit)) (now (bits .exit)) r ⌝ }
+{
+    let mut places = [0u16; 1024];
+    let found = look(table, bits, t.issued, limits, &mut places);
+    match found {
+        Look::InOrder(live) => {
+            let p = take_work(
+                table,
+                live,
+                &mut places,
+                bits,
+                t,
+                sheet,
+                limits,
+                work,
+                names,
+            );
+            let outcome = p.outcome;
+            outcome
+        }
+        Look::Disordered => disordered(t),
+    }
+}
+
+// A request on all that is lent, whatever that is: where it is not fit, refusal 1.
 pub(crate) fn step(
     table: &mut [Row],
     bits: &mut [u8],
+    stored: &mut [Row],
+    copies: &mut [u8],
     t: Tally,
     sheet: &SheetBytes,
     limits: &[u32],
     asked: Asked,
     names: &[u32],
 ) -> Outcome
-    ensures { λ r. ⌜ Stepped (sheetIn (now (sheet .entry))) (now (table .entry)) (now (bits .entry)) t (requestOf (limitsIn (now (limits .entry))) asked (now (names .entry))) (now (table .exit)) (now (bits .exit)) r ⌝ }
+    ensures { λ r. ⌜ Stepped (sheetIn (now (sheet .entry))) (now (table .entry)) (now (bits .entry)) (statesIn (now (stored .entry)) (now (copies .entry))) t (requestOf (limitsIn (now (limits .entry))) asked (now (names .entry))) (now (table .exit)) (now (bits .exit)) (statesIn (now (stored .exit)) (now (copies .exit))) r ⌝ }
 {
     let mut places = [0u16; 1024];
-    let found = look(table, bits, t.issued, limits, &mut places);
+    let found = look_all(table, bits, stored, copies, t.issued, limits, &mut places);
     match found {
         Look::InOrder(live) => {
             let p = take(
@@ -310,6 +390,8 @@ pub(crate) fn step(
                 live,
                 &mut places,
                 bits,
+                stored,
+                copies,
                 t,
                 sheet,
                 limits,

@@ -1,6 +1,6 @@
 -- Card 10: a sheet of limits as the numbers that a caller lends, and rows counted by their makers.
 -- Assumes nothing.
-use Prim.Native.Nat.{ℕ, suc, _<_}
+use Prim.Native.Nat.{ℕ, suc, _<_, _≤_}
 use mathlib.Core.Path.{_≡_}
 use mathlib.Core.Bool.{Bool, false, _||_}
 use mathlib.Core.List.{List, [], _∷_}
@@ -9,7 +9,7 @@ use lib.ListN.{length, getD}
 use Rattle.model.specs.declared.Cap.{Cap}
 use Rattle.model.specs.Requests.{Limits, Unlimited, Limited}
 use Rattle.model.specs.Table.{emptyRow}
-use Rattle.model.specs.Limits.{made, refusedSheet}
+use Rattle.model.specs.Limits.{made, sum, refusedSheet}
 use Rattle.table.specs.Words.{rowsIn}
 use Rattle.table.specs.Rows.{before}
 
@@ -21,6 +21,11 @@ limitsIn (l ∷ limits) = Limited (l ∷ limits)
 -- the sheet that is lent with a table is not refused
 abbrev pub Allowed : List (List ℕ) → List ℕ → Type 0
 Allowed ws limits = refusedSheet (rowsIn ws) (limitsIn limits) ≡ false
+
+-- limits that may be lent with a table of so many rows, as far as the table's rows decide nothing
+pub record LimitsFor (size : ℕ) (limits : List ℕ) : Type 0 where
+  pub sheet : (length limits ≡ 0 → ⊥) → length limits ≡ 64
+  pub fits : sum limits ≤ size
 
 -- the maker of each of the first k rows is a domain
 abbrev pub Makers : List Cap → ℕ → Type 0

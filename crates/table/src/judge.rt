@@ -25,6 +25,7 @@ ghost use Prim.Native.Nat.{suc, _<_, _≤_};
 ghost use lib.ListN.{length};
 ghost use Rattle.model.specs.Lists.{first};
 ghost use Rattle.model.specs.Refusals.{notADomain, unfitRoot, unfitChild, misplaced, misnamed, standing, usable, viewOf};
+ghost use Rattle.model.specs.Slots.{unstored};
 ghost use Rattle.model.specs.Effects.{newName};
 ghost use Rattle.model.specs.Step.{verdict};
 ghost use Rattle.model.specs.Refusals;
@@ -329,7 +330,7 @@ pub(crate) fn judge(
     e: Event,
 ) -> Answer
     requires { ⌜ Orderly (rowsIn (now table)) (length (now table)) k issued × Sized (now bits) × Allowed (now table) (now limits) ⌝ }
-    ensures { λ a. ⌜ verdictOf a ≡ verdict (Refusals.judge (viewOf (rowsIn (now (table .entry))) (now (bits .entry)) issued) (Single (caller actor (limitsIn (now (limits .entry)))) e)) (newName issued (Single (caller actor (limitsIn (now (limits .entry)))) e)) ⌝ }
+    ensures { λ a. ⌜ verdictOf a ≡ verdict (Refusals.judge (viewOf (rowsIn (now (table .entry))) (now (bits .entry)) unstored issued) (Single (caller actor (limitsIn (now (limits .entry)))) e)) (newName issued (Single (caller actor (limitsIn (now (limits .entry)))) e)) ⌝ }
 {
     match e {
         Event::Create(w, s, r) => judge_create(table, k, issued, limits, actor, w, s, r),

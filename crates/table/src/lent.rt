@@ -3,10 +3,11 @@ use crate::Row;
 use crate::limits::are_allowed;
 use crate::ordered::Look;
 use crate::ordered::look_at;
+use crate::states::is_memory;
 use model::Tally;
 ghost use mathlib.Core.Path.{_≡_};
 ghost use lib.ListN.{length};
-ghost use Rattle.table.specs.Known.{Finds};
+ghost use Rattle.table.specs.Known.{Finds, FindsAll};
 ghost use Rattle.table.specs.Lent.{tallyIn};
 
 // The tally that seven words are.
@@ -39,7 +40,7 @@ pub fn set_tally(tally: &mut [u32; 7], t: Tally)
     ];
 }
 
-// Whether all that is lent is fit: the table in order, 8,192 bytes of written bits, and limits that are not refused. If it is, the place of
+// Whether what work is done on is fit: the table in order, 8,192 bytes of written bits, and limits that are not refused. If it is, the place of
 // each row's parent is noted, for those who work on it.
 pub fn look(
     table: &[Row],
@@ -65,4 +66,23 @@ pub fn look(
             }
         }
     }
+}
+
+// Whether all that is lent is fit: what work is done on, and memory for eight states.
+pub fn look_all(
+    table: &[Row],
+    bits: &[u8],
+    stored: &[Row],
+    copies: &[u8],
+    issued: u32,
+    limits: &[u32],
+    places: &mut [u16; 1024],
+) -> Look
+    requires { ⌜ length (now places) ≡ 1024 ⌝ }
+    ensures { λ r. ⌜ FindsAll (now (table .entry)) (now (bits .entry)) (now (stored .entry)) (now (copies .entry)) issued (now (limits .entry)) (now (places .exit)) r ⌝ }
+{
+    if !is_memory(stored, copies) {
+        return Look::Disordered;
+    }
+    look(table, bits, issued, limits, places)
 }

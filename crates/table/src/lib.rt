@@ -13,6 +13,7 @@ pub mod ordered;
 pub mod requests;
 pub mod sheets;
 pub mod spans;
+pub mod states;
 pub mod terms;
 pub mod words;
 

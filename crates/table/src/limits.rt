@@ -7,6 +7,7 @@ ghost use Prim.Native.Nat.{suc, _<_, _≤_};
 ghost use lib.Dec.{eqb, leb};
 ghost use lib.ListN.{length, getD, set};
 ghost use Rattle.model.specs.Limits.{made, sum, exceeds, refusedSheet};
+ghost use Rattle.model.specs.Table.{liveRows};
 ghost use Rattle.table.specs.Words.{rowsIn};
 ghost use Rattle.table.specs.Rows.{before, Orderly};
 ghost use Rattle.table.specs.Limits.{limitsIn, Makers, Counts, exceedsBy};
@@ -107,6 +108,19 @@ fn sum_of(limits: &[u32]) -> u64
     total
 }
 
+// Whether no domain has made more of the live rows than its limit, where limits are lent.
+pub(crate) fn are_kept(table: &[Row], k: usize, issued: u32, limits: &[u32]) -> bool
+    requires { ⌜ Orderly (rowsIn (now table)) (length (now table)) k issued × ((length (now limits) ≡ 0 → ⊥) → length (now limits) ≡ 64) ⌝ }
+    ensures { λ r. ⌜ r ≡ not (exceeds 0 (liveRows (rowsIn (now (table .entry)))) (now (limits .entry))) ⌝ }
+{
+    if limits.len() == 0 {
+        return true;
+    }
+    let mut counts = [0u32; 64];
+    count_makers(table, k, &mut counts);
+    none_exceeded(&counts, limits)
+}
+
 // Whether a sheet of limits may be lent with a table in order, of which k rows live: none at all, or 64 numbers whose sum is not above the
 // rows and none of which is exceeded.
 pub(crate) fn are_allowed(table: &[Row], k: usize, issued: u32, limits: &[u32]) -> bool
@@ -122,7 +136,5 @@ pub(crate) fn are_allowed(table: &[Row], k: usize, issued: u32, limits: &[u32]) 
     if (table.len() as u64) < sum_of(limits) {
         return false;
     }
-    let mut counts = [0u32; 64];
-    count_makers(table, k, &mut counts);
-    none_exceeded(&counts, limits)
+    are_kept(table, k, issued, limits)
 }

@@ -12,7 +12,7 @@ pub fn is_domain(d: u32) -> bool
 }
 
 // Whether a mask has this domain.
-pub fn has_bit(mask: u64, d: u32) -> bool
+pub(crate) fn has_bit(mask: u64, d: u32) -> bool
     requires { ⌜ d < 64 ⌝ }
     ensures { λ r. ⌜ r ≡ hasBit mask d ⌝ }
 {

@@ -72,21 +72,21 @@ fn rest_is_empty(table: &[Row], k: usize) -> bool
 }
 
 // Whether this is a right.
-pub fn is_right(r: u32) -> bool
+pub(crate) fn is_right(r: u32) -> bool
     ensures { λ b. ⌜ b ≡ isRight r ⌝ }
 {
     if r == 1 { true } else { r == 2 }
 }
 
 // Whether this is a kind of capability.
-pub fn is_kind(k: u32) -> bool
+pub(crate) fn is_kind(k: u32) -> bool
     ensures { λ b. ⌜ b ≡ isKind k ⌝ }
 {
     k <= 2
 }
 
 // Whether this is a mark.
-pub fn is_mark(m: u32) -> bool
+pub(crate) fn is_mark(m: u32) -> bool
     ensures { λ b. ⌜ b ≡ isMark m ⌝ }
 {
     m <= 1
@@ -231,7 +231,7 @@ pub enum Look {
 }
 
 // Whether a table is in order; above 1,024 rows it is not. If it is, the place of each row's parent is noted, for those who work on it.
-pub fn look_at(table: &[Row], issued: u32, places: &mut [u16; 1024]) -> Look
+pub(crate) fn look_at(table: &[Row], issued: u32, places: &mut [u16; 1024]) -> Look
     requires { ⌜ length (now places) ≡ 1024 ⌝ }
     ensures { λ r. ⌜ Looks (now (table .entry)) issued (now (places .exit)) r ⌝ }
 {

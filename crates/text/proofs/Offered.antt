@@ -12,6 +12,9 @@ pub use Rattle.text.proofs.Laws.OneSpelling.{no-domain-no-line, read-is
 pub use Rattle.text.proofs.Laws.Put.{put-length, put-next, put-two, sets-first}
 pub use Rattle.text.proofs.Laws.Range.{fresh-short, kind-short, right-length}
 pub use Rattle.text.proofs.Laws.Read.{same-is, same-refl, same-true}
+pub use Rattle.text.proofs.Laws.Requests.{Numbered, WrittenIn, read-request-is-spelling, read-writes-back, refused-request-is-2, refused-request-is-none, request-is-line, request-one-spelling, request-reads-back, request-short, request-written, state-first, state-read, state-second, written-request-reads-back}
+pub use Rattle.text.proofs.Laws.State.{Slotted, slotted}
+pub use Rattle.text.proofs.Laws.StateLine.{StateLine, back-is-line, back-reads-back, event-is-no-state, group-is-no-state, header-is-no-state, mark-is-line, mark-reads-back, read-state-is-spelling, refused-state-is-2, state-is-no-event, state-is-no-group, state-reads-back}
 pub use Rattle.text.proofs.Laws.Terms.{spelled-below, spelled-domain}
 pub use Rattle.text.proofs.Laws.Words.{fresh-back, kind-back, kinds, low-decimal, low-no-kind, low-no-mark, marks, next, number-is, plain-decimal, plain-hex, right-back, right-stops, rights}
 pub use Rattle.text.proofs.Laws.Write.{Wrote, writes-none, writes-put, wrote, wrote-none}

@@ -102,7 +102,7 @@ pub fn digits_of(text: &[u8]) -> u64
 }
 
 // The same from a place of the text on.
-pub fn digits_at(text: &[u8], at: usize) -> u64
+pub(crate) fn digits_at(text: &[u8], at: usize) -> u64
     ensures { λ r. ⌜ r ≡ hexOf (drop at (now (text .entry))) ⌝ }
 {
     if at < text.len() {

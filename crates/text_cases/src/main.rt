@@ -1,10 +1,11 @@
-// Runs the public calls on event lines, document 01, "The bracket text", and cards 1, 5, 6, 9 and 10: the examples for refusals 2 and 11, and a
+// Runs the public calls on event lines, document 01, "The bracket text", and cards 1, 5, 6 and 9 to 11: the examples for refusals 2 and 11, and a
 // table of good and bad lines, which is standard input. Each case is one line of output: what it is, and what was answered; a line that is
 // read is answered in both spellings. Last comes the class of each of the 256 byte values, 64 to a line.
 mod classes;
 mod domains;
 mod reading;
 mod show;
+mod states;
 mod writing;
 
 fn main() {
@@ -18,5 +19,8 @@ fn main() {
     writing::mark_refusals();
     domains::written();
     domains::groups();
+    states::written();
+    states::lines();
+    states::other_lines();
     classes::all();
 }

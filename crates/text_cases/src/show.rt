@@ -60,6 +60,7 @@ fn number_of(refusal: Refusal) -> u32
         Refusal::NotWritten => 16,
         Refusal::NoHolder => 17,
         Refusal::LimitReached => 18,
+        Refusal::NothingStored => 19,
     }
 }
 

@@ -5,6 +5,7 @@ pub mod Order
 pub mod History
 pub mod Report
 pub mod Spellings
+pub mod FromNothing
 pub mod Stops
 pub mod Allowed
 pub mod ReadRemoved

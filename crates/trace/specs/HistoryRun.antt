@@ -19,7 +19,7 @@ module _ (sheet : Sheet) (limits : Limits) where
   abbrev pub noted : ℕ → Checker History
   noted n = record {
     limits = limits;
-    ordered = λ h. not (unfit limits (view sheet n (h .notes) (h .count)));
+    ordered = λ h. not (unfit limits (view sheet n (h .kept) (h .notes) (h .count)));
     answer = History.answer sheet n;
     after = History.after sheet n;
     misspelt = λ h. h;

@@ -1,22 +1,26 @@
 -- Card 8: "Users thin long logs and ask us what that may change." A trace whose every line is allowed, in either of the two spellings, and the
--- same without one line that is a read.
+-- same without one line that is a read. Card 11: card 8 supposes, of marks and backs, "that the trace never does" make one: here, that none
+-- stands behind the read.
 -- Assumes nothing.
 use Prim.Native.Nat.{ℕ, suc}
 use mathlib.Core.Path.{_≡_}
-use mathlib.Core.Bool.{true}
+use mathlib.Core.Bool.{Bool, true}
 use mathlib.Core.List.{List, [], _++_}
-use lib.ListN.{getD}
+use lib.Dec.{eqb}
+use lib.ListN.{getD, drop}
 use Rattle.model.specs.Requests.{Limits}
 use Rattle.model.specs.declared.Name.{Name}
 use Rattle.model.specs.declared.Span.{Span}
 use Rattle.model.specs.declared.Event.the-variants.{Read}
 use Rattle.model.specs.declared.Sheet.{Sheet}
-use Rattle.model.specs.Lists.{without}
+use Rattle.model.specs.Lists.{all, without}
 use Rattle.model.specs.Step.{State}
 use Rattle.model.specs.Table.{isDomain}
 use Rattle.model.specs.ReadRemoved.{OnlyRights}
 use Rattle.text.specs.Line.{linesOf}
 use Rattle.text.specs.Event.{spell, InRange}
+use Rattle.text.specs.Result.{refusalOf}
+use Rattle.text.specs.State.{readState}
 use Rattle.listing.specs.SameButRights.{SameButRights}
 use Rattle.trace.specs.Run.{run}
 use Rattle.trace.specs.Stops.{joined, firstLines}
@@ -32,6 +36,14 @@ pub record IsRead (k : ℕ) (text : List ℕ) (actor : ℕ) (u : Name) (s : Span
   pub is-domain : isDomain actor ≡ true
   pub line : getD (linesOf text) k [] ≡ spell actor (Read u s)
   pub small : InRange (Read u s)
+
+-- a line is neither a mark nor a back, which both spellings write alike: it reads as none
+abbrev pub isNoState : List ℕ → Bool
+isNoState line = eqb (refusalOf (readState line)) 2
+
+-- and so it is of every line behind that one
+abbrev pub NoStatesBehind : ℕ → List ℕ → Type 0
+NoStatesBehind k text = all isNoState (drop (suc k) (linesOf text)) ≡ true
 
 -- by a sheet and on what is lent, the run of the text, and that without the line
 pub record LineRemoved (sheet : Sheet) (limits : Limits) (h : State) (k : ℕ) (text : List ℕ) (u : Name) (s : Span) : Type 0 where

@@ -1,5 +1,5 @@
--- Document 01, "What each event does", its last paragraph: a run; card 1: a trace whose first line is `(trace 2)`; and card 5: lines that
--- drop names together.
+-- Document 01, "What each event does", its last paragraph: a run; card 1: a trace whose first line is `(trace 2)`; card 5: lines that drop
+-- names together; and card 11: marks and backs. "in a run this 1 carries its own line number, and the lines before it stand": like any refusal.
 -- Assumes nothing.
 use Prim.Native.Nat.{ℕ, _+_}
 use mathlib.Core.Path.{_≡_}
@@ -11,6 +11,7 @@ use Rattle.model.specs.Requests.{Limits, Request}
 use Rattle.model.specs.declared.Tally.{Tally}
 use Rattle.model.specs.Refusals.{unfit}
 use Rattle.model.specs.Counts.{countRefused}
+use Rattle.model.specs.Slots.{Memory, Slot}
 use Rattle.model.specs.Step.{Verdict, State, view}
 use Rattle.model.specs.Step
 use Rattle.model.specs.Answers.{number, verdictOf}
@@ -22,7 +23,8 @@ use Rattle.text.specs.Line.{linesOf}
 use Rattle.text.specs.Event.{bytes}
 use Rattle.text.specs.Read.{same}
 use Rattle.text.specs.Group.{readGroup}
-use Rattle.text.specs.Request.{groupOf, readRequest}
+use Rattle.text.specs.State.{readState}
+use Rattle.text.specs.Request.{orState, stateOf, readRequest}
 use Rattle.text.specs.declared.spelling.Spelling.{Spelling}
 use Rattle.text.specs.declared.spelling.Spelling.the-variants.{Plain, Named}
 use Rattle.trace.specs.declared.run.RunAnswer.{RunAnswer}
@@ -94,27 +96,32 @@ module _ (sheet : Sheet) (limits : Limits) where
     ordered = λ h. not (unfit limits (view h));
     answer = Step.answer;
     after = Step.after sheet;
-    misspelt = λ h. record { memory = h .memory; tally = countRefused (h .tally) };
+    misspelt = λ h. record { memory = h .memory; tally = countRefused (h .tally); slots = h .slots };
   }
 
   -- a run of a text on what the caller lends
   abbrev pub run : State → List ℕ → Ran State
   run = runFrom lent
 
-  -- a run on the words ws of a table and the bits bs leaves the words ws′ and the bits bs′
-  pub record Runs (ws : List (List ℕ)) (bs : List ℕ) (t : Tally) (text : List ℕ) (ws′ : List (List ℕ)) (bs′ : List ℕ) (r : RunOutcome) : Type 0 where
-    pub ran : ranOf (r .answer) (lends (rowsIn ws′) bs′ (r .tally)) ≡ run (lends (rowsIn ws) bs t) text
+  -- a run on the words ws of a table, the bits bs and what is stored leaves the words ws′, the bits bs′ and what is stored then
+  pub record Runs (ws : List (List ℕ)) (bs : List ℕ) (slots : List (Slot Memory)) (t : Tally) (text : List ℕ) (ws′ : List (List ℕ)) (bs′ : List ℕ) (slots′ : List (Slot Memory)) (r : RunOutcome) : Type 0 where
+    pub ran : ranOf (r .answer) (lends (rowsIn ws′) bs′ slots′ (r .tally)) ≡ run (lends (rowsIn ws) bs slots t) text
 
   -- the lines of a text on them, in one spelling, where so many lines were taken before
-  pub record RunsLines (k : Spelling) (before : ℕ) (ws : List (List ℕ)) (bs : List ℕ) (t : Tally) (text : List ℕ) (ws′ : List (List ℕ)) (bs′ : List ℕ) (r : RunOutcome) : Type 0 where
-    pub ran : ranOf (r .answer) (lends (rowsIn ws′) bs′ (r .tally)) ≡ runLines lent k before (lends (rowsIn ws) bs t) (linesOf text)
+  pub record RunsLines (k : Spelling) (before : ℕ) (ws : List (List ℕ)) (bs : List ℕ) (slots : List (Slot Memory)) (t : Tally) (text : List ℕ) (ws′ : List (List ℕ)) (bs′ : List ℕ) (slots′ : List (Slot Memory)) (r : RunOutcome) : Type 0 where
+    pub ran : ranOf (r .answer) (lends (rowsIn ws′) bs′ slots′ (r .tally)) ≡ runLines lent k before (lends (rowsIn ws) bs slots t) (linesOf text)
 
-  -- a line that is no event, on them: its refusal, and the state after it
-  pub record TakesGroup (ws : List (List ℕ)) (bs : List ℕ) (t : Tally) (line : List ℕ) (ws′ : List (List ℕ)) (bs′ : List ℕ) (r : Outcome) : Type 0 where
-    pub refusal : verdictOf (r .answer) .refusal ≡ takeRead lent (lends (rowsIn ws) bs t) (groupOf limits (readGroup line)) .refusal
-    pub state : lends (rowsIn ws′) bs′ (r .tally) ≡ takeRead lent (lends (rowsIn ws) bs t) (groupOf limits (readGroup line)) .state
+  -- what a line reads as, on them: its refusal, and the state after it
+  pub record TakesRead (read : Result Request) (ws : List (List ℕ)) (bs : List ℕ) (slots : List (Slot Memory)) (t : Tally) (ws′ : List (List ℕ)) (bs′ : List ℕ) (slots′ : List (Slot Memory)) (r : Outcome) : Type 0 where
+    pub refusal : verdictOf (r .answer) .refusal ≡ takeRead lent (lends (rowsIn ws) bs slots t) read .refusal
+    pub state : lends (rowsIn ws′) bs′ slots′ (r .tally) ≡ takeRead lent (lends (rowsIn ws) bs slots t) read .state
 
-  -- any line on them
-  pub record Takes (k : Spelling) (ws : List (List ℕ)) (bs : List ℕ) (t : Tally) (line : List ℕ) (ws′ : List (List ℕ)) (bs′ : List ℕ) (r : Outcome) : Type 0 where
-    pub refusal : verdictOf (r .answer) .refusal ≡ takeLine lent k (lends (rowsIn ws) bs t) line .refusal
-    pub state : lends (rowsIn ws′) bs′ (r .tally) ≡ takeLine lent k (lends (rowsIn ws) bs t) line .state
+  -- a line that is neither an event nor a group, one that is no event, and any line
+  abbrev pub TakesState : List ℕ → List (List ℕ) → List ℕ → List (Slot Memory) → Tally → List (List ℕ) → List ℕ → List (Slot Memory) → Outcome → Type 0
+  TakesState line = TakesRead (stateOf limits (readState line))
+
+  abbrev pub TakesGroup : List ℕ → List (List ℕ) → List ℕ → List (Slot Memory) → Tally → List (List ℕ) → List ℕ → List (Slot Memory) → Outcome → Type 0
+  TakesGroup line = TakesRead (orState limits line (readGroup line))
+
+  abbrev pub Takes : Spelling → List ℕ → List (List ℕ) → List ℕ → List (Slot Memory) → Tally → List (List ℕ) → List ℕ → List (Slot Memory) → Outcome → Type 0
+  Takes k line = TakesRead (readRequest limits k line)

@@ -1,50 +1,38 @@
 -- Card 1: "Two traces that differ only in this spelling, with right names and neither `(long)`, get the same verdicts; the new one's lines
 -- allowed, and its line number unless 0, are one higher."
 -- Assumes nothing.
-use Prim.Native.Nat.{ℕ, zero, suc, _≤_, _<_}
+use Prim.Native.Nat.{ℕ, zero, suc, _<_}
 use mathlib.Core.Path.{_≡_}
-use mathlib.Core.Bool.{true, false}
+use mathlib.Core.Bool.{false}
 use mathlib.Core.List.{List, [], _∷_, _++_, map}
 use lib.ListN.{length}
-use Rattle.model.specs.Requests.{Limits, Unlimited, Request, Single, Group, callerOf, isGroup}
+use Rattle.model.specs.Requests.{Limits, Unlimited, Request, callerOf}
 use Rattle.model.specs.declared.Sheet.{Sheet}
 use Rattle.model.specs.Sheet6.{sheet6}
 use Rattle.model.specs.Step.{State, initial}
-use Rattle.model.specs.Table.{isDomain}
 use Rattle.model.specs.Named.{unnamed, allRightlyNamed}
-use Rattle.text.specs.Event.{spell, hasSpelling, Below32, InRange}
-use Rattle.text.specs.Group.{spellGroup}
 use Rattle.text.specs.Line.{nextLine}
 use Rattle.text.specs.Read.{same}
 use Rattle.text.specs.Result.{refused}
-use Rattle.text.specs.declared.spelling.Spelling.{Spelling}
 use Rattle.text.specs.declared.spelling.Spelling.the-variants.{Plain, Named}
-use Rattle.text.specs.Request.{readRequest}
+use Rattle.text.specs.Request.{readRequest, spellRequest, HasLine}
 use Rattle.trace.specs.Run.{header, Ran, run}
 use Rattle.trace.specs.Check.{answerLine, listingOf, report, noCounts, checkText}
 
--- the line of an event, or of names dropped together, and the lines of several
-unfoldable pub spellRequest : Request → List ℕ
-spellRequest (Single by e) = spell (by .actor) e
-spellRequest (Group by names) = spellGroup (by .actor) names
-
+-- the lines of several requests, of which any may be marks and backs
 unfoldable pub textOf : List Request → List ℕ
 textOf [] = []
 textOf (q ∷ qs) = spellRequest q ++ textOf qs
 
--- a trace of document 01, and the same with its names written out, when so many have been issued
+-- a trace of document 01, and the same with its names written out, when so many have been issued; card 11: "Issued names .. are never turned
+-- back", so behind a back the right names go on from that number
 abbrev pub plainText : List Request → List ℕ
 plainText qs = textOf (map unnamed qs)
 
 abbrev pub namedText : ℕ → List Request → List ℕ
 namedText issued qs = header ++ textOf (allRightlyNamed issued qs)
 
--- a request has a line in one of the two spellings; names dropped together are two or more, since one name is an event
-abbrev pub HasLine : Spelling → Request → Type 0
-HasLine k (Single by e) = (hasSpelling k (by .actor) e ≡ true) × InRange e
-HasLine k (Group by names) = (2 ≤ length names) × (isDomain (by .actor) ≡ true) × (isGroup names ≡ true) × Below32 names
-
--- and it comes with the limits that are lent with the run
+-- a request has a line, and comes with the limits that are lent with the run
 abbrev pub Spellable : Limits → Request → Type 0
 Spellable limits q = (callerOf q .limits ≡ limits) × HasLine Plain (unnamed q)
 

@@ -8,6 +8,7 @@ use rules::answers::number_of;
 use table::Row;
 use table::WIDTH;
 use table::sheets::card6;
+use table::states::forget;
 use text::pieces;
 use text::write::Written;
 ghost use mathlib.Core.Path.{_≡_};
@@ -17,11 +18,12 @@ ghost use Prim.Native.Nat.{_≤_};
 ghost use lib.ListN.{length, take};
 ghost use Rattle.model.specs.Table.{inOrder};
 ghost use Rattle.table.specs.Words.{rowsIn};
+ghost use Rattle.table.specs.States.{statesIn, emptied};
 ghost use Rattle.text.specs.Event.{bytes, spaced};
 ghost use Rattle.text.specs.Put.{Room, Put};
 ghost use Rattle.text.specs.Write.{Writes};
 ghost use Rattle.listing.specs.Listing.{listing};
-ghost use Rattle.trace.specs.Check.{answerLine, checkText};
+ghost use Rattle.trace.specs.Check.{answerLine, checkWith, storedWith};
 
 // How many bytes the line of an answer has. The refusal is 0 where every line was allowed.
 fn answer_length(refusal: u32, number: u32) -> usize
@@ -90,10 +92,13 @@ fn write_long(out: &mut [u8]) -> Written
     Written::Length(pieces::put_bytes(out, 0, b"(long)\n"))
 }
 
-// Runs an input on 1,024 empty rows, with nothing written, by card 6's sheet, and writes what `capcheck` prints of it at the buffer's first bytes.
-pub fn check(input: &[u8], out: &mut [u8]) -> Written
-    ensures { λ r. ⌜ Writes true (checkText (now (input .entry))) (now (out .entry)) (now (out .exit)) r ⌝ }
+// Runs an input on 1,024 empty rows, with nothing written and nothing stored, by card 6's sheet, and writes what `capcheck` prints of it at the
+// buffer's first bytes. The memory for states is lent to work in: what stood there is forgotten.
+pub fn check(input: &[u8], stored: &mut [Row], copies: &mut [u8], out: &mut [u8]) -> Written
+    ensures { λ r. ⌜ Writes true (checkWith (emptied (statesIn (now (stored .entry)) (now (copies .entry)))) (now (input .entry))) (now (out .entry)) (now (out .exit)) r
+        × (statesIn (now (stored .exit)) (now (copies .exit)) ≡ storedWith (emptied (statesIn (now (stored .entry)) (now (copies .entry)))) (now (input .entry))) ⌝ }
 {
+    forget(stored, copies);
     if 65536 < input.len() {
         return write_long(out);
     }
@@ -110,7 +115,16 @@ pub fn check(input: &[u8], out: &mut [u8]) -> Written
     let mut bits = [0u8; 8192];
     let sheet = card6();
     let unlimited: [u32; 0] = [];
-    let ran = run::run_lent(&mut table, &mut bits, none, &sheet, &unlimited, input);
+    let ran = run::run_lent(
+        &mut table,
+        &mut bits,
+        stored,
+        copies,
+        none,
+        &sheet,
+        &unlimited,
+        input,
+    );
     let answer = ran.answer;
     let issued = ran.tally.issued;
     match answer {
@@ -132,12 +146,12 @@ pub struct Printed {
 }
 
 // Runs an input on 1,024 empty rows, and answers with what `capcheck` prints of it. No input has more to print than the array holds, so
-// this refuses none.
-pub fn check_text(input: &[u8]) -> Printed
-    ensures { λ r. ⌜ (take (r .length) (r .bytes) ≡ checkText (now (input .entry))) × (r .length ≤ 60448) × (length (r .bytes) ≡ 60448) ⌝ }
+// this refuses none. The memory for states is lent to work in.
+pub fn check_text(input: &[u8], stored: &mut [Row], copies: &mut [u8]) -> Printed
+    ensures { λ r. ⌜ (take (r .length) (r .bytes) ≡ checkWith (emptied (statesIn (now (stored .entry)) (now (copies .entry)))) (now (input .entry))) × (r .length ≤ 60448) × (length (r .bytes) ≡ 60448) ⌝ }
 {
     let mut bytes = [0u8; 60448];
-    let written = check(input, &mut bytes);
+    let written = check(input, stored, copies, &mut bytes);
     match written {
         Written::Length(length) => Printed { bytes, length },
         Written::Refused(_) => Printed { bytes, length: 0 },

@@ -3,13 +3,14 @@ use model::Answer;
 use model::Asked;
 use model::Refusal;
 use model::Tally;
+use model::Work;
 use rules::Outcome;
 use rules::Progress;
 use rules::count;
 use rules::steps;
 use table::Row;
 use table::SheetBytes;
-use table::lent::look;
+use table::lent::look_all;
 use table::lent::set_tally;
 use table::lent::tally_at;
 use table::ordered::Look;
@@ -19,20 +20,23 @@ use text::lines;
 use text::read;
 use text::read::EventRead;
 use text::spelling::Spelling;
+use text::states;
+use text::states::StateRead;
 ghost use mathlib.Core.Path.{_≡_};
 ghost use Prim.Native.Nat.{_≤_};
 ghost use Rattle.text.specs.Line.{nextLine};
 ghost use Rattle.text.specs.Read.{same};
 ghost use Rattle.table.specs.Lent;
-ghost use Rattle.table.specs.Known.{Fit};
+ghost use Rattle.table.specs.Known.{FitAll};
+ghost use Rattle.table.specs.States.{statesIn};
 ghost use Rattle.table.specs.Limits.{limitsIn};
 ghost use Rattle.table.specs.Sheets.{sheetIn};
 ghost use Rattle.model.specs.declared.Refusal.the-variants.{Disordered};
 ghost use Rattle.trace.specs.Run;
 ghost use Rattle.trace.specs.declared.run.RunAnswer.the-variants.{Refused};
-ghost use Rattle.trace.specs.Run.{header, ranOf, TakesGroup, Takes, RunsLines, Runs};
+ghost use Rattle.trace.specs.Run.{header, ranOf, TakesState, TakesGroup, Takes, RunsLines, Runs};
 
-// What a run answers: the number of lines allowed, or the refusal and its line number from 1 (0 for refusal 1).
+// What a run answers: the number of lines allowed, or the refusal and its line number from 1 (0 for refusal 1 of what is lent).
 pub enum RunAnswer {
     Allowed(usize),
     Refused(Refusal, usize),
@@ -44,38 +48,43 @@ pub struct RunOutcome {
     pub answer: RunAnswer,
 }
 
-// A line that is no event, on what is fit: the names that it drops together, or refusal 2.
-fn take_group(
+// A line that is neither an event nor a group, on what is fit: a mark or a back, or refusal 2.
+fn take_state(
     table: &mut [Row],
     live: usize,
     places: &mut [u16; 1024],
     bits: &mut [u8],
+    stored: &mut [Row],
+    copies: &mut [u8],
     tally: Tally,
     sheet: &SheetBytes,
     limits: &[u32],
     line: &[u8],
 ) -> Progress
-    requires { ⌜ Fit (now table) (now bits) live (tally .issued) (now limits) (now places) ⌝ }
-    ensures { λ r. ⌜ TakesGroup (sheetIn (now (sheet .entry))) (limitsIn (now (limits .entry))) (now (table .entry)) (now (bits .entry)) tally (now (line .entry)) (now (table .exit)) (now (bits .exit)) (r .outcome)
-        × Fit (now (table .exit)) (now (bits .exit)) (r .live) (r .outcome .tally .issued) (now (limits .entry)) (now (places .exit)) ⌝ }
+    requires { ⌜ FitAll (now table) (now bits) (now stored) (now copies) live (tally .issued) (now limits) (now places) ⌝ }
+    ensures { λ r. ⌜ TakesState (sheetIn (now (sheet .entry))) (limitsIn (now (limits .entry))) (now (line .entry)) (now (table .entry)) (now (bits .entry)) (statesIn (now (stored .entry)) (now (copies .entry))) tally (now (table .exit)) (now (bits .exit)) (statesIn (now (stored .exit)) (now (copies .exit))) (r .outcome)
+        × FitAll (now (table .exit)) (now (bits .exit)) (now (stored .exit)) (now (copies .exit)) (r .live) (r .outcome .tally .issued) (now (limits .entry)) (now (places .exit)) ⌝ }
 {
-    let mut names = [0u32; 64];
-    let found = group::read_group(line, &mut names);
+    let found = states::read_state(line);
     match found {
-        GroupRead::Count(actor, count) => {
+        StateRead::Asked(asked) => {
+            // Neither has a use for names beside it.
+            let none: [u32; 0] = [];
             steps::take(
                 table,
                 live,
                 places,
                 bits,
+                stored,
+                copies,
                 tally,
                 sheet,
                 limits,
-                Asked::Group(actor),
-                &names[..count],
+                asked,
+                &none,
             )
         }
-        GroupRead::Refused(_) => {
+        StateRead::Refused(_) => {
             let counted = count::count_refused(tally);
             let outcome = Outcome {
                 tally: counted,
@@ -86,21 +95,73 @@ fn take_group(
     }
 }
 
-// A line on what is fit: the event that it spells, or names dropped together, or refusal 2.
+// A line that is no event, on what is fit: the names that it drops together, a mark or a back, or refusal 2.
+fn take_group(
+    table: &mut [Row],
+    live: usize,
+    places: &mut [u16; 1024],
+    bits: &mut [u8],
+    stored: &mut [Row],
+    copies: &mut [u8],
+    tally: Tally,
+    sheet: &SheetBytes,
+    limits: &[u32],
+    line: &[u8],
+) -> Progress
+    requires { ⌜ FitAll (now table) (now bits) (now stored) (now copies) live (tally .issued) (now limits) (now places) ⌝ }
+    ensures { λ r. ⌜ TakesGroup (sheetIn (now (sheet .entry))) (limitsIn (now (limits .entry))) (now (line .entry)) (now (table .entry)) (now (bits .entry)) (statesIn (now (stored .entry)) (now (copies .entry))) tally (now (table .exit)) (now (bits .exit)) (statesIn (now (stored .exit)) (now (copies .exit))) (r .outcome)
+        × FitAll (now (table .exit)) (now (bits .exit)) (now (stored .exit)) (now (copies .exit)) (r .live) (r .outcome .tally .issued) (now (limits .entry)) (now (places .exit)) ⌝ }
+{
+    let mut names = [0u32; 64];
+    let found = group::read_group(line, &mut names);
+    match found {
+        GroupRead::Count(actor, count) => {
+            steps::take(
+                table,
+                live,
+                places,
+                bits,
+                stored,
+                copies,
+                tally,
+                sheet,
+                limits,
+                Asked::Work(Work::Group(actor)),
+                &names[..count],
+            )
+        }
+        GroupRead::Refused(_) => take_state(
+            table,
+            live,
+            places,
+            bits,
+            stored,
+            copies,
+            tally,
+            sheet,
+            limits,
+            line,
+        ),
+    }
+}
+
+// A line on what is fit: the event that it spells, names dropped together, a mark or a back, or refusal 2.
 fn take_line(
     table: &mut [Row],
     live: usize,
     places: &mut [u16; 1024],
     bits: &mut [u8],
+    stored: &mut [Row],
+    copies: &mut [u8],
     tally: Tally,
     sheet: &SheetBytes,
     limits: &[u32],
     spelling: Spelling,
     line: &[u8],
 ) -> Progress
-    requires { ⌜ Fit (now table) (now bits) live (tally .issued) (now limits) (now places) ⌝ }
-    ensures { λ r. ⌜ Takes (sheetIn (now (sheet .entry))) (limitsIn (now (limits .entry))) spelling (now (table .entry)) (now (bits .entry)) tally (now (line .entry)) (now (table .exit)) (now (bits .exit)) (r .outcome)
-        × Fit (now (table .exit)) (now (bits .exit)) (r .live) (r .outcome .tally .issued) (now (limits .entry)) (now (places .exit)) ⌝ }
+    requires { ⌜ FitAll (now table) (now bits) (now stored) (now copies) live (tally .issued) (now limits) (now places) ⌝ }
+    ensures { λ r. ⌜ Takes (sheetIn (now (sheet .entry))) (limitsIn (now (limits .entry))) spelling (now (line .entry)) (now (table .entry)) (now (bits .entry)) (statesIn (now (stored .entry)) (now (copies .entry))) tally (now (table .exit)) (now (bits .exit)) (statesIn (now (stored .exit)) (now (copies .exit))) (r .outcome)
+        × FitAll (now (table .exit)) (now (bits .exit)) (now (stored .exit)) (now (copies .exit)) (r .live) (r .outcome .tally .issued) (now (limits .entry)) (now (places .exit)) ⌝ }
 {
     let found = read::read_event(spelling, line);
     match found {
@@ -112,15 +173,28 @@ fn take_line(
                 live,
                 places,
                 bits,
+                stored,
+                copies,
                 tally,
                 sheet,
                 limits,
-                Asked::Single(actor, event),
+                Asked::Work(Work::Single(actor, event)),
                 &none,
             )
         }
         EventRead::Refused(_) => {
-            take_group(table, live, places, bits, tally, sheet, limits, line)
+            take_group(
+                table,
+                live,
+                places,
+                bits,
+                stored,
+                copies,
+                tally,
+                sheet,
+                limits,
+                line,
+            )
         }
     }
 }
@@ -132,6 +206,8 @@ fn run_ordered(
     live: usize,
     places: &mut [u16; 1024],
     bits: &mut [u8],
+    stored: &mut [Row],
+    copies: &mut [u8],
     tally: Tally,
     sheet: &SheetBytes,
     limits: &[u32],
@@ -139,8 +215,8 @@ fn run_ordered(
     before: usize,
     text: &[u8],
 ) -> RunOutcome
-    requires { ⌜ Fit (now table) (now bits) live (tally .issued) (now limits) (now places) × (before ≤ 1) ⌝ }
-    ensures { λ r. ⌜ RunsLines (sheetIn (now (sheet .entry))) (limitsIn (now (limits .entry))) spelling before (now (table .entry)) (now (bits .entry)) tally (now (text .entry)) (now (table .exit)) (now (bits .exit)) r ⌝ }
+    requires { ⌜ FitAll (now table) (now bits) (now stored) (now copies) live (tally .issued) (now limits) (now places) × (before ≤ 1) ⌝ }
+    ensures { λ r. ⌜ RunsLines (sheetIn (now (sheet .entry))) (limitsIn (now (limits .entry))) spelling before (now (table .entry)) (now (bits .entry)) (statesIn (now (stored .entry)) (now (copies .entry))) tally (now (text .entry)) (now (table .exit)) (now (bits .exit)) (statesIn (now (stored .exit)) (now (copies .exit))) r ⌝ }
 {
     let mut left = tally;
     let mut alive = live;
@@ -153,6 +229,8 @@ fn run_ordered(
             alive,
             places,
             bits,
+            stored,
+            copies,
             left,
             sheet,
             limits,
@@ -192,13 +270,15 @@ fn run_text(
     live: usize,
     places: &mut [u16; 1024],
     bits: &mut [u8],
+    stored: &mut [Row],
+    copies: &mut [u8],
     tally: Tally,
     sheet: &SheetBytes,
     limits: &[u32],
     text: &[u8],
 ) -> RunOutcome
-    requires { ⌜ Fit (now table) (now bits) live (tally .issued) (now limits) (now places) ⌝ }
-    ensures { λ r. ⌜ Runs (sheetIn (now (sheet .entry))) (limitsIn (now (limits .entry))) (now (table .entry)) (now (bits .entry)) tally (now (text .entry)) (now (table .exit)) (now (bits .exit)) r ⌝ }
+    requires { ⌜ FitAll (now table) (now bits) (now stored) (now copies) live (tally .issued) (now limits) (now places) ⌝ }
+    ensures { λ r. ⌜ Runs (sheetIn (now (sheet .entry))) (limitsIn (now (limits .entry))) (now (table .entry)) (now (bits .entry)) (statesIn (now (stored .entry)) (now (copies .entry))) tally (now (text .entry)) (now (table .exit)) (now (bits .exit)) (statesIn (now (stored .exit)) (now (copies .exit))) r ⌝ }
 {
     if is_named(text) {
         run_ordered(
@@ -206,6 +286,8 @@ fn run_text(
             live,
             places,
             bits,
+            stored,
+            copies,
             tally,
             sheet,
             limits,
@@ -219,6 +301,8 @@ fn run_text(
             live,
             places,
             bits,
+            stored,
+            copies,
             tally,
             sheet,
             limits,
@@ -239,42 +323,65 @@ fn disordered(tally: Tally) -> RunOutcome
     }
 }
 
-// A run on any table, bits and limits, and a tally by value: a table that is not in order, as above 1,024 rows, is refusal 1, and so are another
-// number of bytes than 8,192, and limits that are refused.
+// A run on any table, bits, memory for states and limits, and a tally by value: a table that is not in order, as above 1,024 rows, is refusal 1,
+// and so are another number of bytes than 8,192, memory of another size, and limits that are refused.
 pub fn run_lent(
     table: &mut [Row],
     bits: &mut [u8],
+    stored: &mut [Row],
+    copies: &mut [u8],
     tally: Tally,
     sheet: &SheetBytes,
     limits: &[u32],
     text: &[u8],
 ) -> RunOutcome
-    ensures { λ r. ⌜ Runs (sheetIn (now (sheet .entry))) (limitsIn (now (limits .entry))) (now (table .entry)) (now (bits .entry)) tally (now (text .entry)) (now (table .exit)) (now (bits .exit)) r ⌝ }
+    ensures { λ r. ⌜ Runs (sheetIn (now (sheet .entry))) (limitsIn (now (limits .entry))) (now (table .entry)) (now (bits .entry)) (statesIn (now (stored .entry)) (now (copies .entry))) tally (now (text .entry)) (now (table .exit)) (now (bits .exit)) (statesIn (now (stored .exit)) (now (copies .exit))) r ⌝ }
 {
     let mut places = [0u16; 1024];
-    let found = look(table, bits, tally.issued, limits, &mut places);
+    let found = look_all(
+        table,
+        bits,
+        stored,
+        copies,
+        tally.issued,
+        limits,
+        &mut places,
+    );
     match found {
         Look::InOrder(live) => {
-            run_text(table, live, &mut places, bits, tally, sheet, limits, text)
+            run_text(
+                table,
+                live,
+                &mut places,
+                bits,
+                stored,
+                copies,
+                tally,
+                sheet,
+                limits,
+                text,
+            )
         }
         Look::Disordered => disordered(tally),
     }
 }
 
-// A run of a text on the table, the bits and the tally that are lent, by a sheet and with limits where some are lent: the number of lines
-// allowed, or the refusal and its line.
+// A run of a text on the table, the bits, the memory for states and the tally that are lent, by a sheet and with limits where some are lent: the
+// number of lines allowed, or the refusal and its line.
 pub fn run(
     table: &mut [Row],
     bits: &mut [u8],
+    stored: &mut [Row],
+    copies: &mut [u8],
     tally: &mut [u32; 7],
     sheet: &SheetBytes,
     limits: &[u32],
     text: &[u8],
 ) -> RunAnswer
-    ensures { λ r. ⌜ ranOf r (Lent.lent (now (table .exit)) (now (bits .exit)) (now (tally .exit))) ≡ Run.run (sheetIn (now (sheet .entry))) (limitsIn (now (limits .entry))) (Lent.lent (now (table .entry)) (now (bits .entry)) (now (tally .entry))) (now (text .entry)) ⌝ }
+    ensures { λ r. ⌜ ranOf r (Lent.lent (now (table .exit)) (now (bits .exit)) (now (stored .exit)) (now (copies .exit)) (now (tally .exit))) ≡ Run.run (sheetIn (now (sheet .entry))) (limitsIn (now (limits .entry))) (Lent.lent (now (table .entry)) (now (bits .entry)) (now (stored .entry)) (now (copies .entry)) (now (tally .entry))) (now (text .entry)) ⌝ }
 {
     let t = tally_at(tally);
-    let out = run_lent(table, bits, t, sheet, limits, text);
+    let out = run_lent(table, bits, stored, copies, t, sheet, limits, text);
     let after = out.tally;
     set_tally(tally, after);
     let answer = out.answer;

@@ -1,4 +1,4 @@
-// Document 01's traces and examples of refusals, and those of cards 1, 7, 9 and 10, run and printed. The file `stdout` beside src/ has what the papers
+// Document 01's traces and examples of refusals, and those of cards 1, 7 and 9 to 11, run and printed. The file `stdout` beside src/ has what the papers
 // say of them.
 use libc::STDOUT_FILENO;
 use listing::reading;
@@ -42,12 +42,36 @@ fn print_answer(answer: RunAnswer) {
     }
 }
 
-// Runs a trace on a table and bits, and prints the refusal, 0 where every line is allowed, and the number of lines or the line.
-fn run_with(table: &mut [Row], bits: &mut [u8], issued: u32, limits: &[u32], input: &[u8]) {
+// Runs a trace on all that is lent, and prints the refusal, 0 where every line is allowed, and the number of lines or the line.
+fn run_stored(
+    table: &mut [Row],
+    bits: &mut [u8],
+    stored: &mut [Row],
+    copies: &mut [u8],
+    issued: u32,
+    limits: &[u32],
+    input: &[u8],
+) {
     let sheet = card6();
-    let ran = run::run_lent(table, bits, issued_so_far(issued), &sheet, limits, input);
+    let ran = run::run_lent(
+        table,
+        bits,
+        stored,
+        copies,
+        issued_so_far(issued),
+        &sheet,
+        limits,
+        input,
+    );
     let answer = ran.answer;
     print_answer(answer);
+}
+
+// The same with nothing stored.
+fn run_with(table: &mut [Row], bits: &mut [u8], issued: u32, limits: &[u32], input: &[u8]) {
+    let mut stored = [[0u32; WIDTH]; 8200];
+    let mut copies = [0u8; 65536];
+    run_stored(table, bits, &mut stored, &mut copies, issued, limits, input);
 }
 
 // The same with nothing written, and with no limits.
@@ -88,9 +112,13 @@ fn last_name() {
     reading::read_listing(b"(issued 999999)\n", &mut table, &mut tally);
     let sheet = card6();
     let unlimited: [u32; 0] = [];
+    let mut stored = [[0u32; WIDTH]; 8200];
+    let mut copies = [0u8; 65536];
     let answer = run::run(
         &mut table,
         &mut bits,
+        &mut stored,
+        &mut copies,
         &mut tally,
         &sheet,
         &unlimited,
@@ -110,9 +138,13 @@ fn run_by(text: &[u8], input: &[u8]) {
     let mut table = [[0u32; WIDTH]; 1024];
     let mut bits = [0u8; 8192];
     let unlimited: [u32; 0] = [];
+    let mut stored = [[0u32; WIDTH]; 8200];
+    let mut copies = [0u8; 65536];
     let ran = run::run_lent(
         &mut table,
         &mut bits,
+        &mut stored,
+        &mut copies,
         issued_so_far(0),
         &sheet,
         &unlimited,
@@ -279,6 +311,83 @@ fn limited() {
     run_with(&mut table, &mut bits, 0, &short, b"(create 0 8 rw)\n");
 }
 
+// Card 11: what a drop took comes back, and a name given since is ended; a back that finds nothing, before a mark and in another slot; and slots
+// that are none.
+fn states() {
+    console::print_check(b"(create 0 8 rw)\n(mark 3)\n(drop 1)\n(back 3)\n(read 1 0 8)\n");
+    console::print_check(
+        b"(create 0 8 rw)\n(as 7 (mark 0))\n(borrow 1 0 8 rw)\n(back 0)\n(create 8 8 rw)\n(read 2 0 8)\n",
+    );
+    console::print_check(b"(back 7)\n");
+    console::print_check(b"(mark 1)\n(back 1)\n(back 2)\n");
+    console::print_check(b"(mark 8)\n");
+    console::print_check(b"(as 64 (mark 0))\n");
+}
+
+// Card 11: memory that is a row short.
+fn rows_short() {
+    let mut table = [[0u32; WIDTH]; 2];
+    let mut bits = [0u8; 8192];
+    let mut stored = [[0u32; WIDTH]; 8199];
+    let mut copies = [0u8; 65536];
+    let unlimited: [u32; 0] = [];
+    run_stored(
+        &mut table,
+        &mut bits,
+        &mut stored,
+        &mut copies,
+        0,
+        &unlimited,
+        b"(mark 0)\n",
+    );
+}
+
+// Memory that is a byte short.
+fn bytes_short() {
+    let mut table = [[0u32; WIDTH]; 2];
+    let mut bits = [0u8; 8192];
+    let mut stored = [[0u32; WIDTH]; 8200];
+    let mut copies = [0u8; 65535];
+    let unlimited: [u32; 0] = [];
+    run_stored(
+        &mut table,
+        &mut bits,
+        &mut stored,
+        &mut copies,
+        0,
+        &unlimited,
+        b"(mark 0)\n",
+    );
+}
+
+// A state that was stored on fewer rows: the line that goes back to it is 1, and those before it stand.
+fn rows_differ() {
+    let mut two = [[0u32; WIDTH]; 2];
+    let mut three = [[0u32; WIDTH]; 3];
+    let mut bits = [0u8; 8192];
+    let mut stored = [[0u32; WIDTH]; 8200];
+    let mut copies = [0u8; 65536];
+    let unlimited: [u32; 0] = [];
+    run_stored(
+        &mut two,
+        &mut bits,
+        &mut stored,
+        &mut copies,
+        0,
+        &unlimited,
+        b"(mark 0)\n",
+    );
+    run_stored(
+        &mut three,
+        &mut bits,
+        &mut stored,
+        &mut copies,
+        0,
+        &unlimited,
+        b"(create 0 8 rw)\n(back 0)\n",
+    );
+}
+
 fn main() {
     traces();
     named();
@@ -290,4 +399,8 @@ fn main() {
     few_bits();
     domains();
     limited();
+    states();
+    rows_short();
+    bytes_short();
+    rows_differ();
 }

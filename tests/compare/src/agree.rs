@@ -11,6 +11,8 @@ use oracle::{Act, Charge, Fields, Refused, Row, Sheet, Span, Spelling, Tally, Wr
 use crate::domains;
 use crate::report::{Checked, Met, MetAnswers, check_few};
 use crate::sheets;
+use crate::slots::{self, Room, Slots};
+use crate::states;
 use crate::strikes;
 use crate::written;
 
@@ -25,25 +27,49 @@ pub type Agreed = Result<(), String>;
 pub struct Lent {
     pub rows: Vec<Row>,
     pub bits: Bits,
+    pub slots: Slots,
     pub tally: Tally,
     /// Numbers of limits, none where no limits are lent.
     pub limits: Vec<u32>,
 }
 
 impl Lent {
-    /// These rows and this tally, with nothing written and without limits.
+    /// These rows and this tally, with nothing written, nothing stored and without limits.
     pub fn of(rows: Vec<Row>, tally: Tally) -> Lent {
         Lent {
             rows,
             bits: Bits::Of(Written::default()),
+            slots: Slots::nothing(),
             tally,
             limits: Vec::new(),
         }
     }
 
-    /// So many empty rows, nothing written, and a tally of zeros.
+    /// So many empty rows, nothing written, nothing stored, and a tally of zeros.
     pub fn empty(rows: usize) -> Lent {
         Lent::of(vec![Row::default(); rows], Tally::default())
+    }
+
+    /// The same for the oracle, and what is lent besides.
+    fn oracle_by<'a>(&'a mut self, by: By<'a>) -> (oracle::By<'a>, oracle::Lent<'a>) {
+        let Lent {
+            rows,
+            bits,
+            slots,
+            tally,
+            limits,
+        } = self;
+        let lent = oracle::Lent {
+            rows,
+            written: bits.written_mut(),
+            states: slots.states_mut(),
+            tally,
+        };
+        let by = oracle::By {
+            sheet: sheet_of(by),
+            limits,
+        };
+        (by, lent)
     }
 }
 
@@ -223,10 +249,11 @@ pub fn same_answer(expected: u64, found: u64) -> Agreed {
     same("answer (number, value)", parts(expected), parts(found))
 }
 
-/// The table, written bits and tally that a call left, and the limits, which no call can change.
+/// The table, written bits, states and tally that a call left, and the limits, which no call can change.
 pub struct Found {
     table: Vec<Cap>,
     written: Vec<u8>,
+    slots: Slots,
     tally: interface::Tally,
     limits: Vec<u32>,
 }
@@ -237,19 +264,23 @@ impl Found {
         Lent {
             rows: self.table.iter().map(row_of).collect(),
             bits: Bits::lent(&self.written),
+            slots: self.slots,
             tally: oracle_tally(self.tally),
             limits: self.limits,
         }
     }
 }
 
-/// Whether a call left what it should.
-fn same_lent(expected: &Lent, found: &Found) -> Agreed {
+/// Whether a call left what it should. Words that are kept are then as the call left them.
+fn same_lent(expected: &mut Lent, found: Found) -> Agreed {
     for (at, (row, cap)) in expected.rows.iter().zip(&found.table).enumerate() {
         same(&format!("row {at}"), cap_of(row), *cap)?;
     }
     same_bits(&expected.bits.bytes(), &found.written)?;
-    same("tally", interface_tally(expected.tally), found.tally)
+    same("states", expected.slots.states(), found.slots.states())?;
+    same("tally", interface_tally(expected.tally), found.tally)?;
+    expected.slots.keep(found.slots);
+    Ok(())
 }
 
 fn same_bits(expected: &[u8], found: &[u8]) -> Agreed {
@@ -263,7 +294,7 @@ fn same_bits(expected: &[u8], found: &[u8]) -> Agreed {
 }
 
 /// A row that stands after the lent ones and is not the call's to write.
-const GUARD_ROW: Cap = Cap {
+pub const GUARD_ROW: Cap = Cap {
     name: 0xA5A5_A5A5,
     parent: 1,
     start: 2,
@@ -294,7 +325,7 @@ pub fn cap_of(row: &Row) -> Cap {
     }
 }
 
-fn row_of(cap: &Cap) -> Row {
+pub fn row_of(cap: &Cap) -> Row {
     Row {
         name: cap.name,
         parent: cap.parent,
@@ -340,10 +371,14 @@ pub fn lend(lent: &Lent, call: impl FnOnce(Memory) -> u64) -> Result<(u64, Found
     let mut written = lent.bits.bytes();
     let bytes = written.len();
     written.extend([GUARD_BYTE; GUARD_BYTES]);
+    let mut room = Room::of(&lent.slots);
+    let (stored, stored_bits) = room.lent();
     let mut tally = interface_tally(lent.tally);
     let answer = call(Memory {
         table: &mut table[..lent.rows.len()],
         written: &mut written[..bytes],
+        stored,
+        stored_bits,
         tally: &mut tally,
         limits: &lent.limits,
     });
@@ -357,6 +392,7 @@ pub fn lend(lent: &Lent, call: impl FnOnce(Memory) -> u64) -> Result<(u64, Found
     let found = Found {
         table,
         written,
+        slots: room.found(&lent.slots)?,
         tally,
         limits: lent.limits.clone(),
     };
@@ -420,18 +456,9 @@ pub fn oracle_apply_by(by: By, lent: &mut Lent, event: Event) -> Result<u32, Ref
     oracle_take(by, lent, oracle_act(event))
 }
 
-/// What is lent besides what events change.
-fn besides<'a>(by: By<'a>, limits: &'a [u32]) -> oracle::By<'a> {
-    oracle::By {
-        sheet: sheet_of(by),
-        limits,
-    }
-}
-
 pub fn oracle_take(by: By, lent: &mut Lent, act: Act) -> Result<u32, Refused> {
-    let by = besides(by, &lent.limits);
-    let written = lent.bits.written_mut();
-    oracle::apply(by, &mut lent.rows, written, &mut lent.tally, act)
+    let (by, lent) = lent.oracle_by(by);
+    oracle::apply(by, lent, act)
 }
 
 /// One event on what is lent, which is then as the event leaves it.
@@ -458,9 +485,10 @@ pub fn apply_by(subject: Subject, by: By, lent: &mut Lent, event: Event) -> Resu
     }
     written::count(&before, event, verdict);
     domains::count(&before, event, verdict);
+    states::count(&before, lent, event, verdict);
     MET.count_answer(verdict);
     same_answer(packed(verdict), answer)?;
-    same_lent(lent, &found)?;
+    same_lent(lent, found)?;
     Ok(answer)
 }
 
@@ -504,7 +532,7 @@ pub fn apply_words_by(
     let verdict = oracle_ask(by, lent, words, names);
     MET.count_answer(verdict);
     same_answer(packed(verdict), answer)?;
-    same_lent(lent, &found)?;
+    same_lent(lent, found)?;
     Ok(answer)
 }
 
@@ -552,7 +580,7 @@ pub fn apply_all_by(
             found,
         )?;
     }
-    same_lent(lent, &found).map_err(|why| format!("in one call: {why}"))?;
+    same_lent(lent, found).map_err(|why| format!("in one call: {why}"))?;
     answers.truncate(count);
     Ok(answers)
 }
@@ -568,19 +596,21 @@ pub fn check_rows(lent: &Lent, check: impl Fn(Lent) -> Agreed) -> Agreed {
     check_few(&lent.rows, with_rows).map_err(|(why, rows)| {
         let Lent {
             bits,
+            slots,
             tally,
             limits,
             ..
         } = lent;
-        format!("{why}\n  rows {rows:?}\n  bits {bits:?}\n  tally {tally:?}\n  limits {limits:?}")
+        format!(
+            "{why}\n  rows {rows:?}\n  bits {bits:?}\n  {slots:?}\n  tally {tally:?}\n  limits {limits:?}"
+        )
     })
 }
 
 /// Names that a domain drops together, by the oracle alone.
 pub fn oracle_drop_all(lent: &mut Lent, actor: u32, names: &[u32]) -> Result<u32, Refused> {
-    let by = besides(None, &lent.limits);
-    let written = lent.bits.written();
-    oracle::drop_all(by, &mut lent.rows, written, &mut lent.tally, actor, names)
+    let (by, lent) = lent.oracle_by(None);
+    oracle::drop_all(by, lent, actor, names)
 }
 
 /// Names that a domain drops together on what is lent, which is then as the call leaves it.
@@ -611,7 +641,7 @@ pub fn drop_all_by(
     domains::count_drop(&before, actor, names, verdict);
     MET.count_answer(verdict);
     same_answer(packed(verdict), answer)?;
-    same_lent(lent, &found)?;
+    same_lent(lent, found)?;
     Ok(answer)
 }
 
@@ -631,11 +661,10 @@ pub fn run(subject: Subject, lent: &mut Lent, text: &[u8]) -> Result<u64, String
 /// The same by a sheet.
 pub fn run_by(subject: Subject, by: By, lent: &mut Lent, text: &[u8]) -> Result<u64, String> {
     let (answer, found) = lend(lent, |memory| subject.run_by(bytes_of(by), memory, text))?;
-    let by = besides(by, &lent.limits);
-    let written = lent.bits.written_mut();
-    let verdict = oracle::run(by, &mut lent.rows, written, &mut lent.tally, text);
+    let (by, oracle_lent) = lent.oracle_by(by);
+    let verdict = oracle::run(by, oracle_lent, text);
     same_answer(packed_run(verdict), answer)?;
-    same_lent(lent, &found)?;
+    same_lent(lent, found)?;
     Ok(answer)
 }
 
@@ -757,11 +786,30 @@ pub fn write_listing(subject: Subject, lent: &Lent) -> Agreed {
     )
 }
 
+/// What capcheck prints, in memory as the last such call left it.
 pub fn check(subject: Subject, input: &[u8]) -> Agreed {
     into_buffers(
         |size| oracle::check(input, size),
-        |out| subject.check(input, out),
+        |out| print(subject, input, out),
     )
+}
+
+/// The same in other memory, of the right size or another.
+pub fn check_in(subject: Subject, slots: &Slots, input: &[u8]) -> Agreed {
+    let expected = |size| match slots.states() {
+        Some(_) => oracle::check(input, size),
+        None => oracle::check_without_states(input, size),
+    };
+    into_buffers(expected, |out| {
+        slots::working_in(slots, |stored, bits| {
+            subject.check(input, stored, bits, out)
+        })
+    })
+}
+
+/// What capcheck prints, by a call alone.
+pub fn print(subject: Subject, input: &[u8], out: &mut [u8]) -> u64 {
+    slots::working(|stored, bits| subject.check(input, stored, bits, out))
 }
 
 /// A listing that is read leaves the bits, which the call is not lent.
@@ -776,16 +824,16 @@ pub fn read_listing(subject: Subject, text: &[u8], lent: &Lent) -> Agreed {
                 ..lent.tally
             };
             same_answer(packed(Ok(0)), answer)?;
-            let read = Lent {
+            let mut read = Lent {
                 rows,
                 tally,
                 ..lent.clone()
             };
-            same_lent(&read, &found)
+            same_lent(&mut read, found)
         }
         Err(number) => {
             same_answer(packed(Err(number)), answer)?;
-            same_lent(lent, &found)
+            same_lent(&mut lent.clone(), found)
         }
     }
 }
@@ -837,10 +885,10 @@ pub fn write_sheet_into(subject: Subject, sheet: &[u8], size: usize) -> Agreed {
 }
 
 /// Bytes that stand after an output buffer, or after lent bits, and are not the call's to write.
-const GUARD_BYTES: usize = 32;
+pub const GUARD_BYTES: usize = 32;
 
 /// What those after lent bits are.
-const GUARD_BYTE: u8 = 0x5A;
+pub const GUARD_BYTE: u8 = 0x5A;
 
 /// Writes into output buffers that are too short, just long enough and longer.
 fn into_buffers(

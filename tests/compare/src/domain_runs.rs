@@ -94,7 +94,7 @@ impl Setting {
 
     /// A request that has something to do with what is lent.
     fn request(&self, random: &mut Random, lent: &Lent) -> Request {
-        let request = sheets::request(random, lent, self.area, self.spelling);
+        let request = sheets::turning_request(random, lent, self.area, self.spelling);
         let Request::Single(event) = request else {
             return request;
         };
@@ -351,15 +351,16 @@ fn said(counts: &independence::Counts) -> Result<String, String> {
         allowed,
         limited,
         ended,
+        backs,
         others,
         ..
     } = counts;
     let said = format!(
-        "{pairs} pairs, in the first of which the domain was allowed {allowed} requests, \
-         refused 18 {limited} and 5 {ended}, and others were allowed {others}"
+        "{pairs} pairs, in the first of which the domain was allowed {allowed} requests, went back {backs} \
+         times, was refused 18 {limited} and 5 {ended}, and others were allowed {others}"
     );
     let met = [allowed, limited, ended, others];
-    match met.into_iter().all(|met| *met > pairs / 3) {
+    match met.into_iter().all(|met| *met > pairs / 3) && *backs > pairs / 6 {
         true => Ok(said),
         false => Err(said),
     }

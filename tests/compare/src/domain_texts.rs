@@ -90,7 +90,7 @@ fn check_line(subject: Subject, line: &[u8]) -> Agreed {
 }
 
 /// Events, and two kinds that are none. Names dropped together are written by a call of their own.
-const KINDS: [u8; 7] = [0, 1, 2, 3, 4, 5, 7];
+const KINDS: [u8; 9] = [0, 1, 2, 3, 4, 5, 7, 8, 9];
 
 /// Every domain, and numbers that are none, in every event with each sort of mask; what has a line is read.
 fn written(subject: Subject) -> Checked {

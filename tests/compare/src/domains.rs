@@ -183,7 +183,7 @@ fn count_sorts(before: &Lent, event: Event, verdict: Result<u32, Refused>) {
         holders,
         ..
     } = event;
-    let user = find(before, event.name).filter(|_| kind != 1);
+    let user = find(before, event.name).filter(|_| matches!(kind, 2..=5));
     let [allowed, no_holder, reached] =
         [Ok(()), Err(17), Err(18)].map(|one| one == verdict.map(|_| ()));
     let is = |wanted: u8| kind == wanted;
@@ -243,7 +243,7 @@ fn count_unknown(event: Event) {
 /// Counts a table that is in order but for its domains, or refused for its limits alone.
 fn count_disorder(lent: &Lent) {
     let issued = lent.tally.issued;
-    if lent.bits.written().is_none() {
+    if lent.bits.written().is_none() || lent.slots.states().is_none() {
         return;
     }
     if oracle::in_order(&lent.rows, issued) {
@@ -272,7 +272,11 @@ fn count_disorder(lent: &Lent) {
     }
 }
 
+/// Of a table that goes with its limits it is what a back goes to that does not fit.
 fn count_limits(lent: &Lent) {
+    if !Limits::lent(&lent.limits).is_refused(&lent.rows) {
+        return;
+    }
     let Limits::Each(limits) = Limits::lent(&lent.limits) else {
         return count_refused(6, !lent.limits.is_empty());
     };

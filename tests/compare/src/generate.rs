@@ -1,4 +1,4 @@
-//! Random tables, written bits, tallies, events and texts.
+//! Random tables, written bits, states, tallies, events and texts.
 
 use interface::Event;
 use oracle::random::Random;
@@ -12,6 +12,8 @@ use crate::acting::{
     holders_asked, some_limits,
 };
 use crate::agree::{self, Bits, Lent, oracle_act};
+use crate::slots::Slots;
+use crate::turning;
 
 /// The shape of a table in order.
 pub struct Shape {
@@ -153,7 +155,8 @@ pub fn other_bits(random: &mut Random) -> Bits {
     Bits::lent(&vec![random.pick(&[0, 1, 255]); length])
 }
 
-/// A table in order, with an issued number that fits it, bits of the same area, and at times limits.
+/// A table in order, with an issued number that fits it, bits of the same area, and at times limits and stored
+/// states.
 pub fn ordered(random: &mut Random, shape: &Shape) -> Lent {
     let area = area(random);
     let cast = cast(random);
@@ -178,12 +181,15 @@ pub fn ordered(random: &mut Random, shape: &Shape) -> Lent {
     };
     let bits = bits(random, area);
     let limits = some_limits(random, &rows, &cast);
-    Lent {
+    let mut lent = Lent {
         rows,
         bits,
+        slots: Slots::nothing(),
         tally,
         limits,
-    }
+    };
+    lent.slots = turning::some_slots(random, &lent);
+    lent
 }
 
 /// A table in order with one tree, whose capabilities have one span and most of them a kind: whatever
@@ -277,8 +283,8 @@ pub fn noise_row(random: &mut Random) -> Row {
     }
 }
 
-/// Changes something of a lent table, of its issued number, of how many bits are lent or of the limits. It may
-/// still be in order then.
+/// Changes something of a lent table, of its issued number, of how many bits are lent, of the states or of the
+/// limits. It may still be in order then.
 pub fn disturb(random: &mut Random, lent: &mut Lent) {
     if lent.rows.is_empty() || random.one_in(8) {
         let last_name = oracle::live_rows(&lent.rows)
@@ -295,7 +301,7 @@ pub fn disturb(random: &mut Random, lent: &mut Lent) {
         return;
     }
     let (one, other) = (random.index(lent.rows.len()), random.index(lent.rows.len()));
-    match random.below(25) {
+    match random.below(26) {
         0 => lent.rows.swap(one, other),
         1 => lent.rows[one] = lent.rows[other],
         2 => lent.rows[one] = Row::default(),
@@ -313,6 +319,7 @@ pub fn disturb(random: &mut Random, lent: &mut Lent) {
         13 => lent.rows[one].maker = random.below(64) as u32,
         14 => disturb_holders(random, &mut lent.rows[one]),
         15 | 16 => disturb_limits(random, lent),
+        17 => turning::disturb_slots(random, lent),
         _ => disturb_field(random, &mut lent.rows[one]),
     }
 }
@@ -367,6 +374,9 @@ fn near(random: &mut Random, number: u32) -> u32 {
 /// An event that has something to do with the table, in the named spelling with a written name.
 /// Values that its kind lacks are filled too, because nobody may look at them.
 fn event(random: &mut Random, lent: &Lent, area: Span, spelling: Spelling) -> Event {
+    if random.one_in(24) {
+        return turning::turn(random, lent);
+    }
     let live = oracle::live_rows(&lent.rows);
     let user = match random.below(6) {
         0 => None,
@@ -374,7 +384,7 @@ fn event(random: &mut Random, lent: &Lent, area: Span, spelling: Spelling) -> Ev
         _ => live.get(random.index(live.len().max(1))).copied(),
     };
     let kind = match random.one_in(50) {
-        true => random.pick(&[0, 7, 8, 128, 255]),
+        true => random.pick(&[0, 9, 10, 128, 255]),
         false => random.pick(&[1, 2, 2, 2, 3, 3, 4, 4, 5]),
     };
     let outer = user.map_or(area, |user| user.span());
@@ -688,10 +698,12 @@ pub fn trace(events: &[Event], spelling: Spelling) -> Vec<u8> {
 }
 
 /// Bytes that mean something somewhere in a text, and some that mean nothing.
-const BYTES: &[u8] = b"0123456789abcdefhloprstuw ()\n\t\r-+.,\0\x7f\x80\xffRWAF";
+const BYTES: &[u8] = b"0123456789abcdefhklmoprstuw ()\n\t\r-+.,\0\x7f\x80\xffRWAF";
 
-/// Words that are kinds, marks, masks or domains somewhere, and some that are none anywhere.
-const WORDS: [&[u8]; 13] = [
+/// Words that are lines, kinds, marks, masks or domains somewhere, and some that are none anywhere.
+const WORDS: [&[u8]; 15] = [
+    b"(mark 3)\n",
+    b"(back 0)\n",
     b" 0000000000000001",
     b" 0000000000000003",
     b" ffffffffffffffff",

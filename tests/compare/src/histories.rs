@@ -2,7 +2,7 @@
 
 use std::collections::BTreeSet;
 
-use interface::Event;
+use interface::{BACK, Event};
 use oracle::random::Random;
 use oracle::{Act, History, MAX_ROWS, Span, Spelling};
 
@@ -174,6 +174,7 @@ fn follow(subject: Subject, by: By, mut lent: Lent, requests: &[Limited]) -> Agr
         }
         let written = history.written();
         same("history: written", Some(&written), lent.bits.written())?;
+        lost.follow(request, expected);
         lost.check(&lent)?;
     }
     let last_spans = match by {
@@ -227,7 +228,7 @@ fn answer_all(
     Ok(expected)
 }
 
-/// Names that have ended, and names that are not `rw`: neither ever changes back.
+/// Names that have ended, and names that are not `rw`: neither ever changes back but by a back.
 #[derive(Default)]
 struct Lost {
     ended: BTreeSet<u32>,
@@ -235,6 +236,14 @@ struct Lost {
 }
 
 impl Lost {
+    /// Card 11: 'here alone a right may return'.
+    fn follow(&mut self, request: &Request, answer: Result<u32, u8>) {
+        let goes_back = matches!(request, Request::Single(event) if event.kind == BACK);
+        if goes_back && answer.is_ok() {
+            *self = Lost::default();
+        }
+    }
+
     fn check(&mut self, lent: &Lent) -> Agreed {
         for name in 1..=lent.tally.issued {
             let row = lent.rows.iter().find(|row| row.name == name);

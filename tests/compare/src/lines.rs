@@ -1,8 +1,8 @@
 //! Event lines, written and read, in both spellings.
 
-use interface::Event;
-use oracle::Spelling;
+use interface::{BACK, Event, MARK};
 use oracle::random::Random;
+use oracle::{SLOTS, Spelling};
 
 use crate::acting;
 use crate::agree::{self, Agreed, Subject};
@@ -10,7 +10,11 @@ use crate::generate;
 use crate::report::{Checked, Report, check_few};
 
 /// One line of each kind and some that are nearly lines.
-const SAMPLES: [&str; 15] = [
+const SAMPLES: [&str; 19] = [
+    "(mark 0)\n",
+    "(back 7)\n",
+    "(as 2 (mark 3))\n",
+    "(mark 8)\n",
     "(create 0 64 rw)\n",
     "(create 8 8 ro fresh)\n",
     "(create 4294967295 1 ro)\n",
@@ -29,7 +33,9 @@ const SAMPLES: [&str; 15] = [
 ];
 
 /// The same for the named spelling, and lines of the plain one.
-const NAMED_SAMPLES: [&str; 17] = [
+const NAMED_SAMPLES: [&str; 19] = [
+    "(mark 7)\n",
+    "(as 63 (back 0))\n",
     "(create 1 0 64 rw)\n",
     "(create 1 0 8 rw fresh)\n",
     "(create 4294967295 4294967295 1 ro)\n",
@@ -114,8 +120,12 @@ pub fn groups(report: &mut Report, subject: Subject) {
 /// An event of any numbers.
 fn random_event(random: &mut Random, spelling: Spelling) -> Event {
     let kind = match random.one_in(20) {
-        true => random.pick(&[0, 7, 8, 9, 100, 127, 128, 254, 255]),
-        false => random.between(1, 5) as u8,
+        true => random.pick(&[0, 9, 10, 100, 127, 128, 254, 255]),
+        false => random.pick(&[1, 2, 3, 4, 5, MARK, BACK]),
+    };
+    let name = match matches!(kind, MARK | BACK) && !random.one_in(8) {
+        true => random.below(SLOTS.into()) as u32,
+        false => random.number(),
     };
     let cap_kind = generate::cap_kind(random, kind);
     let fresh = generate::mark(random, kind);
@@ -123,7 +133,7 @@ fn random_event(random: &mut Random, spelling: Spelling) -> Event {
     let holders = acting::holders_asked(random, &[], actor, kind);
     Event {
         kind,
-        name: random.number(),
+        name,
         start: random.number(),
         length: random.number(),
         right: match random.one_in(20) {
@@ -226,6 +236,8 @@ fn words(subject: Subject) -> Checked {
     };
     for first in NUMBERS {
         one(format!("(drop {first})\n"))?;
+        one(format!("(mark {first})\n"))?;
+        one(format!("(back {first})\n"))?;
         for second in NUMBERS {
             one(format!("(read {first} 0 {second})\n"))?;
             one(format!("(write 1 {first} {second})\n"))?;

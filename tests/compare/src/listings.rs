@@ -101,6 +101,7 @@ fn lent_for(random: &mut Random, listed: &Lent) -> Lent {
     Lent {
         rows: vec![old_row; rows],
         bits,
+        slots: listed.slots.clone(),
         tally,
         limits: listed.limits.clone(),
     }

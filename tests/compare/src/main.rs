@@ -25,10 +25,14 @@ mod report;
 mod runs;
 mod sheet_texts;
 mod sheets;
+mod slots;
 mod spellings;
+mod state_runs;
+mod states;
 mod strikes;
 mod thinned;
 mod together;
+mod turning;
 mod written;
 
 use std::env;
@@ -102,7 +106,10 @@ fn main() -> ExitCode {
     domain_texts::groups(&mut report, subject);
     domain_runs::groups(&mut report, subject);
     charges::groups(&mut report, subject);
+    states::groups(&mut report, subject);
+    state_runs::groups(&mut report, subject);
     domains::met(&mut report);
+    states::met(&mut report);
     report.met("every answer of an event was met", agree::every_answer_met);
     report.met(
         "every answer of the history was met",

@@ -106,7 +106,7 @@ impl<const SORTS: usize> Met<SORTS> {
 }
 
 /// How often requests were allowed, and refused by each number.
-pub type MetAnswers = Met<19>;
+pub type MetAnswers = Met<20>;
 
 impl MetAnswers {
     /// Counts an answer by its refusal, 0 for none.
@@ -128,7 +128,7 @@ impl MetAnswers {
         let as_due = |number: usize| (met[number] > 0) != never.contains(&number);
         match (0..met.len()).all(as_due) {
             true => Ok(met.iter().sum()),
-            false => Err(format!("allowed and refusals 1 to 18: {met:?}")),
+            false => Err(format!("allowed and refusals 1 to 19: {met:?}")),
         }
     }
 }

@@ -18,6 +18,7 @@ use crate::histories::check_list_by;
 use crate::kinds::{self, Node, for_trees};
 use crate::lines::check_text;
 use crate::report::{Checked, Met, MetAnswers, Report, check_few};
+use crate::turning;
 
 /// How many sheets there are, each with a list of its own.
 const LISTS: u64 = 100_000;
@@ -211,7 +212,20 @@ pub fn area(random: &mut Random) -> Span {
     }
 }
 
-/// A request on what is lent, over few addresses.
+/// A request on what is lent, over few addresses, or at times a mark or a back.
+pub fn turning_request(
+    random: &mut Random,
+    lent: &Lent,
+    area: Span,
+    spelling: Spelling,
+) -> Request {
+    match random.one_in(40) {
+        true => Request::Single(turning::turn(random, lent)),
+        false => request(random, lent, area, spelling),
+    }
+}
+
+/// A request on what is lent, over few addresses, that neither marks nor goes back.
 pub fn request(random: &mut Random, lent: &Lent, area: Span, spelling: Spelling) -> Request {
     let live = oracle::live_rows(&lent.rows);
     if random.one_in(24) {
@@ -289,7 +303,7 @@ fn spoilt(random: &mut Random, event: Event, issued: u32) -> Event {
             ..event
         },
         _ => Event {
-            kind: random.pick(&[0, 7, 255]),
+            kind: random.pick(&[0, 9, 255]),
             ..event
         },
     }
@@ -310,11 +324,11 @@ pub fn requests(
     let area = area(random);
     let mut requests = Vec::with_capacity(count);
     for _ in 0..count {
-        let mut next = request(random, &lent, area, spelling);
+        let mut next = turning_request(random, &lent, area, spelling);
         let mut after = lent.clone();
         let mut tries = random.below(3);
         while oracle_answer(by, &mut after, &next).is_err() && tries > 0 {
-            next = request(random, &lent, area, spelling);
+            next = turning_request(random, &lent, area, spelling);
             after = lent.clone();
             tries -= 1;
         }

@@ -14,6 +14,7 @@ use crate::generate::{self, Request, Shape};
 use crate::report::{Met, Report, check_few};
 use crate::sheets;
 use crate::strikes::path;
+use crate::turning;
 
 /// Lists of one sort: how many of them, by which sheets, and on which tables.
 struct Lists {
@@ -152,7 +153,7 @@ impl Start<'_> {
             return Ok(());
         }
         let mut out = vec![0; LONGEST_CHECK];
-        let length = self.subject.check(text, &mut out);
+        let length = agree::print(self.subject, text, &mut out);
         let expected = format!("(allowed {lines})\n").into_bytes();
         let expected = [expected, listing(self.subject, left)?].concat();
         same_answer(expected.len() as u64, length)?;
@@ -592,7 +593,9 @@ fn before_refusals(random: &mut Random, subject: Subject) -> Result<String, Stri
             lent: &lent,
         };
         let count = random.between(8, 40);
-        let requests = sheets::requests(random, &by, lent.clone(), count, Spelling::Plain);
+        let mut requests = sheets::requests(random, &by, lent.clone(), count, Spelling::Plain);
+        requests.retain(|request| !turning::turns(request));
+        let count = requests.len();
         let whole = start.ask(&requests)?;
         let places = (0..count).filter(|at| is_read(&requests[*at]) && whole.answers[*at][0] == 0);
         for at in places {

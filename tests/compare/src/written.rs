@@ -19,6 +19,7 @@ use crate::lines::check_text;
 use crate::many::{self, check_words};
 use crate::report::{Checked, Counts, Met, MetAnswers, Report, check_few};
 use crate::sheets;
+use crate::turning;
 
 pub fn groups(report: &mut Report, subject: Subject) {
     report.group("written bits by every span over a few bytes", |_| {
@@ -555,6 +556,9 @@ fn inside(random: &mut Random, outer: Span) -> Span {
 
 /// A request that has something to do with what is lent.
 fn request(random: &mut Random, lent: &Lent, area: Span, spelling: Spelling) -> Request {
+    if random.one_in(24) {
+        return Request::Single(turning::turn(random, lent));
+    }
     let live = oracle::live_rows(&lent.rows);
     if random.one_in(30) {
         let names = match random.one_in(4) {

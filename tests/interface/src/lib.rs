@@ -2,7 +2,8 @@
 //! measures the one can test or measure the other.
 
 pub use baseline::{
-    CELL, Cap, DOMAINS, Event, FRESH, MAX_GROUP, RAW, REFERENCE, SHEET_PLACES, Tally, WRITTEN_BYTES,
+    BACK, CELL, Cap, DOMAINS, Event, FRESH, MARK, MAX_GROUP, RAW, REFERENCE, SHEET_PLACES, SLOTS,
+    STORED_BYTES, STORED_ROWS, Tally, WRITTEN_BYTES,
 };
 pub use words::{AnswerWords, DROP_ALL, ShareWords, Words};
 
@@ -15,11 +16,14 @@ mod library;
 mod plain;
 mod words;
 
-/// What a caller lends for events. Written bits are bytes of any number, of which but one is right. Limits are
-/// numbers, as many as one likes; none of them means that none are lent.
+/// What a caller lends for events. Written bits are bytes of any number, of which but one is right, and so are
+/// the rows and the bytes for states. Limits are numbers, as many as one likes; none of them means that none are
+/// lent.
 pub struct Memory<'a> {
     pub table: &'a mut [Cap],
     pub written: &'a mut [u8],
+    pub stored: &'a mut [Cap],
+    pub stored_bits: &'a mut [u8],
     pub tally: &'a mut Tally,
     pub limits: &'a [u32],
 }
@@ -68,7 +72,14 @@ pub trait Interface {
 
     fn write_sheet(&self, sheet: &[u8], out: &mut [u8]) -> u64;
 
-    fn check(&self, input: &[u8], out: &mut [u8]) -> u64;
+    /// `kz_abi_check`, whose working space are rows and bytes for states.
+    fn check(
+        &self,
+        input: &[u8],
+        stored: &mut [Cap],
+        stored_bits: &mut [u8],
+        out: &mut [u8],
+    ) -> u64;
 
     /// What `apply_words_by` takes, by the default sheet.
     fn apply_words(&self, memory: Memory, words: &Words, names: &[u32]) -> u64 {

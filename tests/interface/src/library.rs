@@ -27,6 +27,10 @@ impl Interface for Library {
                 memory.table.len(),
                 memory.written.as_mut_ptr(),
                 memory.written.len(),
+                memory.stored.as_mut_ptr(),
+                memory.stored.len(),
+                memory.stored_bits.as_mut_ptr(),
+                memory.stored_bits.len(),
                 memory.tally,
                 sheet.as_ptr(),
                 sheet.len(),
@@ -53,6 +57,10 @@ impl Interface for Library {
                 memory.table.len(),
                 memory.written.as_mut_ptr(),
                 memory.written.len(),
+                memory.stored.as_mut_ptr(),
+                memory.stored.len(),
+                memory.stored_bits.as_mut_ptr(),
+                memory.stored_bits.len(),
                 memory.tally,
                 sheet.as_ptr(),
                 sheet.len(),
@@ -82,6 +90,10 @@ impl Interface for Library {
                 memory.table.len(),
                 memory.written.as_mut_ptr(),
                 memory.written.len(),
+                memory.stored.as_mut_ptr(),
+                memory.stored.len(),
+                memory.stored_bits.as_mut_ptr(),
+                memory.stored_bits.len(),
                 memory.tally,
                 sheet.as_ptr(),
                 sheet.len(),
@@ -133,8 +145,24 @@ impl Interface for Library {
         unsafe { ffi::kz_abi_write_sheet(sheet.as_ptr(), sheet.len(), out, size) }
     }
 
-    fn check(&self, input: &[u8], out: &mut [u8]) -> u64 {
-        let size = out.len();
-        unsafe { ffi::kz_abi_check(input.as_ptr(), input.len(), out.as_mut_ptr(), size) }
+    fn check(
+        &self,
+        input: &[u8],
+        stored: &mut [Cap],
+        stored_bits: &mut [u8],
+        out: &mut [u8],
+    ) -> u64 {
+        unsafe {
+            ffi::kz_abi_check(
+                input.as_ptr(),
+                input.len(),
+                stored.as_mut_ptr(),
+                stored.len(),
+                stored_bits.as_mut_ptr(),
+                stored_bits.len(),
+                out.as_mut_ptr(),
+                out.len(),
+            )
+        }
     }
 }

@@ -25,6 +25,8 @@ fn lend<'a>(memory: Memory<'a>, sheet: &'a [u8]) -> Lent<'a> {
     Lent {
         table: memory.table,
         written: memory.written,
+        stored: memory.stored,
+        stored_bits: memory.stored_bits,
         tally: memory.tally,
         sheet,
         limits: memory.limits,
@@ -114,8 +116,14 @@ impl Interface for Baseline {
         packed(baseline::write_sheet(sheet, out))
     }
 
-    fn check(&self, input: &[u8], out: &mut [u8]) -> u64 {
-        packed(baseline::check(input, out))
+    fn check(
+        &self,
+        input: &[u8],
+        stored: &mut [Cap],
+        stored_bits: &mut [u8],
+        out: &mut [u8],
+    ) -> u64 {
+        packed(baseline::check(input, stored, stored_bits, out))
     }
 
     fn apply_by(&self, sheet: &[u8], memory: Memory, event: Event) -> u64 {

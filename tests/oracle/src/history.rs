@@ -7,6 +7,7 @@ use std::collections::BTreeSet;
 use crate::domains::{DOMAINS, holders_of};
 use crate::sheet::{Access, Outcome, Sheet, Source};
 use crate::span::{ADDRESSES, Span};
+use crate::states::SLOTS;
 use crate::values::{
     Act, CELL, Event, FRESH, MAX_DEPTH, MAX_GROUP, MAX_NAME, MAX_ROWS, RAW, READ_ONLY, READ_WRITE,
     REFERENCE, Refused, Row,
@@ -63,6 +64,11 @@ fn judge_actor(actor: u32) -> Judged {
     refuse(2, actor >= DOMAINS)
 }
 
+/// Card 11: 'K above 7 is 2'.
+fn judge_slot(slot: u32) -> Judged {
+    refuse(2, slot >= SLOTS)
+}
+
 /// Card 10: 'a mask without its maker, is 2 in an event'.
 fn judge_holders(maker: u32, mask: u64) -> Judged {
     refuse(2, !holders_of(mask).contains(&maker))
@@ -85,6 +91,8 @@ pub struct History {
     sheet: Option<Sheet>,
     notes: Vec<Note>,
     count: u32,
+    /// Card 11: the notes that stood at the last mark of each slot.
+    kept: [Option<Vec<Note>>; SLOTS as usize],
 }
 
 impl History {
@@ -94,6 +102,7 @@ impl History {
             sheet: None,
             notes: Vec::new(),
             count: 0,
+            kept: Default::default(),
         }
     }
 
@@ -115,6 +124,17 @@ impl History {
     pub fn answer(&mut self, limits: &[u32], act: Act) -> Result<u32, Refused> {
         self.judge(limits, act)?;
         let Act { actor, event } = act;
+        match event {
+            Event::Mark { slot } => {
+                self.kept[slot as usize] = Some(self.notes.clone());
+                return Ok(0);
+            }
+            Event::Back { slot } => {
+                self.go_back(slot);
+                return Ok(0);
+            }
+            _ => {}
+        }
         let made = match event.makes() {
             true => self.count + 1,
             false => 0,
@@ -122,6 +142,14 @@ impl History {
         self.count = self.count.max(made);
         self.notes.push(Note { made, actor, event });
         Ok(made)
+    }
+
+    /// Card 11: 'the history is the one that stood at the mark, except that its count of names stays as it is
+    /// now, and names given since are ended', as no note made them.
+    fn go_back(&mut self, slot: u32) {
+        if let Some(Some(notes)) = self.kept.get(slot as usize) {
+            self.notes.clone_from(notes);
+        }
     }
 
     /// Card 5, the answer to names that are dropped together: 0, or the refusal. Allowed, each is noted
@@ -143,10 +171,13 @@ impl History {
     }
 
     /// What refuses each kind of event, the lowest number first, with 12 between 9 and 10 (card 1), 16 after
-    /// 7 (card 9), 17 after 5 and 18 in the place of 10 (card 10).
+    /// 7 (card 9), 17 after 5 and 18 in the place of 10 (card 10), and 19 after 2 (card 11).
     fn judge(&self, limits: &[u32], act: Act) -> Judged {
         self.judge_lent(limits)?;
         let Act { actor, event } = act;
+        if let Event::Back { slot } = event {
+            self.judge_going_back(limits, slot)?;
+        }
         judge_actor(actor)?;
         match event {
             Event::Create {
@@ -189,8 +220,21 @@ impl History {
                 refuse(7, !self.is_read_write(name))
             }
             Event::Drop { name } => self.judge_name(actor, name),
+            Event::Mark { slot } => judge_slot(slot),
+            Event::Back { slot } => {
+                judge_slot(slot)?;
+                refuse(19, self.kept[slot as usize].is_none())
+            }
             Event::Unknown => Err(2),
         }
+    }
+
+    /// Card 11: 'over a lent limit .. is 1 on going back to it'. Only marks change the memory, so that what is
+    /// stored is in order and has as many rows as there are.
+    fn judge_going_back(&self, limits: &[u32], slot: u32) -> Judged {
+        let mut then = self.clone();
+        then.go_back(slot);
+        then.judge_lent(limits)
     }
 
     /// Card 5: the list itself is judged first, and then each name in the order written.

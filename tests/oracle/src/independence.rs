@@ -1,5 +1,5 @@
 //! Card 10's independence, for tests: a domain that uses only what it made, in sequences of events that differ
-//! only in what others do.
+//! only in what others do. By card 11 it may mark and go back, and no other domain does.
 //!
 //! What such a domain does is told of by names that are counted inside the domain, so that it is the same in
 //! sequences that number names in other ways.
@@ -82,6 +82,8 @@ impl Cast {
 pub struct Course {
     given: Vec<u32>,
     pub answers: Vec<Result<u32, Refused>>,
+    /// How often the domain went back.
+    pub backs: u64,
     /// How many of others' requests were allowed.
     pub others: u64,
 }
@@ -115,7 +117,7 @@ impl Course {
             | Event::Read { name, .. }
             | Event::Write { name, .. }
             | Event::Drop { name } => *name = self.name(*name),
-            Event::Create { .. } | Event::Unknown => {}
+            Event::Create { .. } | Event::Mark { .. } | Event::Back { .. } | Event::Unknown => {}
         }
         Request::Single(event)
     }
@@ -133,6 +135,8 @@ impl Course {
         {
             self.given.push(name);
         }
+        let goes_back = matches!(request, Request::Single(Event::Back { .. }));
+        self.backs += u64::from(goes_back && answer.is_ok());
         self.answers.push(answer.map(|name| self.own(name)));
         Ok(())
     }
@@ -162,8 +166,20 @@ fn ask(world: &mut impl World, actor: u32, request: &Request) -> Answered {
 }
 
 /// Whether others may do something: whether it touches no span of what the domain has, drops none of that and
-/// borrows from none.
+/// borrows from none, and by card 11 neither marks nor goes back.
 pub fn leaves_alone(live: &[Row], domain: u32, request: &Request) -> bool {
+    spares(live, domain, request) && !turns_state(request)
+}
+
+fn turns_state(request: &Request) -> bool {
+    matches!(
+        request,
+        Request::Single(Event::Mark { .. } | Event::Back { .. })
+    )
+}
+
+/// Card 10's proviso alone.
+pub fn spares(live: &[Row], domain: u32, request: &Request) -> bool {
     let mut its = live.iter().filter(|row| row.maker == domain);
     match request {
         Request::Group(names) => !its.any(|row| names.contains(&row.name)),
@@ -204,8 +220,20 @@ fn holders(random: &mut Random, cast: &Cast, maker: u32) -> u64 {
     }
 }
 
-/// Something that a domain does with one of these rows, or with a name that may have ended.
+/// A mark, or a back.
+fn turn(random: &mut Random) -> Request {
+    let slot = random.pick(&[0, 0, 0, 7]);
+    Request::Single(match random.one_in(2) {
+        true => Event::Mark { slot },
+        false => Event::Back { slot },
+    })
+}
+
+/// Something that a domain does with one of these rows, or with a name that may have ended, or with a slot.
 fn request(random: &mut Random, cast: &Cast, actor: u32, rows: &[Row], names: &[u32]) -> Request {
+    if random.one_in(6) {
+        return turn(random);
+    }
     let user = rows.get(random.index(rows.len().max(1)));
     let name = match user {
         Some(user) if !random.one_in(5) => Some(user.name),
@@ -345,6 +373,8 @@ pub struct Counts {
     pub allowed: u64,
     pub limited: u64,
     pub ended: u64,
+    /// How often the domain went back.
+    pub backs: u64,
     /// How often others were allowed something.
     pub others: u64,
 }
@@ -358,6 +388,7 @@ impl Counts {
         self.allowed += those(Result::is_ok);
         self.limited += those(|answer| *answer == Err(18));
         self.ended += those(|answer| *answer == Err(5));
+        self.backs += course.backs;
         self.others += course.others;
     }
 }
@@ -372,7 +403,7 @@ pub fn compare<W: World>(
     counts: &mut Counts,
 ) -> Result<(), String> {
     let mut world = empty();
-    let (requests, course) = first(random, cast, proviso, &mut world, 20)?;
+    let (requests, course) = first(random, cast, proviso, &mut world, 24)?;
     let rows = course.rows(&world, cast.domain);
     counts.count(&course);
     for cast in [&cast.alone(), cast, cast] {

@@ -1,9 +1,10 @@
-//! A second checker, written from document 01 and cards 1, 2 and 4 to 10 alone and for clarity alone.
+//! A second checker, written from document 01 and cards 1, 2 and 4 to 11 alone and for clarity alone.
 //!
 //! It shares no code and no plan with what it judges: the history derives everything from its notes
 //! each time it is asked, the rows of a lent table are searched from end to end, and text is taken
 //! apart strictly as it is read. Written addresses are a set, and so are holders: they have bits only in the
-//! lent bytes and masks. The history and the lent table share values and spans, and no rule.
+//! lent bytes and masks. A stored state is a table and such a set, and the history keeps notes in its place. The
+//! history and the lent table share values and spans, and no rule.
 
 pub mod domain_traces;
 mod domains;
@@ -13,6 +14,8 @@ mod lines;
 pub mod random;
 mod sheet;
 mod span;
+pub mod state_traces;
+mod states;
 mod table;
 mod text;
 mod together;
@@ -27,9 +30,11 @@ pub use history::History;
 pub use lines::{Spelling, drop_line, event_line, read_drop_line, read_event_line};
 pub use sheet::{Access, CARD_6, Combination, Outcome, Sheet, Source, combinations, write_sheet};
 pub use span::Span;
-pub use table::{By, apply, holds, in_order, live_rows, read_strikes, strikes};
+pub use states::{SLOT_ROWS, SLOTS, STORED_BYTES, STORED_ROWS, Slot, State, States, is_slot};
+pub use table::{By, Lent, apply, holds, in_order, live_rows, read_strikes, strikes};
 pub use text::{
-    HEADER, Run, check, listing, read_listing, run, write_drop, write_event, write_listing,
+    HEADER, Run, check, check_without_states, listing, read_listing, run, write_drop, write_event,
+    write_listing,
 };
 pub use together::{drop_all, is_group};
 pub use values::{

@@ -1,7 +1,9 @@
 //! Event lines, in the two spellings, and the lines of names that are dropped together, with who acts in them.
+//! A mark and a back are events, and spelt alike in both.
 
 use crate::domains::{Holders, holders_of, is_domain, mask_of, mask_word, read_mask};
 use crate::span::Span;
+use crate::states::is_slot;
 use crate::table::is_unknown;
 use crate::together::is_group;
 use crate::values::{Act, CELL, Event, FRESH, RAW, READ_ONLY, READ_WRITE, REFERENCE};
@@ -45,8 +47,8 @@ pub fn mark_word(fresh: u32) -> &'static str {
 }
 
 /// The event's one spelling of this sort, newline included; none where it, its right, its kind, its mark, its
-/// actor or its holders are unknown, and none for a create or borrow with a name in the plain one or without
-/// in the other.
+/// actor, its holders or its slot are unknown, and none for a create or borrow with a name in the plain one or
+/// without in the other.
 pub fn event_line(act: Act, spelling: Spelling) -> Option<String> {
     let Act { actor, event } = act;
     if is_unknown(act) || !spelling.suits(event) {
@@ -71,6 +73,8 @@ pub fn event_line(act: Act, spelling: Spelling) -> Option<String> {
             }
             Event::Read { .. } => format!("(read {name} {start} {length})"),
             Event::Write { .. } => format!("(write {name} {start} {length})"),
+            Event::Mark { slot } => format!("(mark {slot})"),
+            Event::Back { slot } => format!("(back {slot})"),
             Event::Drop { .. } | Event::Unknown => format!("(drop {name})"),
         },
     ))
@@ -164,7 +168,7 @@ fn holders_in<'a>(maker: u32, words: &'a [&'a [u8]]) -> Option<(u64, &'a [&'a [u
     }
 }
 
-/// A read, write or drop.
+/// A read, write, drop, mark or back.
 fn used(kind: &[u8], values: &[&[u8]]) -> Option<Event> {
     Some(match (kind, values) {
         (b"read", [name, start, length]) => Event::Read {
@@ -178,8 +182,15 @@ fn used(kind: &[u8], values: &[&[u8]]) -> Option<Event> {
         (b"drop", [name]) => Event::Drop {
             name: number(name)?,
         },
+        (b"mark", [word]) => Event::Mark { slot: slot(word)? },
+        (b"back", [word]) => Event::Back { slot: slot(word)? },
         _ => return None,
     })
+}
+
+/// 'K above 7 is 2.'
+fn slot(word: &[u8]) -> Option<u32> {
+    number(word).filter(|slot| is_slot(*slot))
 }
 
 /// The one spelling of names that are dropped together, in both sorts of traces, if they are a group and a

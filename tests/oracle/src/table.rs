@@ -1,11 +1,12 @@
-//! The lent table, written addresses, tally and limits: when a table is in order, what refuses an event, what
-//! an event does.
+//! The lent table, written addresses, states, tally and limits: when a table is in order, what refuses an
+//! event, what an event does.
 
 use std::collections::BTreeSet;
 
 use crate::domains::{Limits, holders_of, is_domain};
 use crate::sheet::{Access, Combination, Outcome, Sheet, Source};
 use crate::span::Span;
+use crate::states::{Slot, State, States, is_slot};
 use crate::values::{
     Act, CELL, Event, FRESH, MAX_DEPTH, MAX_NAME, MAX_ROWS, RAW, READ_ONLY, READ_WRITE, REFERENCE,
     Refused, Row, Tally,
@@ -16,6 +17,37 @@ use crate::written::{WRITABLE, Written};
 pub fn live_rows(rows: &[Row]) -> &[Row] {
     let last = rows.iter().rposition(|row| *row != Row::default());
     &rows[..last.map_or(0, |last| last + 1)]
+}
+
+/// What is lent, and follows the events.
+pub struct Lent<'a> {
+    pub rows: &'a mut [Row],
+    /// Nothing where the lent bytes are not as many as there have to be.
+    pub written: Option<&'a mut Written>,
+    /// Nothing where the lent memory is not as large as it has to be.
+    pub states: Option<&'a mut States>,
+    pub tally: &'a mut Tally,
+}
+
+impl Lent<'_> {
+    /// The same, to be lent once more.
+    pub fn again(&mut self) -> Lent<'_> {
+        Lent {
+            rows: self.rows,
+            written: self.written.as_deref_mut(),
+            states: self.states.as_deref_mut(),
+            tally: self.tally,
+        }
+    }
+
+    /// Refusal 1 of every request: 'table not in order', and with card 9 bytes of another length, with card
+    /// 10 refused limits, with card 11 memory of another size.
+    pub fn is_unfit(&self, limits: &Limits) -> bool {
+        self.written.is_none()
+            || self.states.is_none()
+            || !in_order(self.rows, self.tally.issued)
+            || limits.is_refused(self.rows)
+    }
 }
 
 /// What is lent besides, which no event changes: the sheet by which events strike, without which card 6's
@@ -93,22 +125,35 @@ fn ancestry<'a>(live: &'a [Row], row: &'a Row) -> Vec<&'a Row> {
     path
 }
 
-/// The number that an event is refused with: the first, in the order of the papers, whose condition
-/// holds. Card 1 puts 12 between 9 and 10, card 9 puts 16 after 7, and card 10 puts 17 after 5 and 18 in the
-/// place of 10.
-fn refusal(
-    limits: &Limits,
-    rows: &[Row],
-    written: &Written,
+/// The table and the addresses of an event, what the slots have, and the issued number.
+struct View<'a> {
+    rows: &'a [Row],
+    written: &'a Written,
+    states: &'a States,
     issued: u32,
-    act: Act,
-) -> Option<Refused> {
+}
+
+/// The number that an event is refused with: the first, in the order of the papers, whose condition
+/// holds. Card 1 puts 12 between 9 and 10, card 9 puts 16 after 7, card 10 puts 17 after 5 and 18 in the
+/// place of 10, and card 11 puts 19 after 2.
+fn refusal(limits: &Limits, view: &View, act: Act) -> Option<Refused> {
+    let View {
+        rows,
+        written,
+        states,
+        issued,
+    } = *view;
     if !in_order(rows, issued) || limits.is_refused(rows) {
         return Some(1);
     }
     let Act { actor, event } = act;
     let conditions = [
+        (1, goes_back_to_what_does_not_fit(limits, view, event)),
         (2, is_unknown(act)),
+        (
+            19,
+            slot_to_go_back_to(states, event) == Some(&Slot::Nothing),
+        ),
         (3, has_illegal_span(event)),
         (4, event.user().is_some_and(|name| !is_issued(name, issued))),
         (
@@ -134,12 +179,33 @@ fn refusal(
     holding.next().map(|(number, _)| number)
 }
 
+/// What the slot of a back has.
+fn slot_to_go_back_to(states: &States, event: Event) -> Option<&Slot> {
+    match event {
+        Event::Back { slot } => states.slot(slot),
+        _ => None,
+    }
+}
+
+/// Card 11: 'a stored table that is out of order, over a lent limit, or has another number of rows, is 1 on
+/// going back to it'. It is judged with the names that are issued now and the limits that are lent now.
+fn goes_back_to_what_does_not_fit(limits: &Limits, view: &View, event: Event) -> bool {
+    match slot_to_go_back_to(view.states, event) {
+        None | Some(Slot::Nothing) => false,
+        Some(Slot::Misfit) => true,
+        Some(Slot::Stored(State { rows, .. })) => {
+            rows.len() != view.rows.len() || !in_order(rows, view.issued) || limits.is_refused(rows)
+        }
+    }
+}
+
 /// An unknown event, a right that is neither 1 nor 2, a kind that is none of the three, a mark that is neither
-/// 0 nor 1, an actor that is no domain, or a mask of holders without the maker.
+/// 0 nor 1, an actor that is no domain, a mask of holders without the maker, or a slot that is none.
 pub fn is_unknown(act: Act) -> bool {
     let Act { actor, event } = act;
     event == Event::Unknown
         || !is_domain(actor)
+        || event.slot().is_some_and(|slot| !is_slot(slot))
         || event
             .right()
             .is_some_and(|right| right != READ_ONLY && right != READ_WRITE)
@@ -204,22 +270,40 @@ fn borrows_too_deep(rows: &[Row], event: Event) -> bool {
         && user_row(rows, event).is_some_and(|parent| parent.depth == MAX_DEPTH)
 }
 
-/// One event on a lent table, written addresses and tally: the new name (0 where none is made), or the
-/// refusal. Lent bytes of another length than there have to be are no written addresses, and refusal 1.
-pub fn apply(
-    by: By,
-    rows: &mut [Row],
-    written: Option<&mut Written>,
-    tally: &mut Tally,
-    act: Act,
-) -> Result<u32, Refused> {
-    let written = written.ok_or(1)?;
+/// One event on what is lent: the new name (0 where none is made), or the refusal. Lent bytes of another
+/// length than there have to be are no written addresses, memory of another size has no slots, and both are
+/// refusal 1.
+pub fn apply(by: By, lent: Lent, act: Act) -> Result<u32, Refused> {
+    let Lent { rows, tally, .. } = lent;
+    let written = lent.written.ok_or(1)?;
+    let states = lent.states.ok_or(1)?;
     let limits = Limits::lent(by.limits);
-    if let Some(number) = refusal(&limits, rows, written, tally.issued, act) {
+    let view = View {
+        rows,
+        written,
+        states,
+        issued: tally.issued,
+    };
+    if let Some(number) = refusal(&limits, &view, act) {
         if number != 1 {
             tally.refused = tally.refused.saturating_add(1);
         }
         return Err(number);
+    }
+    // 'Allowed, they answer name 0 and count only as a line.'
+    match act.event {
+        Event::Mark { slot } => {
+            states.mark(slot, rows, written);
+            return Ok(0);
+        }
+        Event::Back { slot } => {
+            if let Some(Slot::Stored(stored)) = states.slot(slot) {
+                rows.copy_from_slice(&stored.rows);
+                written.clone_from(&stored.written);
+            }
+            return Ok(0);
+        }
+        _ => {}
     }
     let live = live_rows(rows);
     let after = match by.sheet {
@@ -265,7 +349,7 @@ fn rows_after(live: &[Row], act: Act, new_name: u32) -> Vec<Row> {
             without(live, &below(live, &struck_by_write(live, name, span)))
         }
         Event::Drop { name } => without(live, &subtrees(live, |row| row.name == name)),
-        Event::Unknown => live.to_vec(),
+        Event::Mark { .. } | Event::Back { .. } | Event::Unknown => live.to_vec(),
     }
 }
 
@@ -453,7 +537,7 @@ fn count_allowed(tally: &mut Tally, event: Event) {
         Event::Read { .. } => &mut tally.reads,
         Event::Write { .. } => &mut tally.writes,
         Event::Drop { .. } => &mut tally.drops,
-        Event::Unknown => return,
+        Event::Mark { .. } | Event::Back { .. } | Event::Unknown => return,
     };
     *count = count.saturating_add(1);
 }

@@ -5,7 +5,8 @@ use crate::lines::{
     Spelling, drop_line, event_line, kind_word, mark_word, number, read_drop_line, read_event_line,
     right, right_word,
 };
-use crate::table::{By, apply, in_order, live_rows};
+use crate::states::States;
+use crate::table::{By, Lent, apply, in_order, live_rows};
 use crate::together::{drop_all, is_group};
 use crate::values::{
     Act, CELL, Event, FRESH, MAX_DEPTH, MAX_INPUT, MAX_ROWS, RAW, REFERENCE, Refused, Row, Tally,
@@ -200,16 +201,10 @@ fn lines(text: &[u8]) -> impl Iterator<Item = &[u8]> {
 }
 
 /// Takes lines until one is refused. A first line that says so is no event, and is counted as a
-/// line; the others are then spelt with names. What is lent is judged before the first line.
-pub fn run(
-    by: By,
-    rows: &mut [Row],
-    written: Option<&mut Written>,
-    tally: &mut Tally,
-    text: &[u8],
-) -> Run {
-    let written = written.ok_or((1, 0))?;
-    if !in_order(rows, tally.issued) || Limits::lent(by.limits).is_refused(rows) {
+/// line; the others are then spelt with names. What is lent is judged before the first line; by card 11 a
+/// stored table is judged where a line goes back to it, and its 1 'carries its own line number'.
+pub fn run(by: By, mut lent: Lent, text: &[u8]) -> Run {
+    if lent.is_unfit(&Limits::lent(by.limits)) {
         return Err((1, 0));
     }
     let (spelling, mut allowed, rest) = match text.strip_prefix(HEADER) {
@@ -223,10 +218,10 @@ pub fn run(
     };
     for line in lines(rest) {
         let answer = match read_drop_line(line) {
-            Some((actor, names)) => drop_all(by, rows, Some(written), tally, actor, &names),
+            Some((actor, names)) => drop_all(by, lent.again(), actor, &names),
             None => {
                 let act = read_event_line(line, spelling).unwrap_or(misspelt);
-                apply(by, rows, Some(written), tally, act)
+                apply(by, lent.again(), act)
             }
         };
         answer.map_err(|number| (number, allowed + 1))?;
@@ -237,14 +232,27 @@ pub fn run(
 
 /// What `capcheck` prints, if it is no longer than the output buffer.
 pub fn check(input: &[u8], buffer: usize) -> Result<String, Refused> {
+    check_with(Some(&mut States::default()), input, buffer)
+}
+
+/// The same where the memory lent for states has another size.
+pub fn check_without_states(input: &[u8], buffer: usize) -> Result<String, Refused> {
+    check_with(None, input, buffer)
+}
+
+fn check_with(states: Option<&mut States>, input: &[u8], buffer: usize) -> Result<String, Refused> {
     if input.len() > MAX_INPUT {
         return fitting("(long)\n".to_string(), buffer);
     }
     let mut rows = vec![Row::default(); MAX_ROWS];
-    let mut written = Written::default();
     let mut tally = Tally::default();
-    let by = By::default();
-    let verdict = match run(by, &mut rows, Some(&mut written), &mut tally, input) {
+    let lent = Lent {
+        rows: &mut rows,
+        written: Some(&mut Written::default()),
+        states,
+        tally: &mut tally,
+    };
+    let verdict = match run(By::default(), lent, input) {
         Ok(lines) => format!("(allowed {lines})\n"),
         Err((number, line)) => format!("(refused {number} {line})\n"),
     };

@@ -1,9 +1,8 @@
 //! Card 5: capabilities that are dropped together, by card 10 each by a holder.
 
 use crate::domains::{Limits, is_domain};
-use crate::table::{By, has_ended, holds, in_order, is_issued, live_rows, subtrees, without};
-use crate::values::{MAX_GROUP, Refused, Row, Tally};
-use crate::written::Written;
+use crate::table::{By, Lent, has_ended, holds, is_issued, live_rows, subtrees, without};
+use crate::values::{MAX_GROUP, Refused, Row};
 
 /// Whether there are 1 to 64 names, strictly rising.
 pub fn is_group(names: &[u32]) -> bool {
@@ -32,22 +31,14 @@ fn group_refusal(rows: &[Row], issued: u32, actor: u32, names: &[u32]) -> Option
     refusals.find_map(|refusal| refusal)
 }
 
-/// Names dropped together on a lent table and tally: 0, or the refusal. It is counted once. No address is
-/// looked at, but without the lent bytes it is refusal 1, as every event is.
-pub fn drop_all(
-    by: By,
-    rows: &mut [Row],
-    written: Option<&Written>,
-    tally: &mut Tally,
-    actor: u32,
-    names: &[u32],
-) -> Result<u32, Refused> {
-    let issued = tally.issued;
-    let limits = Limits::lent(by.limits);
-    if written.is_none() || !in_order(rows, issued) || limits.is_refused(rows) {
+/// Names dropped together on what is lent: 0, or the refusal. It is counted once. No address is looked at and
+/// no slot, but without the lent bytes or the memory it is refusal 1, as every event is.
+pub fn drop_all(by: By, lent: Lent, actor: u32, names: &[u32]) -> Result<u32, Refused> {
+    if lent.is_unfit(&Limits::lent(by.limits)) {
         return Err(1);
     }
-    if let Some(number) = group_refusal(rows, issued, actor, names) {
+    let Lent { rows, tally, .. } = lent;
+    if let Some(number) = group_refusal(rows, tally.issued, actor, names) {
         tally.refused = tally.refused.saturating_add(1);
         return Err(number);
     }

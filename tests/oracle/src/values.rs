@@ -1,4 +1,4 @@
-//! The values of document 01 and of cards 1, 5, 6, 7, 9 and 10: bounds, rights, kinds, marks, rows, tallies,
+//! The values of document 01 and of cards 1, 5, 6, 7 and 9 to 11: bounds, rights, kinds, marks, rows, tallies,
 //! events and the numbers of refusals.
 
 use crate::span::Span;
@@ -22,7 +22,7 @@ pub const CELL: u32 = 2;
 /// Card 9: the mark of what has to be written before it is read.
 pub const FRESH: u32 = 1;
 
-/// The number of a refusal, 1 to 18.
+/// The number of a refusal, 1 to 19.
 pub type Refused = u8;
 
 /// A row of a table, or of the history's.
@@ -96,7 +96,15 @@ pub enum Event {
     Drop {
         name: u32,
     },
-    /// A kind that is none of the five. Only the C interface can be given one.
+    /// Card 11: stores the table and the written addresses in a slot.
+    Mark {
+        slot: u32,
+    },
+    /// Card 11: brings back what a slot has.
+    Back {
+        slot: u32,
+    },
+    /// A kind that is none of these. Only the C interface can be given one.
     Unknown,
 }
 
@@ -176,11 +184,14 @@ impl Event {
             3 => Event::Read { name, span },
             4 => Event::Write { name, span },
             5 => Event::Drop { name },
+            7 => Event::Mark { slot: name },
+            8 => Event::Back { slot: name },
             _ => Event::Unknown,
         }
     }
 
-    /// Event, name, start, length and right as the C interface has them, 0 for what an event lacks.
+    /// Event, name, start, length and right as the C interface has them, 0 for what an event lacks. A slot
+    /// stands in the place of the name.
     pub fn fields(self) -> [u32; 5] {
         match self {
             Event::Create { span, right, .. } => [1, 0, span.start, span.length, right.into()],
@@ -193,6 +204,8 @@ impl Event {
             Event::Read { name, span } => [3, name, span.start, span.length, 0],
             Event::Write { name, span } => [4, name, span.start, span.length, 0],
             Event::Drop { name } => [5, name, 0, 0, 0],
+            Event::Mark { slot } => [7, slot, 0, 0, 0],
+            Event::Back { slot } => [8, slot, 0, 0, 0],
             Event::Unknown => [0; 5],
         }
     }
@@ -243,7 +256,15 @@ impl Event {
             | Event::Borrow { span, .. }
             | Event::Read { span, .. }
             | Event::Write { span, .. } => Some(span),
-            Event::Drop { .. } | Event::Unknown => None,
+            Event::Drop { .. } | Event::Mark { .. } | Event::Back { .. } | Event::Unknown => None,
+        }
+    }
+
+    /// The slot of a mark or a back.
+    pub fn slot(self) -> Option<u32> {
+        match self {
+            Event::Mark { slot } | Event::Back { slot } => Some(slot),
+            _ => None,
         }
     }
 
@@ -254,7 +275,7 @@ impl Event {
             Event::Read { name, .. } | Event::Write { name, .. } | Event::Drop { name } => {
                 Some(name)
             }
-            Event::Create { .. } | Event::Unknown => None,
+            Event::Create { .. } | Event::Mark { .. } | Event::Back { .. } | Event::Unknown => None,
         }
     }
 

@@ -3,12 +3,12 @@
 
 mod both;
 
-use both::{Both, ROWS, act, after};
+use both::{Both, ROWS, act, after, answer_on};
 use oracle::domain_traces::DOMAINS;
 use oracle::{
-    Act, By, Charge, Event, MAX_NAME, MAX_ROWS, READ_WRITE, Row, Span, Spelling, Tally, Written,
-    apply, charge, check, drop_all, drop_line, event_line, in_order, listing, read_drop_line,
-    read_event_line, read_listing, write_drop, write_event,
+    Act, By, Charge, Event, MAX_NAME, MAX_ROWS, READ_WRITE, Row, Span, Spelling, charge, check,
+    drop_all, drop_line, event_line, in_order, listing, read_drop_line, read_event_line,
+    read_listing, write_drop, write_event,
 };
 
 const WHOLE: Span = Span {
@@ -284,15 +284,11 @@ fn a_row_of_no_domain_or_without_its_maker_is_1() {
             assert!(in_order(&of_domains(one, other), 2));
         }
         for other in wrong {
-            for mut rows in [of_domains(one, other), of_domains(other, one)] {
+            for rows in [of_domains(one, other), of_domains(other, one)] {
                 assert!(!in_order(&rows, 2), "{other:?}");
                 assert_eq!(charge(&rows, 2, 1), Err(1));
-                let (mut written, mut tally) = (Written::default(), issued(2));
-                let (by, lent) = (By::default(), Some(&mut written));
-                assert_eq!(
-                    apply(by, &mut rows, lent, &mut tally, act("(drop 1)")),
-                    Err(1)
-                );
+                let answer = answer_on(By::default(), &rows, 2, act("(drop 1)"));
+                assert_eq!(answer, Err(1));
             }
         }
     }
@@ -300,13 +296,6 @@ fn a_row_of_no_domain_or_without_its_maker_is_1() {
         let mut rows = of_domains((0, 1), (0, 1));
         (rows[ROWS - 1].maker, rows[ROWS - 1].holders) = empty;
         assert!(!in_order(&rows, 2), "{empty:?}");
-    }
-}
-
-fn issued(issued: u32) -> Tally {
-    Tally {
-        issued,
-        ..Tally::default()
     }
 }
 
@@ -379,8 +368,7 @@ fn names_dropped_together_by_holders() {
             ("(create 24 8 rw)", Ok(4)),
             ("(drop 4)", Ok(0)),
         ]);
-        let (by, written) = (By::default(), Some(&both.written));
-        let answer = drop_all(by, &mut both.rows, written, &mut both.tally, actor, names);
+        let answer = drop_all(By::default(), both.lent(), actor, names);
         assert_eq!(answer, expected, "{actor} {names:?}");
         assert_eq!(both.history.answer_all(&[], actor, names), expected);
         assert_eq!(both.history.table(), both.rows);

@@ -1,9 +1,10 @@
 //! Card 10: 'a domain that uses only capabilities it made gets the same results, up to the numbering of names,
-//! in two sequences of events .. that differ only in others' events', and where it would not.
+//! in two sequences of events .. that differ only in others' events', and where it would not. By card 11 the
+//! domain may mark and go back, and others may not.
 
 mod world;
 
-use oracle::independence::{Cast, Counts, Proviso, compare, leaves_alone};
+use oracle::independence::{Cast, Counts, Proviso, compare, leaves_alone, spares};
 use oracle::random::Random;
 use oracle::{MAX_ROWS, Sheet};
 use world::Table;
@@ -47,6 +48,7 @@ fn all_the_same(counts: Counts) {
     assert_eq!(counts.differing, 0, "{counts:?}");
     let met = [counts.allowed, counts.limited, counts.ended, counts.others];
     assert!(met.iter().all(|met| *met > counts.pairs / 2), "{counts:?}");
+    assert!(counts.backs > counts.pairs / 5, "{counts:?}");
 }
 
 #[test]
@@ -103,5 +105,16 @@ fn not_where_others_touch_its_spans() {
         ..BY_CARD_6
     };
     let counts = pairs(5, &sort, 300);
+    assert!(counts.differing > 50, "{counts:?}");
+}
+
+/// Where others mark and go back, what it has ends and comes back.
+#[test]
+fn not_where_others_mark_and_go_back() {
+    let sort = Sort {
+        proviso: spares,
+        ..BY_CARD_6
+    };
+    let counts = pairs(6, &sort, 300);
     assert!(counts.differing > 50, "{counts:?}");
 }

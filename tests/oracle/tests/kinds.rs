@@ -3,11 +3,11 @@
 
 mod both;
 
-use both::{Both, ROWS, act, after};
+use both::{Both, ROWS, act, after, answer_on};
 use oracle::traces::{KINDS, Step, whole};
 use oracle::{
-    Act, By, CELL, Event, RAW, READ_WRITE, REFERENCE, Row, Span, Spelling, Tally, Written, apply,
-    event_line, in_order, listing, read_event_line, read_listing,
+    Act, By, CELL, Event, RAW, READ_WRITE, REFERENCE, Row, Span, Spelling, event_line, in_order,
+    listing, read_event_line, read_listing,
 };
 
 fn listed(steps: &[Step]) -> String {
@@ -131,14 +131,8 @@ fn other_kinds_in_rows_are_refused() {
         assert_eq!(in_order(&of_kinds(kind, kind), 2), kind == REFERENCE);
     }
     for kind in [3, 255, 256, 257, 1 << 31, u32::MAX] {
-        for mut rows in [of_kinds(kind, REFERENCE), of_kinds(REFERENCE, kind)] {
-            let mut tally = Tally {
-                issued: 2,
-                ..Tally::default()
-            };
-            let mut written = Written::default();
-            let (by, lent) = (By::default(), Some(&mut written));
-            let answer = apply(by, &mut rows, lent, &mut tally, act("(drop 1)"));
+        for rows in [of_kinds(kind, REFERENCE), of_kinds(REFERENCE, kind)] {
+            let answer = answer_on(By::default(), &rows, 2, act("(drop 1)"));
             assert_eq!(answer, Err(1));
         }
     }

@@ -3,11 +3,11 @@
 
 mod both;
 
-use both::{Both, act};
+use both::{Both, act, answer_on};
 use oracle::domain_traces::{LIMITS, limits};
 use oracle::{
     Act, By, Event, HEADER, History, MAX_DEPTH, MAX_NAME, MAX_ROWS, READ_WRITE, Row, Run, Span,
-    Tally, Written, apply, check, drop_all, listing, run,
+    check, drop_all, listing, run,
 };
 
 const WHOLE: Span = Span {
@@ -49,19 +49,12 @@ fn by(limits: &[u32]) -> By<'_> {
 
 /// One event on rows with so many names issued.
 fn answer(limits: &[u32], rows: &[Row], issued: u32, act: Act) -> Result<u32, u8> {
-    let mut written = Written::default();
-    let mut tally = Tally {
-        issued,
-        ..Tally::default()
-    };
-    let mut rows = rows.to_vec();
-    apply(by(limits), &mut rows, Some(&mut written), &mut tally, act)
+    answer_on(by(limits), rows, issued, act)
 }
 
 /// A text run on a table.
 fn take_text(both: &mut Both, limits: &[u32], text: &[u8]) -> Run {
-    let (written, tally) = (Some(&mut both.written), &mut both.tally);
-    run(by(limits), &mut both.rows, written, tally, text)
+    run(by(limits), both.lent(), text)
 }
 
 /// Without limits, and with such as leave room for domains 0 and 1.
@@ -192,8 +185,7 @@ fn refused_limits_are_1() {
             let answer = take_text(&mut both, &limits, text.as_bytes());
             assert_eq!(answer, Err((1, 0)), "{limits:?} {text}");
         }
-        let (written, tally) = (Some(&both.written), &mut both.tally);
-        let answer = drop_all(by(&limits), &mut both.rows, written, tally, 64, &[]);
+        let answer = drop_all(by(&limits), both.lent(), 64, &[]);
         assert_eq!(answer, Err(1));
         assert_eq!(both.history.answer_all(&limits, 64, &[]), Err(1));
         assert_eq!((both.rows, both.tally), before);
@@ -213,8 +205,7 @@ fn other_limits_are_not() {
         assert_eq!(both.answer(&limits, act("(read 2 0 8)")), Ok(0));
         assert_eq!(both.answer(&limits, act("(as 9 (drop 9))")), Err(4));
         assert_eq!(both.answer(&limits, act("(create 8 8 rw)")), expected);
-        let (written, tally) = (Some(&both.written), &mut both.tally);
-        let answer = drop_all(by(&limits), &mut both.rows, written, tally, 64, &[]);
+        let answer = drop_all(by(&limits), both.lent(), 64, &[]);
         assert_eq!(answer, Err(13));
     }
 }

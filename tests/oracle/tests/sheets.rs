@@ -2,11 +2,12 @@
 //! its history.
 
 use oracle::domain_traces::DOMAINS;
+use oracle::state_traces::{OF_DOMAINS, STATES};
 use oracle::traces::{KINDS, MARKS, SHEETS, Step, whole};
 use oracle::{
-    Access, Act, By, CARD_6, CELL, History, Outcome, RAW, REFERENCE, Row, Sheet, Source, Span,
-    Spelling, Tally, Written, apply, combinations, listing, read_event_line, read_strikes,
-    write_sheet,
+    Access, Act, By, CARD_6, CELL, History, Lent, Outcome, RAW, REFERENCE, Row, Sheet, Source,
+    Span, Spelling, States, Tally, Written, apply, combinations, listing, read_event_line,
+    read_strikes, write_sheet,
 };
 
 const ROWS: usize = 8;
@@ -23,6 +24,7 @@ fn act(line: &str) -> Act {
 fn listed(sheet: &Sheet, steps: &[Step]) -> String {
     let mut rows = vec![Row::default(); ROWS];
     let mut written = Written::default();
+    let mut states = States::default();
     let mut tally = Tally::default();
     let mut history = History::by(sheet.clone(), ROWS);
     for (line, expected) in steps {
@@ -30,8 +32,13 @@ fn listed(sheet: &Sheet, steps: &[Step]) -> String {
             sheet: Some(sheet),
             limits: &[],
         };
-        let answer = apply(by, &mut rows, Some(&mut written), &mut tally, act(line));
-        assert_eq!(answer, *expected, "{line}");
+        let lent = Lent {
+            rows: &mut rows,
+            written: Some(&mut written),
+            states: Some(&mut states),
+            tally: &mut tally,
+        };
+        assert_eq!(apply(by, lent, act(line)), *expected, "{line}");
         assert_eq!(history.answer(&[], act(line)), *expected, "{line}");
         assert_eq!(history.table(), rows, "{line}");
         assert_eq!(history.written(), written, "{line}");
@@ -50,10 +57,10 @@ fn every_trace_goes_as_it_says() {
 #[test]
 fn the_sheet_of_card_6_gives_its_verdicts() {
     let sheet = Sheet::lent(&[]);
-    for (name, steps, expected) in KINDS.into_iter().chain(MARKS) {
+    for (name, steps, expected) in KINDS.into_iter().chain(MARKS).chain(STATES) {
         assert_eq!(listed(&sheet, steps), whole(expected), "{name}");
     }
-    for (name, steps, expected) in DOMAINS {
+    for (name, steps, expected) in DOMAINS.into_iter().chain(OF_DOMAINS) {
         assert_eq!(listed(&sheet, steps), expected, "{name}");
     }
     assert_eq!(sheet, Sheet::lent(&CARD_6_BYTES));
@@ -198,8 +205,13 @@ fn what_a_read_strikes() {
         "(borrow 1 0 8 ro cell)",
         "(borrow 1 8 8 rw)",
     ] {
-        let lent = Some(&mut written);
-        assert!(apply(By::default(), &mut rows, lent, &mut tally, act(line)).is_ok());
+        let lent = Lent {
+            rows: &mut rows,
+            written: Some(&mut written),
+            states: Some(&mut States::default()),
+            tally: &mut tally,
+        };
+        assert!(apply(By::default(), lent, act(line)).is_ok());
     }
     let live = &rows[..6];
     let struck = |sheet: Option<&Sheet>, user, start, length| {

@@ -6,9 +6,9 @@ mod both;
 use both::{Both, ROWS, act, after};
 use oracle::traces::{MARKS, whole};
 use oracle::{
-    Act, By, Event, FRESH, READ_ONLY, READ_WRITE, Row, Span, Spelling, Tally, WRITTEN_BYTES,
-    Written, apply, check, drop_all, event_line, in_order, listing, read_event_line, read_listing,
-    run,
+    Act, By, Event, FRESH, Lent, READ_ONLY, READ_WRITE, Row, Span, Spelling, States, Tally,
+    WRITTEN_BYTES, Written, apply, check, drop_all, event_line, in_order, listing, read_event_line,
+    read_listing, run,
 };
 
 fn span(start: u32, length: u32) -> Span {
@@ -152,23 +152,26 @@ fn other_marks_in_events_are_refused_and_have_no_spelling() {
 #[test]
 fn any_other_number_of_bytes_is_1() {
     for length in [0, 1, WRITTEN_BYTES - 1, WRITTEN_BYTES + 1] {
-        let lent = || Written::lent(&vec![0; length]);
         let (mut rows, mut tally) = (vec![Row::default(); ROWS], Tally::default());
         let before = (rows.clone(), tally);
+        let (mut written, mut states) = (Written::lent(&vec![0; length]), States::default());
         let by = By::default();
+        let mut lent = Lent {
+            rows: &mut rows,
+            written: written.as_mut(),
+            states: Some(&mut states),
+            tally: &mut tally,
+        };
         let unknown = Act {
             actor: 0,
             event: Event::Unknown,
         };
-        for act in [act("(create 0 8 rw)"), act("(drop 1)"), unknown] {
-            let answer = apply(by, &mut rows, lent().as_mut(), &mut tally, act);
-            assert_eq!(answer, Err(1));
+        for act in [act("(create 0 8 rw)"), act("(mark 0)"), unknown] {
+            assert_eq!(apply(by, lent.again(), act), Err(1));
         }
-        let answer = drop_all(by, &mut rows, lent().as_ref(), &mut tally, 0, &[]);
-        assert_eq!(answer, Err(1));
+        assert_eq!(drop_all(by, lent.again(), 0, &[]), Err(1));
         for text in ["", "(create 0 8 rw)\n", "?"] {
-            let answer = run(by, &mut rows, lent().as_mut(), &mut tally, text.as_bytes());
-            assert_eq!(answer, Err((1, 0)));
+            assert_eq!(run(by, lent.again(), text.as_bytes()), Err((1, 0)));
         }
         assert_eq!(before, (rows, tally));
     }
@@ -192,9 +195,13 @@ fn bytes_that_are_lent_are_looked_at() {
         ("(write 1 6 2)", Ok(0)),
         ("(read 1 2 6)", Ok(0)),
     ] {
-        let (by, written) = (By::default(), Some(&mut lent));
-        let answer = apply(by, &mut rows, written, &mut tally, act(line));
-        assert_eq!(answer, expected, "{line}");
+        let lent = Lent {
+            rows: &mut rows,
+            written: Some(&mut lent),
+            states: Some(&mut States::default()),
+            tally: &mut tally,
+        };
+        assert_eq!(apply(By::default(), lent, act(line)), expected, "{line}");
     }
     assert_eq!(lent.bytes()[..2], [255 - 3, 0]);
     assert_eq!(tally.refused, 2);

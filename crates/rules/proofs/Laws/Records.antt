@@ -3,7 +3,7 @@
 -- Assumes nothing.
 use mathlib.Core.Path.{_≡_, refl, sym, ap, subst, _∙_}
 use mathlib.Core.Logic.{_⊎_, inl, inr}
-use mathlib.Core.Bool.{true, false}
+use mathlib.Core.Bool.{true, false, or-true}
 use mathlib.Core.List.{List, [], _∷_, _++_, map, append-nil}
 use Prim.Native.Nat.{ℕ, zero, suc, _≤_, _<_}
 use native.Mathlib.Omega.{arith}
@@ -18,6 +18,7 @@ use Rattle.model.specs.declared.Answer.the-variants.{Refused}
 use Rattle.model.specs.declared.Refusal.the-variants.{Disordered}
 use Rattle.model.specs.Table.{emptyRow, inOrder}
 use Rattle.model.specs.Requests.{Request}
+use Rattle.model.specs.Slots.{unstored}
 use Rattle.model.specs.Step.{Verdict, State, after}
 use Rattle.model.specs.Step
 use Rattle.model.specs.Answers.{verdictOf}
@@ -26,7 +27,7 @@ use Rattle.model.proofs.Offered.{test, disordered-keeps}
 use Rattle.table.specs.Words.{capOf, wordsOf, rowsIn}
 use Rattle.table.proofs.Offered.{cap-back, length-in}
 use Rattle.rules.specs.declared.Outcome.{Outcome}
-use Rattle.rules.specs.Steps.{lends, Stepped}
+use Rattle.rules.specs.Steps.{lends, Worked}
 use Rattle.rules.specs.Records.{held, Requested}
 
 map-append : {A B : Type 0} (f : A → B) (xs ys : List A) → map f (xs ++ ys) ≡ map f xs ++ map f ys
@@ -101,11 +102,11 @@ held-least n = go (test (leb n 1024))
     go (inl y) = let l : n ≤ 1024 = leb-true n 1024 y in (omega (arith, held-few n l), omega (arith, held-few n l))
     go (inr f) = let l : 1024 < n = leb-false n 1024 f in (omega (arith, held-many n l), omega (arith, held-many n l))
 
-pub requested-few : (sheet : Sheet) (ws zs : List (List ℕ)) (n : ℕ) (bs bs′ : List ℕ) (t : Tally) (q : Request) (r : Outcome) → length ws ≡ 1024 → n ≤ 1024 → length zs ≡ n → Stepped sheet (take n ws) bs t q zs bs′ r
+pub requested-few : (sheet : Sheet) (ws zs : List (List ℕ)) (n : ℕ) (bs bs′ : List ℕ) (t : Tally) (q : Request) (r : Outcome) → length ws ≡ 1024 → n ≤ 1024 → length zs ≡ n → Worked sheet (take n ws) bs t q zs bs′ r
     → Requested sheet ws n bs t q (zs ++ drop n ws) bs′ r
 requested-few sheet ws zs n bs bs′ t q r full l long s = record {
   long = omega (arith, length-append zs (drop n ws), length-drop n ws);
-  few = λ _. subst (λ (z : List (List ℕ)). Stepped sheet (take n ws) bs t q z bs′ r) (sym (take-at zs (drop n ws) n long)) s;
+  few = λ _. subst (λ (z : List (List ℕ)). Worked sheet (take n ws) bs t q z bs′ r) (sym (take-at zs (drop n ws) n long)) s;
   many = λ m. absurd (omega arith);
 }
 
@@ -113,15 +114,15 @@ pub requested-many : (sheet : Sheet) (ws : List (List ℕ)) (n : ℕ) (bs : List
 requested-many sheet ws n bs t q l = record { long = refl; few = λ h. absurd (omega arith); many = λ _. (refl, refl, refl) }
 
 -- a longer table is not in order, whatever its bits and with whatever limits: refusal 1, which changes nothing
-too-long : (ys : List Cap) (bs : List ℕ) (t : Tally) (q : Request) → 1024 < length ys → Step.answer (lends ys bs t) q ≡ record { refusal = 1; name = 0 }
+too-long : (ys : List Cap) (bs : List ℕ) (t : Tally) (q : Request) → 1024 < length ys → Step.answer (lends ys bs unstored t) q ≡ record { refusal = 1; name = 0 }
 unfolding judge refusals inOrder Step.answer
-too-long ys bs t q l = rw (lt-leb (length ys) 1024 l) refl
+too-long ys bs t q l = rw (lt-leb (length ys) 1024 l, or-true) refl
 
 -- what is left of the records, by way of rows
 module _ (sheet : Sheet) (ys : List Cap) (bs : List ℕ) (t : Tally) (q : Request) (w ws : List (List ℕ)) (bs′ : List ℕ) (r : Outcome) (s : Requested sheet (loaded ys w (held (length ys))) (length ys) bs t q ws bs′ r) where
   -- what is lent
   abbrev h : State
-  h = lends ys bs t
+  h = lends ys bs unstored t
 
   abbrev Left : Type 0
   Left = (stored ys ws (held (length ys)) ≡ after sheet h q .memory .table) × (bs′ ≡ after sheet h q .memory .bits) × (r .tally ≡ after sheet h q .tally) × (verdictOf (r .answer) ≡ Step.answer h q)
@@ -146,8 +147,8 @@ module _ (sheet : Sheet) (ys : List Cap) (bs : List ℕ) (t : Tally) (q : Reques
 
     left-few : Left
     left-few =
-        let a : Stepped sheet w₁ bs t q (take (length ys) ws) bs′ r = s .few l in
-        let e : lends (rowsIn w₁) bs t ≡ h = ap (λ (rows : List Cap). lends rows bs t) all-loaded in
+        let a : Worked sheet w₁ bs t q (take (length ys) ws) bs′ r = s .few l in
+        let e : lends (rowsIn w₁) bs unstored t ≡ h = ap (λ (rows : List Cap). lends rows bs unstored t) all-loaded in
         (all-stored ∙ a .table ∙ ap (λ (x : State). after sheet x q .memory .table) e, a .bits ∙ ap (λ (x : State). after sheet x q .memory .bits) e, a .tally ∙ ap (λ (x : State). after sheet x q .tally) e, a .answer ∙ ap (λ (x : State). Step.answer x q) e)
 
   left-many : 1024 < length ys → Left

@@ -18,7 +18,7 @@ use Rattle.model.specs.Effects.{lowered, revoke}
 use Rattle.table.specs.Rows.{nameAt, parentAt, before, Filled, Found, Places}
 use Rattle.rules.specs.Engine.{mark, Marked, Downward, Stays, kept, Closes, Clears, Lowers, Settled}
 use Rattle.model.proofs.Offered.{All, test, or-neither}
-use Rattle.table.proofs.Offered.{last, before-suc, before-same, length-before, at-before, Alike, places-same, places-more, places-past, before-reverse}
+use Rattle.table.proofs.Offered.{last, before-suc, before-same, length-before, at-before, Alike, places-same, places-more, places-past, before-lent}
 
 -- ---- closing up
 
@@ -98,21 +98,6 @@ clears-more T U from i b l c = record {
     zero-at j m (inr e) = rw e (getD-set-same U i emptyRow emptyRow l)
 
 -- ---- the lent table
-
--- rows that stand first, and zeros after them
-pub before-lent : (T : List Cap) (n r : ℕ) → r ≤ n → length T ≡ n → ((j : ℕ) → r ≤ j → j < n → getD T j emptyRow ≡ emptyRow) → T ≡ lentTable n (before T r)
-unfolding lentTable
-before-lent T n r b l z =
-    sym (take-append-drop r T)
-    ∙ rw (← before-reverse T r (omega arith), reverse-reverse (take r T), before-reverse T r (omega arith), length-before T r) (ap (λ (m : List Cap). take r T ++ m) zeros)
-  where
-    long : length (drop r T) ≡ n - r
-    long = omega (arith, length-drop r T)
-
-    zeros : drop r T ≡ replicate (n - r) emptyRow
-    zeros = ext-getD emptyRow (drop r T) (replicate (n - r) emptyRow) (long ∙ sym (length-replicate (n - r) emptyRow)) (λ j h.
-        let s : j < n - r = omega (arith, long) in
-        getD-drop r T j emptyRow ∙ z (r + j) (omega arith) (omega arith) ∙ sym (getD-replicate (n - r) j emptyRow emptyRow s))
 
 -- ---- no row ends
 

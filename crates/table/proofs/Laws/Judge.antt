@@ -17,7 +17,7 @@ use Rattle.model.specs.declared.Span.{Span}
 use Rattle.model.specs.declared.Cap.{Cap}
 use Rattle.model.specs.declared.Terms.{Terms}
 use Rattle.model.specs.declared.Refusal.{Refusal}
-use Rattle.model.specs.declared.Refusal.the-variants.{Disordered, Misspelt, IllegalSpan, Unissued, Ended, OutsideSpan, ReadOnly, TooDeep, NamesSpent, TableFull, BufferTooShort, Misnamed, Misgrouped, GivenTwice, NotGiven, NotWritten, NoHolder, LimitReached}
+use Rattle.model.specs.declared.Refusal.the-variants.{Disordered, Misspelt, IllegalSpan, Unissued, Ended, OutsideSpan, ReadOnly, TooDeep, NamesSpent, TableFull, BufferTooShort, Misnamed, Misgrouped, GivenTwice, NotGiven, NotWritten, NoHolder, LimitReached, NothingStored}
 use Rattle.table.specs.declared.judge.Place.{Place}
 use Rattle.table.specs.declared.judge.Place.the-variants.{At, Not}
 use Rattle.model.specs.Lists.{first, any, all}
@@ -25,14 +25,15 @@ use Rattle.model.specs.Bits.{hasBit, bitAt, spanWritten}
 use Rattle.model.specs.Limits.{refusedSheet}
 use Rattle.model.specs.Values.{end, legal, inside}
 use Rattle.model.specs.Table.{emptyRow, span, derivation, named, liveRows, lookup, isEmptyRow, isDomain, rowInOrder, rowsInOrder}
-use Rattle.model.specs.Refusals.{notARight, notAKind, notADomain, unfitMask, unfitChild, notAHolder, notWritten, outsideSpan, readOnly, tooDeep, standing, within, usable, checks, refusals, judge, viewOf}
+use Rattle.model.specs.Refusals.{notARight, notAKind, notADomain, unfitMask, unfitChild, notAHolder, notWritten, outsideSpan, readOnly, tooDeep, standing, within, usable, checks, refusals, judge, viewOf, tableIn, unfitStored}
+use Rattle.model.specs.Slots.{Memory, Slot, Nothing, unstored}
 use Rattle.model.specs.Step.{verdict}
 use Rattle.model.specs.Answers.{number}
-use Rattle.model.specs.Requests.{Limits, Request, callerOf}
+use Rattle.model.specs.Requests.{Limits, Request, callerOf, turnsState}
 use Rattle.table.specs.Rows.{before, Rise, LiveRows, Orderly}
 use Rattle.table.specs.Known.{Sized}
 use Rattle.table.specs.Stands.{Passes, Serves, saidOf, living, roomFor, childChecks, readChecks}
-use Rattle.model.proofs.Offered.{test, and-both, or-neither, first-none, emptyRow-empty, Ordered, ordered, marked-low, place, right-positive}
+use Rattle.model.proofs.Offered.{test, no-slot, and-both, or-neither, first-none, emptyRow-empty, Ordered, ordered, marked-low, place, right-positive}
 use Rattle.table.proofs.Laws.Prefix.{place-of}
 use Rattle.table.proofs.Laws.Ordered.{rowsInOrder-rise, rowsInOrder-at, lookup-place, liveRowsFirst-front, live-front}
 
@@ -65,6 +66,7 @@ numbered NotGiven = refl
 numbered NotWritten = refl
 numbered NoHolder = refl
 numbered LimitReached = refl
+numbered NothingStored = refl
 
 -- a name whose capability lives, and its holders
 module _ (rows : List Cap) (issued actor : ℕ) (u : Name) where
@@ -134,10 +136,12 @@ module _ (T : List Cap) (n k issued : ℕ) (o : Orderly T n k issued) where
   pub orderly-rise : Rise T k
   orderly-rise = rowsInOrder-rise T (suc issued) k (o .front .filled) orderly-rowsInOrder
 
-  -- judging comes down to the request's own checks, where the bits have their length and the limits are not refused
-  pub orderly-judge : (bits : List ℕ) → Sized bits → (q : Request) → refusedSheet T (callerOf q .limits) ≡ false → judge (viewOf T bits issued) q ≡ first (checks (before T k) issued (bitAt bits) n q)
+  -- judging comes down to the request's own checks, where the bits have their length, there are eight slots, the limits are not refused, and what
+  -- a back would bring is not unfit
+  pub orderly-judge : (bits : List ℕ) → Sized bits → (slots : List (Slot Memory)) → length slots ≡ 8 → (q : Request) → refusedSheet T (callerOf q .limits) ≡ false → unfitStored (viewOf T bits slots issued) q ≡ false
+      → judge (viewOf T bits slots issued) q ≡ first (checks (before T k) issued (bitAt bits) (λ j. tableIn (getD slots j Nothing)) n q)
   unfolding judge refusals
-  orderly-judge bits b q l = rw (o .ordered, l, b) (ap₂ (λ (rows : List Cap) (m : ℕ). first (checks rows issued (bitAt bits) m q)) orderly-live (o .all))
+  orderly-judge bits b slots e q l f = rw (f, o .ordered, l, b, e) (ap₂ (λ (rows : List Cap) (m : ℕ). first (checks rows issued (bitAt bits) (λ j. tableIn (getD slots j Nothing)) m q)) orderly-live (o .all))
 
   -- the rows after the live ones are zeros
   pub orderly-zeros : (j : ℕ) → k ≤ j → j < n → getD T j emptyRow ≡ emptyRow
@@ -180,10 +184,10 @@ module _ (T : List Cap) (n k issued : ℕ) (o : Orderly T n k issued) where
           rw y (ap (λ (c : Cap). first ((7, ltb (c .right) 1) ∷ [])) (lookup-place T k (p .0) (u .0) orderly-rise (p .1 .0) (p .1 .1) .1) ∙ low (getD T (p .0) emptyRow) (orderly-right (p .0) (p .1 .0)) ∙ sym z)
       go (inr f) = rw f
 
-  -- the answers of the requests
-  pub answered : (bits : List ℕ) → Sized bits → (q : Request) → refusedSheet T (callerOf q .limits) ≡ false → (y : ℕ)
-      → verdict (first (checks (before T k) issued (bitAt bits) n q)) y ≡ verdict (judge (viewOf T bits issued) q) y
-  answered bits b q l y = ap (λ (j : ℕ). verdict j y) (sym (orderly-judge bits b q l))
+  -- the answers to work
+  pub answered : (bits : List ℕ) → Sized bits → (q : Request) → turnsState q ≡ false → refusedSheet T (callerOf q .limits) ≡ false → (y : ℕ)
+      → verdict (first (checks (before T k) issued (bitAt bits) (λ j. tableIn (getD unstored j Nothing)) n q)) y ≡ verdict (judge (viewOf T bits unstored issued) q) y
+  answered bits b q w l y = ap (λ (j : ℕ). verdict j y) (sym (orderly-judge bits b unstored refl q l (no-slot (viewOf T bits unstored issued) q w)))
 
 -- ---- a borrow
 

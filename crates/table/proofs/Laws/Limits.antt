@@ -82,6 +82,11 @@ module _ (counts limits : List ℕ) (d : ℕ) (l : d < length limits) where
   unfolding exceedsBy
   exceeds-on m = rw (drop-cons limits d 0, le-ltb (getD limits d 0) (getD counts d 0) m, add-one)
 
+pub exceeds-none : (rows : List Cap) (limits : List ℕ) (d : ℕ) → length limits ≡ 0 → exceeds d rows limits ≡ false
+unfolding exceeds
+exceeds-none rows [] d e = refl
+exceeds-none rows (l ∷ limits) d e = absurd (let z : suc (length limits) ≡ 0 = e in omega arith)
+
 pub exceeds-end : (counts limits : List ℕ) (d : ℕ) → length limits ≤ d → exceedsBy d counts (drop d limits) ≡ false
 unfolding exceedsBy
 exceeds-end counts limits d l = rw (drop-of-length-le limits l)

@@ -3,22 +3,22 @@
 use mathlib.Core.Path.{_≡_, refl, sym, ap, _∙_}
 use mathlib.Core.Logic.{_⊎_, inl, inr}
 use mathlib.Core.Bool.{Bool, true, false, not, _&&_, and-false}
-use mathlib.Core.List.{List, [], _∷_, reverse, reverse-append}
-use Prim.Native.Nat.{ℕ, zero, suc, _+_, _≤_, _<_}
+use mathlib.Core.List.{List, [], _∷_, _++_, reverse, reverse-append, reverse-reverse}
+use Prim.Native.Nat.{ℕ, zero, suc, _+_, _-_, _≤_, _<_}
 use native.Mathlib.Nat.{not-suc-le-zero, le-of-suc-le-suc}
 use native.Mathlib.Numerals.{add-one}
 use native.Mathlib.Omega.{arith}
 use lib.Dec.{eqb, leb}
-use lib.ListN.{length, getD, take, drop}
-use lib.Seq.{drop-cons, drop-length, take-suc}
+use lib.ListN.{length, getD, take, drop, replicate, length-drop, take-append-drop, length-replicate, getD-replicate}
+use lib.Seq.{drop-cons, drop-length, take-suc, ext-getD, getD-drop}
 use borrow.Author.Tests.{eq-eqb, leb-true, le-leb, lt-leb, leb-false}
 use Rattle.model.specs.declared.Cap.{Cap}
 use Rattle.model.specs.Lists.{filter, any, all}
-use Rattle.model.specs.Table.{emptyRow, named, liveRows, lookup, isEmptyRow, liveRowsFirst, rowInOrder, rowsInOrder, inOrder}
+use Rattle.model.specs.Table.{emptyRow, named, liveRows, lentTable, lookup, isEmptyRow, liveRowsFirst, rowInOrder, rowsInOrder, inOrder}
 use Rattle.table.specs.Words.{rowsIn}
 use Rattle.table.specs.Rows.{nameAt, before, Filled, Rise, Front}
 use Rattle.model.proofs.Offered.{test, clash, unless, and-both, below-differs, emptyRow-empty, Rises, rises, risen, rowsInOrder-wider}
-use Rattle.table.proofs.Laws.Prefix.{last, before-suc}
+use Rattle.table.proofs.Laws.Prefix.{last, before-suc, length-before}
 use Rattle.table.proofs.Laws.Words.{length-in}
 
 pub rise-sub : (T : List Cap) (k i : ℕ) → i ≤ k → Rise T k → Rise T i
@@ -128,6 +128,21 @@ pub before-reverse : (T : List Cap) (k : ℕ) → k ≤ length T → reverse (ta
 unfolding before
 before-reverse T zero l = refl
 before-reverse T (suc k) l = rw (take-suc T k emptyRow, reverse-append, before-reverse T k (omega arith))
+
+-- rows that stand first, and zeros after them
+pub before-lent : (T : List Cap) (n r : ℕ) → r ≤ n → length T ≡ n → ((j : ℕ) → r ≤ j → j < n → getD T j emptyRow ≡ emptyRow) → T ≡ lentTable n (before T r)
+unfolding lentTable
+before-lent T n r b l z =
+    sym (take-append-drop r T)
+    ∙ rw (← before-reverse T r (omega arith), reverse-reverse (take r T), before-reverse T r (omega arith), length-before T r) (ap (λ (m : List Cap). take r T ++ m) zeros)
+  where
+    long : length (drop r T) ≡ n - r
+    long = omega (arith, length-drop r T)
+
+    zeros : drop r T ≡ replicate (n - r) emptyRow
+    zeros = ext-getD emptyRow (drop r T) (replicate (n - r) emptyRow) (long ∙ sym (length-replicate (n - r) emptyRow)) (λ j h.
+        let s : j < n - r = omega (arith, long) in
+        getD-drop r T j emptyRow ∙ z (r + j) (omega arith) (omega arith) ∙ sym (getD-replicate (n - r) j emptyRow emptyRow s))
 
 -- one row more is all zeros, or not
 pub emptyRow-step : (T : List Cap) (i : ℕ) → i < length T → all isEmptyRow (drop i T) ≡ isEmptyRow (getD T i emptyRow) && all isEmptyRow (drop (i + 1) T)

@@ -1,5 +1,5 @@
 -- Card 10: "A line `(as 3 (read 2 0 8))` says who acts; domain 0, and only it, acts without." The line of a domain from 1 on is that of domain 0,
--- inside `(as D ` and a bracket; an event by no domain has no line.
+-- inside `(as D ` and a bracket, of names that are dropped together and of card 11's marks and backs too; an event by no domain has no line.
 -- "a 64-bit mask of holders, given by the maker at creation or borrowing and including itself, written last as 16 digits [..]; a mask of the maker alone
 -- is left out". Lines that differ in the mask alone differ in these digits alone, or in the space before them and them; and a create or borrow with a
 -- mask without its maker has no line.
@@ -25,6 +25,7 @@ use Rattle.text.specs.Event.{bytes, spaced, line, rightWord, kindWord, f
 use Rattle.text.specs.Write.{writeEvent}
 use Rattle.text.specs.Read.{readEvent}
 use Rattle.text.specs.Group.{spellGroup, readGroup}
+use Rattle.text.specs.State.{spellSlot, markWord, backWord, spellMark, spellBack}
 use Rattle.text.specs.declared.spelling.Spelling.{Spelling}
 use Rattle.text.proofs.Laws.Terms.{root-terms, child-terms, spelled-below}
 use Rattle.text.proofs.Laws.OneSpelling.{read-is-spelling}
@@ -75,6 +76,14 @@ module _ (actor : ℕ) (some : 0 < actor) where
   pub group-acts : (names : List ℕ) → Acts actor (spellGroup 0 names) (spellGroup actor names)
   unfolding spellGroup
   group-acts names = acts (bytes "(drop") (spaced names) [] refl refl
+
+  pub mark-acts : (k : ℕ) → Acts actor (spellMark 0 k) (spellMark actor k)
+  unfolding spellSlot
+  mark-acts k = acts markWord (spaced (k ∷ [])) [] refl refl
+
+  pub back-acts : (k : ℕ) → Acts actor (spellBack 0 k) (spellBack actor k)
+  unfolding spellSlot
+  back-acts k = acts backWord (spaced (k ∷ [])) [] refl refl
 
   -- creates and borrows with masks that are spelled alike
   module _ (w : NewName) (s : Span) (right kind fresh mine theirs : ℕ) (alike : maskWord actor theirs ≡ maskWord 0 mine) where

@@ -1,4 +1,4 @@
--- Examples of lines, of document 01 and of cards 1, 5, 6, 9 and 10, computed by the definitions. The program `text_cases` runs these and more on the code.
+-- Examples of lines, of document 01 and of cards 1, 5, 6 and 9 to 11, computed by the definitions. The program `text_cases` runs these and more on the code.
 -- Assumes nothing.
 use mathlib.Core.Path.{_≡_, refl}
 use mathlib.Core.List.{List, [], _∷_, map}
@@ -10,7 +10,9 @@ use Rattle.text.specs.declared.spelling.Spelling.the-variants.{Plain, Na
 use Rattle.model.specs.declared.Event.{Event}
 use Rattle.model.specs.declared.Event.the-variants.{Create, Borrow, Read, Write, Drop}
 use Rattle.model.specs.Bits.{hasBit}
-use Rattle.model.specs.Requests.{isGroup, risesAbove, risesStrictly}
+use Rattle.model.specs.declared.Asked.{Asked}
+use Rattle.model.specs.declared.Asked.the-variants as asked
+use Rattle.model.specs.Requests.{Unlimited, caller, Request, Single, Group, Mark, Back, isGroup, risesAbove, risesStrictly}
 use Rattle.text.specs.Result.{Result, value, refused}
 use Rattle.text.specs.Class.{classOf}
 use Rattle.text.specs.Line.{through, nextLine}
@@ -20,6 +22,8 @@ use Rattle.text.specs.Event.{bytes, spaced, form, spell, writesName, has
 use Rattle.text.specs.Write.{written, stored, writeEvent}
 use Rattle.text.specs.Read.{same, guess, readEvent}
 use Rattle.text.specs.Group.{spellGroup, namesFrom, guessNames, readGroup, writeGroup}
+use Rattle.text.specs.State.{spellSlot, spellMark, spellBack, readState, writeSlot, writeMark, writeBack}
+use Rattle.text.specs.Request.{readRequest, writeRequest}
 use Rattle.text.proofs.Laws.Table.{values}
 use Rattle.text.proofs.Laws.Rights.{name, span, held, terms, readings}
 
@@ -248,9 +252,68 @@ together-written : (writeGroup 3 (2 ∷ 5 ∷ 9 ∷ []) (bytes "................
 unfolding writeGroup isGroup risesStrictly risesAbove written stored spellGroup spaced decimal numeral
 together-written = (refl, refl, refl, refl)
 
+-- ---- card 11
+
+-- marks and backs, of the first slot and the last, by domain 0, by domain 2 and by the last domain
+abbrev states : List String → List (Result Asked)
+states = map (λ s. readState (bytes s))
+
+mark-lines : states ("(mark 3)\n" ∷ "(mark 0)\n" ∷ "(mark 7)\n" ∷ "(as 2 (mark 3))\n" ∷ "(as 63 (mark 7))\n" ∷ [])
+    ≡ value (asked.Mark 0 3) ∷ value (asked.Mark 0 0) ∷ value (asked.Mark 0 7) ∷ value (asked.Mark 2 3) ∷ value (asked.Mark 63 7) ∷ []
+unfolding readState spellSlot through classOf numberFrom same spaced decimal numeral
+mark-lines = refl
+
+back-lines : states ("(back 3)\n" ∷ "(back 0)\n" ∷ "(back 7)\n" ∷ "(as 2 (back 3))\n" ∷ "(as 63 (back 7))\n" ∷ [])
+    ≡ value (asked.Back 0 3) ∷ value (asked.Back 0 0) ∷ value (asked.Back 0 7) ∷ value (asked.Back 2 3) ∷ value (asked.Back 63 7) ∷ []
+unfolding readState spellSlot through classOf numberFrom same spaced decimal numeral
+back-lines = refl
+
+-- refusal 2: a slot above 7, one above the limit, a leading zero, no slot, none with its space, two slots, domain 0 written, a domain above 63, a missing
+-- newline, bytes after it, two spaces, a bracket lost, upper case, a word cut short, and other words
+no-mark-lines : states ("(mark 8)\n" ∷ "(mark 10)\n" ∷ "(mark 4294967299)\n" ∷ "(mark 03)\n" ∷ "(mark)\n" ∷ "(mark )\n" ∷ "(mark 1 2)\n" ∷ "(as 0 (mark 1))\n"
+    ∷ "(as 64 (mark 1))\n" ∷ "(mark 1)" ∷ "(mark 1)\n\n" ∷ "(mark  1)\n" ∷ "(as 2 (mark 1)\n" ∷ "(Mark 1)\n" ∷ "(mar 1)\n" ∷ "(make 1)\n" ∷ "(drop 1)\n" ∷ [])
+    ≡ replicate 17 (refused 2)
+unfolding readState spellSlot through classOf numberFrom same spaced decimal numeral
+no-mark-lines = refl
+
+no-back-lines : states ("(back 8)\n" ∷ "(back 4294967295)\n" ∷ "(back 03)\n" ∷ "(back)\n" ∷ "(back )\n" ∷ "(back 1 2)\n" ∷ "(as 0 (back 1))\n" ∷ "(as 64 (back 1))\n" ∷ "(back 7)"
+    ∷ "(as 2 (back 7)\n" ∷ "(bac 7)\n" ∷ "(borrow 7)\n" ∷ []) ≡ replicate 12 (refused 2)
+unfolding readState spellSlot through classOf numberFrom same spaced decimal numeral
+no-back-lines = refl
+
+-- in both kinds of traces alike
+abbrev in-both : String → List (Result Request)
+in-both s = readRequest Unlimited Plain (bytes s) ∷ readRequest Unlimited Named (bytes s) ∷ []
+
+mark-in-both : (in-both "(as 2 (mark 3))\n" ≡ replicate 2 (value (Mark (caller 2 Unlimited) 3)))
+    × (in-both "(back 7)\n" ≡ replicate 2 (value (Back (caller 0 Unlimited) 7)))
+    × (in-both "(drop 7)\n" ≡ replicate 2 (value (Single (caller 0 Unlimited) (Drop (name 7)))))
+    × (in-both "(drop 3 7)\n" ≡ replicate 2 (value (Group (caller 0 Unlimited) (3 ∷ 7 ∷ []))))
+    × (in-both "(mark 8)\n" ≡ replicate 2 (refused 2))
+unfolding readEvent guess hasSpelling writesName hasBit spell form readGroup guessNames namesFrom isGroup risesStrictly risesAbove spellGroup readState spellSlot through classOf numberFrom same spaced decimal numeral
+mark-in-both = (refl, refl, refl, refl, refl)
+
+-- written, and the writers' refusals in their order: 2, 11
+states-written : (writeMark 0 3 (bytes "...........") ≡ record { answer = value 9; buffer = bytes "(mark 3)\n.." })
+    × (writeBack 2 3 (bytes "................") ≡ record { answer = value 16; buffer = bytes "(as 2 (back 3))\n" })
+    × (writeMark 0 8 [] ≡ record { answer = refused 2; buffer = [] })
+    × (writeBack 64 7 [] ≡ record { answer = refused 2; buffer = [] })
+    × (writeMark 0 7 (bytes "........") ≡ record { answer = refused 11; buffer = bytes "........" })
+    × (writeBack 63 7 [] ≡ record { answer = refused 11; buffer = [] })
+unfolding writeSlot written stored spellSlot spaced decimal numeral
+states-written = (refl, refl, refl, refl, refl, refl)
+
+-- the line of a request is that of what it asks for
+requests-written : (writeRequest (Mark (caller 2 Unlimited) 3) (bytes "..................") ≡ record { answer = value 16; buffer = bytes "(as 2 (mark 3))\n.." })
+    × (writeRequest (Back (caller 0 Unlimited) 3) (bytes "...........") ≡ record { answer = value 9; buffer = bytes "(back 3)\n.." })
+    × (writeRequest (Back (caller 0 Unlimited) 8) (bytes "...........") ≡ record { answer = refused 2; buffer = bytes "..........." })
+unfolding writeSlot written stored spellSlot spaced decimal numeral
+requests-written = (refl, refl, refl)
+
 -- ---- the longest lines
 
--- the bounds of proofs/Laws/Range and proofs/Laws/Group are reached: without and with a written name, of a create, and of 64 names
+-- the bounds of proofs/Laws/Range, proofs/Laws/Group and proofs/Laws/State are reached: without and with a written name, of a create, of 64 names, and of
+-- a mark and a back
 every : ℕ
 every = 18446744073709551615
 
@@ -259,5 +322,7 @@ longest : (length (spell 63 (Borrow Unwritten (name 4294967295) (span 4294967295
     × (length (spell 63 (Create Unwritten (span 4294967295 4294967295) (held 2 0 1 every))) ≡ 65)
     × (length (spell 63 (Create (Written (name 4294967295)) (span 4294967295 4294967295) (held 2 0 1 every))) ≡ 76)
     × (length (spellGroup 63 (values (λ n. n) 4294967232 64)) ≡ 719)
-unfolding spell form spellGroup spaced decimal numeral hex every
-longest = (refl, refl, refl, refl, refl)
+    × (length (spellMark 63 7) ≡ 17)
+    × (length (spellBack 63 7) ≡ 17)
+unfolding spell form spellGroup spellSlot spaced decimal numeral hex every
+longest = (refl, refl, refl, refl, refl, refl, refl)

@@ -72,7 +72,7 @@ module _ (actor : ℕ) where
     unfolding spellGroup
     actor-found = actor-back actor small (line "(drop" names (back actor)) (eqb-false 100 97 refl)
 
-    form-found : formOf (spellGroup actor names) ≡ line "(drop" names (back actor)
+    pub form-found : formOf (spellGroup actor names) ≡ line "(drop" names (back actor)
     unfolding spellGroup
     form-found = form-back actor small (line "(drop" names (back actor)) (eqb-false 100 97 refl)
 

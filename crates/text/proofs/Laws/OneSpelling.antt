@@ -31,7 +31,7 @@ module _ (k : Spelling) (actor : ℕ) (e : Event) (h : hasSpelling k actor e ≡
   unfolding spell
   actor-found = actor-back actor small (form actor e) (form-other actor e)
 
-  form-found : formOf (spell actor e) ≡ form actor e
+  pub form-found : formOf (spell actor e) ≡ form actor e
   unfolding spell
   form-found = form-back actor small (form actor e) (form-other actor e)
 

@@ -1,4 +1,4 @@
--- Document 01, "Eleven ways to be turned down", and cards 5 and 10: the number that a writer gives is the first of its refusals, in order of
+-- Document 01, "Eleven ways to be turned down", and cards 5, 10 and 11: the number that a writer gives is the first of its refusals, in order of
 -- precedence, that applies. Its condition holds, none that comes before it does, and the buffer is left as it was.
 -- Assumes nothing.
 use mathlib.Core.Path.{_≡_, refl}
@@ -20,6 +20,7 @@ use Rattle.text.specs.Result.{refusalOf}
 use Rattle.text.specs.Event.{spell, hasSpelling}
 use Rattle.text.specs.Write.{written, stored, tooLong, writeEvent, writeRefusals}
 use Rattle.text.specs.Group.{spellGroup, writeGroup, writeGroupRefusals}
+use Rattle.text.specs.State.{slotSpelled, spellSlot, writeSlot, writeSlotRefusals}
 use Rattle.text.specs.declared.spelling.Spelling.{Spelling}
 
 -- a text that is written, or longer than the buffer
@@ -99,3 +100,24 @@ module _ (actor : ℕ) (names out : List ℕ) where
       go : (isGroup names ≡ true) ⊎ (isGroup names ≡ false) → writeGroup actor names out .buffer ≡ out
       go (inl t) = rw t (text-untouched (isDomain actor) (spellGroup actor names) out j (rw t at h))
       go (inr f) = rw f
+
+-- ---- the writers of marks and backs, with the word of either
+
+module _ (word : List ℕ) (actor k : ℕ) (out : List ℕ) where
+  pub slot-given : refusalOf (writeSlot word actor k out .answer) ≡ first (writeSlotRefusals word actor k out)
+  unfolding writeSlot writeSlotRefusals
+  slot-given = text-given (slotSpelled actor k) (spellSlot word actor k) out
+
+  pub slot-rising : risesFrom 0 (writeSlotRefusals word actor k out) ≡ true
+  unfolding writeSlotRefusals
+  slot-rising = refl
+
+  pub slot-given-holds : (j : ℕ) → refusalOf (writeSlot word actor k out .answer) ≡ suc j → listed (suc j) (writeSlotRefusals word actor k out) ≡ true
+  slot-given-holds j h = first-holds (writeSlotRefusals word actor k out) 0 j slot-rising (rw slot-given at h)
+
+  pub slot-given-first : (j : ℕ) → place j < place (refusalOf (writeSlot word actor k out .answer)) → listed j (writeSlotRefusals word actor k out) ≡ false
+  slot-given-first j l = first-lowest (writeSlotRefusals word actor k out) 0 j slot-rising (rw slot-given at l)
+
+  pub slot-untouched : (j : ℕ) → refusalOf (writeSlot word actor k out .answer) ≡ suc j → writeSlot word actor k out .buffer ≡ out
+  unfolding writeSlot
+  slot-untouched j h = text-untouched (slotSpelled actor k) (spellSlot word actor k) out j h

@@ -20,9 +20,8 @@ use Rattle.text.specs.Result.{Result, value, refused}
 use Rattle.text.specs.Request.{readRequest}
 use Rattle.text.specs.declared.spelling.Spelling.{Spelling}
 use Rattle.text.specs.declared.spelling.Spelling.the-variants.{Plain, Named}
-use Rattle.text.proofs.Offered.{same-true, same-refl}
+use Rattle.text.proofs.Offered.{refused-request-is-2, same-true, same-refl}
 use Rattle.trace.specs.Run.{header, Ran, Taken, Checker, takeRead, runLines, runTrace, lent}
-use Rattle.trace.proofs.Laws.Stops.{misread-2}
 use Rattle.trace.proofs.Laws.Spellings.{header-misread}
 
 -- ---- lines that are allowed
@@ -78,7 +77,7 @@ module _ (sheet : Sheet) (limits : Limits) where
           on : (eqb (answer h q .refusal) 0 ≡ true) ⊎ (eqb (answer h q .refusal) 0 ≡ false) → behind k before ls (takeRead (lent sheet limits) h (value q)) .refusal ≡ 0 → (allRequests limits k ls ≡ true) × AllAllowed h (q ∷ requests limits k ls)
           on (inl e) z = let r = ih (after sheet h q) (rw e at z) in (r .0, rw e (r .1))
           on (inr e) z = clash (eq-eqb (answer h q .refusal) 0 (rw e at z)) e
-      go (refused x) is ih z = absurd (let no : _≡_ {A = ℕ} 2 0 = rw (misread-2 limits k l x is) at z in omega arith)
+      go (refused x) is ih z = absurd (let no : _≡_ {A = ℕ} 2 0 = rw (refused-request-is-2 limits k l x is) at z in omega arith)
 
   -- and such lines are allowed, and do what their requests do
   pub allowed-lines : (k : Spelling) (before : ℕ) (h : State) (ls : List (List ℕ)) → Allowed k h ls

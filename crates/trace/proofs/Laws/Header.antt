@@ -10,7 +10,9 @@ use lib.Seq.{length-take-le}
 use Rattle.model.specs.Requests.{Limits}
 use Rattle.model.specs.declared.Sheet.{Sheet}
 use Rattle.model.specs.declared.Tally.{Tally}
-use Rattle.model.specs.Step.{State}
+use Rattle.model.specs.Refusals.{unfit}
+use Rattle.model.specs.Slots.{Memory, Slot}
+use Rattle.model.specs.Step.{State, view}
 use Rattle.table.specs.Words.{rowsIn}
 use Rattle.rules.specs.Steps.{lends}
 use Rattle.text.specs.Class.{newline}
@@ -20,7 +22,6 @@ use Rattle.text.specs.declared.spelling.Spelling.the-variants.{Plain, Named}
 use Rattle.text.proofs.Offered.{parts-next, through-le, same-refl, same-true}
 use Rattle.trace.specs.declared.run.RunOutcome.{RunOutcome}
 use Rattle.trace.specs.Run.{header, Checker, runLines, runTrace, runFrom, lent, run, Runs, RunsLines}
-use Rattle.trace.proofs.Laws.Turn.{Fit}
 
 -- a text whose first line is the header has its ten bytes in front
 module _ (text : List ℕ) (h : same (nextLine text) header ≡ true) where
@@ -48,13 +49,17 @@ trace-plain (b ∷ t) h c s = rw (parts-next newline (b ∷ t) (omega arith), h)
 
 module _ (sheet : Sheet) (limits : Limits) where
   -- a run on what is fit goes by its lines
-  by-lines : (h : State) (text : List ℕ) → Fit limits h → runTrace (lent sheet limits) h (linesOf text) ≡ run sheet limits h text
+  by-lines : (h : State) (text : List ℕ) → unfit limits (view h) ≡ false → runTrace (lent sheet limits) h (linesOf text) ≡ run sheet limits h text
   unfolding runFrom
   by-lines h text f = rw f
 
-  module _ (ws : List (List ℕ)) (bs : List ℕ) (t : Tally) (text : List ℕ) (f : Fit limits (lends (rowsIn ws) bs t)) {ws′ : List (List ℕ)} {bs′ : List ℕ} {r : RunOutcome} where
-    pub runs-named : same (nextLine text) header ≡ true → {rest : List ℕ} → rest ≡ drop 10 text → RunsLines sheet limits Named 1 ws bs t rest ws′ bs′ r → Runs sheet limits ws bs t text ws′ bs′ r
-    runs-named h e k = record { ran = k .ran ∙ ap (λ (l : List ℕ). runLines (lent sheet limits) Named 1 (lends (rowsIn ws) bs t) (linesOf l)) e ∙ sym (trace-named text h (lent sheet limits) (lends (rowsIn ws) bs t)) ∙ by-lines (lends (rowsIn ws) bs t) text f }
+  module _ (ws : List (List ℕ)) (bs : List ℕ) (slots : List (Slot Memory)) (t : Tally) (text : List ℕ) (f : unfit limits (view (lends (rowsIn ws) bs slots t)) ≡ false) where
+    abbrev h : State
+    h = lends (rowsIn ws) bs slots t
 
-    pub runs-plain : same (nextLine text) header ≡ false → RunsLines sheet limits Plain 0 ws bs t text ws′ bs′ r → Runs sheet limits ws bs t text ws′ bs′ r
-    runs-plain h k = record { ran = k .ran ∙ sym (trace-plain text h (lent sheet limits) (lends (rowsIn ws) bs t)) ∙ by-lines (lends (rowsIn ws) bs t) text f }
+    module _ {ws′ : List (List ℕ)} {bs′ : List ℕ} {slots′ : List (Slot Memory)} {r : RunOutcome} where
+      pub runs-named : same (nextLine text) header ≡ true → {rest : List ℕ} → rest ≡ drop 10 text → RunsLines sheet limits Named 1 ws bs slots t rest ws′ bs′ slots′ r → Runs sheet limits ws bs slots t text ws′ bs′ slots′ r
+      runs-named y e k = record { ran = k .ran ∙ ap (λ (l : List ℕ). runLines (lent sheet limits) Named 1 h (linesOf l)) e ∙ sym (trace-named text y (lent sheet limits) h) ∙ by-lines h text f }
+
+      pub runs-plain : same (nextLine text) header ≡ false → RunsLines sheet limits Plain 0 ws bs slots t text ws′ bs′ slots′ r → Runs sheet limits ws bs slots t text ws′ bs′ slots′ r
+      runs-plain y k = record { ran = k .ran ∙ sym (trace-plain text y (lent sheet limits) h) ∙ by-lines h text f }

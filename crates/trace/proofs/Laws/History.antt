@@ -4,10 +4,11 @@ use mathlib.Core.Path.{_≡_, refl, ap}
 use mathlib.Core.Bool.{Bool, true, false, not, cond}
 use mathlib.Core.List.{List, [], _∷_}
 use Prim.Native.Nat.{ℕ, _+_}
+use native.Mathlib.Omega.{arith}
 use lib.Dec.{eqb}
-use Rattle.model.specs.Requests.{Limits, Request}
+use Rattle.model.specs.Requests.{Limits, caller, Request, Mark}
 use Rattle.model.specs.declared.Tally.{Tally}
-use Rattle.model.specs.Refusals.{unfit}
+use Rattle.model.specs.Refusals.{unfit, refusals, judge}
 use Rattle.model.specs.declared.Sheet.{Sheet}
 use Rattle.model.specs.Step.{Verdict, State, view, initial}
 use Rattle.model.specs.Step
@@ -40,7 +41,7 @@ module _ (sheet : Sheet) (limits : Limits) (n : ℕ) where
       go : (r : Result Request) → SameLine (takeRead (lent sheet limits) h r) (takeRead (noted sheet limits n) H r)
       go (value q) =
           record { refusals = ap (λ (v : Verdict). v .refusal) (match-answer sheet n h H m q); match = match-after sheet n h H m q }
-      go (refused x) = record { refusals = refl; match = record { memory = m .memory; same-issued = m .same-issued } }
+      go (refused x) = record { refusals = refl; match = record { memory = m .memory; same-issued = m .same-issued; slots = m .slots } }
 
   same-lines : (k : Spelling) (before : ℕ) (h : State) (H : History) → Match sheet n h H → (ls : List (List ℕ)) → Same (runLines (lent sheet limits) k before h ls) (runLines (noted sheet limits n) k before H ls)
   unfolding runLines
@@ -68,13 +69,21 @@ module _ (sheet : Sheet) (limits : Limits) (n : ℕ) where
       go true = same-lines Named 1 h H m ls
       go false = same-lines Plain 0 h H m (l ∷ ls)
 
+  -- both are fit, or neither: a mark in a slot by a domain is refused for nothing else
+  same-unfit : (h : State) (H : History) → Match sheet n h H → unfit limits (view h) ≡ unfit limits (History.view sheet n (H .kept) (H .notes) (H .count))
+  unfolding Step.answer History.answer judge refusals
+  same-unfit h H m = go (unfit limits (view h)) (unfit limits (History.view sheet n (H .kept) (H .notes) (H .count))) (ap (λ (v : Verdict). v .refusal) (match-answer sheet n h H m (Mark (caller 0 limits) 0)))
+    where
+      go : (a b : Bool) → _≡_ {A = ℕ} (cond a 1 0) (cond b 1 0) → a ≡ b
+      go true true e = refl
+      go true false e = absurd (let z : _≡_ {A = ℕ} 1 0 = e in omega arith)
+      go false true e = absurd (let z : _≡_ {A = ℕ} 0 1 = e in omega arith)
+      go false false e = refl
+
   same-from : (h : State) (H : History) → Match sheet n h H → (text : List ℕ) → Same (runFrom (lent sheet limits) h text) (runFrom (noted sheet limits n) H text)
   unfolding runFrom
-  same-from h H m text = rw judged (go (not (unfit limits (History.view sheet n (H .notes) (H .count)))))
+  same-from h H m text = rw (same-unfit h H m) (go (not (unfit limits (History.view sheet n (H .kept) (H .notes) (H .count)))))
     where
-      judged : not (unfit limits (view h)) ≡ not (unfit limits (History.view sheet n (H .notes) (H .count)))
-      judged = rw (m .memory .same-table, m .same-issued, m .memory .bits .size)
-
       go : (b : Bool) → Same (cond b (runTrace (lent sheet limits) h (linesOf text)) (record { refusal = 1; number = 0; state = h })) (cond b (runTrace (noted sheet limits n) H (linesOf text)) (record { refusal = 1; number = 0; state = H }))
       go true = same-trace h H m (linesOf text)
       go false = record { refusals = refl; numbers = refl; match = m }

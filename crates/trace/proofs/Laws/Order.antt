@@ -1,4 +1,4 @@
--- A run keeps what is lent fit, and a table in order, refuses what is not fit, and its line number is at most the number of bytes.
+-- A run keeps a table in order, refuses what is not fit, and its line number is at most the number of bytes.
 -- Assumes nothing.
 use mathlib.Core.Path.{_≡_, refl, ap}
 use mathlib.Core.Logic.{_⊎_, inl, inr}
@@ -13,14 +13,13 @@ use Rattle.model.specs.declared.Sheet.{Sheet}
 use Rattle.model.specs.Step.{State, view}
 use Rattle.model.specs.Table.{inOrder}
 use Rattle.model.specs.Refusals.{unfit}
-use Rattle.model.proofs.Offered.{fit-order, test}
 use Rattle.text.specs.Class.{classOf, newline}
 use Rattle.text.specs.Line.{push, linesOf, partsOf}
 use Rattle.text.specs.Read.{same}
 use Rattle.text.specs.declared.spelling.Spelling.{Spelling}
 use Rattle.text.specs.declared.spelling.Spelling.the-variants.{Plain, Named}
 use Rattle.trace.specs.Run.{header, Ran, takeLine, runLines, runTrace, runFrom, lent, run}
-use Rattle.trace.proofs.Laws.Turn.{Fit, line-fit}
+use Rattle.trace.proofs.Laws.Turn.{line-order}
 
 -- a turn of a run, for what holds of the rest of it and of an end at this line
 pub turned : {S : Type 0} (P : Ran S → Type 0) (t : Bool) (rest end : Ran S) → P rest → P end → P (cond t rest end)
@@ -46,12 +45,16 @@ lines-few (b ∷ s) = go (eqb (classOf b) newline) (linesOf s) (lines-few s)
     go false (l ∷ ls) h = omega arith
 
 module _ (sheet : Sheet) (limits : Limits) where
-  fit-lines : (k : Spelling) (before : ℕ) (h : State) (ls : List (List ℕ)) → Fit limits h → Fit limits (runLines (lent sheet limits) k before h ls .state)
+  abbrev InOrder : State → Type 0
+  InOrder h = inOrder (h .memory .table) (h .tally .issued) ≡ true
+
+  order-lines : (k : Spelling) (before : ℕ) (h : State) (ls : List (List ℕ)) → InOrder h → InOrder (runLines (lent sheet limits) k before h ls .state)
   unfolding runLines
-  fit-lines k before h [] o = o
-  fit-lines k before h (l ∷ ls) o =
+  order-lines k before h [] o = o
+  order-lines k before h (l ∷ ls) o =
       let t = takeLine (lent sheet limits) k h l in
-      turned (λ (r : Ran State). Fit limits (r .state)) (eqb (t .refusal) 0) (runLines (lent sheet limits) k (before + 1) (t .state) ls) (record { refusal = t .refusal; number = before + 1; state = t .state }) (fit-lines k (before + 1) (t .state) ls (line-fit sheet limits k h l o)) (line-fit sheet limits k h l o)
+      turned (λ (r : Ran State). InOrder (r .state)) (eqb (t .refusal) 0) (runLines (lent sheet limits) k (before + 1) (t .state) ls) (record { refusal = t .refusal; number = before + 1; state = t .state })
+      (order-lines k (before + 1) (t .state) ls (line-order sheet limits k h l o)) (line-order sheet limits k h l o)
 
   -- what holds of the lines in either spelling holds of a trace
   pub of-trace : (P : Ran State → Type 0) (h : State) (ls : List (List ℕ)) → P (runLines (lent sheet limits) Plain 0 h ls) → ((line : List ℕ) (rest : List (List ℕ)) → ls ≡ line ∷ rest → P (runLines (lent sheet limits) Named 1 h rest))
@@ -60,23 +63,17 @@ module _ (sheet : Sheet) (limits : Limits) where
   of-trace P h [] p q = p
   of-trace P h (line ∷ ls) p q = turned P (same line header) (runLines (lent sheet limits) Named 1 h ls) (runLines (lent sheet limits) Plain 0 h (line ∷ ls)) (q line ls refl) p
 
-  fit-run : (h : State) (text : List ℕ) → Fit limits h → Fit limits (run sheet limits h text .state)
-  unfolding runFrom
-  fit-run h text o =
-      rw o (of-trace (λ (r : Ran State). Fit limits (r .state)) h (linesOf text) (fit-lines Plain 0 h (linesOf text) o) (λ line rest e. fit-lines Named 1 h rest o))
-
   -- what is unfit is refused before any line
   pub refused-run : (h : State) (text : List ℕ) → unfit limits (view h) ≡ true → run sheet limits h text ≡ record { refusal = 1; number = 0; state = h }
   unfolding runFrom
   refused-run h text d = rw d
 
-  -- a table in order stays so, whatever the bits are
-  pub order-run : (h : State) (text : List ℕ) → inOrder (h .memory .table) (h .tally .issued) ≡ true → inOrder (run sheet limits h text .state .memory .table) (run sheet limits h text .state .tally .issued) ≡ true
-  order-run h text o = go (test (unfit limits (view h)))
-    where
-      go : (unfit limits (view h) ≡ true) ⊎ Fit limits h → inOrder (run sheet limits h text .state .memory .table) (run sheet limits h text .state .tally .issued) ≡ true
-      go (inl d) = rw (refused-run h text d) o
-      go (inr f) = fit-order limits (view (run sheet limits h text .state)) (fit-run h text f)
+  -- a table in order stays so, whatever else is lent
+  pub order-run : (h : State) (text : List ℕ) → InOrder h → InOrder (run sheet limits h text .state)
+  unfolding runFrom
+  order-run h text o =
+      turned (λ (r : Ran State). InOrder (r .state)) (not (unfit limits (view h))) (runTrace (lent sheet limits) h (linesOf text)) (record { refusal = 1; number = 0; state = h })
+      (of-trace (λ (r : Ran State). InOrder (r .state)) h (linesOf text) (order-lines Plain 0 h (linesOf text) o) (λ line rest e. order-lines Named 1 h rest o)) o
 
   pub refused-line : (k : Spelling) (before : ℕ) (h : State) (ls : List (List ℕ)) → Behind before (runLines (lent sheet limits) k before h ls)
   unfolding runLines

@@ -2,7 +2,7 @@
 -- Assumes nothing.
 use mathlib.Core.Path.{_≡_, refl, sym, ap, ap₂, _∙_}
 use mathlib.Core.Logic.{_⊎_, inl, inr}
-use mathlib.Core.Bool.{Bool, true, false, cond, _&&_}
+use mathlib.Core.Bool.{Bool, true, false, not, cond, _&&_}
 use mathlib.Core.List.{List, [], _∷_, _++_, flatMap, nil≢cons}
 use Prim.Native.Nat.{ℕ, zero, suc, _+_, _≤_, _<_}
 use native.Mathlib.Omega.{arith}
@@ -12,37 +12,34 @@ use lib.Seq.{take-nil, split-at}
 use borrow.Author.Tests.{ltb-true, ltb-false}
 use Rattle.model.specs.declared.Name.{Name}
 use Rattle.model.specs.declared.Span.{Span}
-use Rattle.model.specs.declared.Event.{Event}
 use Rattle.model.specs.declared.Event.the-variants.{Read}
 use Rattle.model.specs.declared.Sheet.{Sheet}
 use Rattle.model.specs.declared.Tally.{Tally}
 use Rattle.model.specs.Lists.{all, without, answers, final}
-use Rattle.model.specs.Requests.{Limits, Unlimited, Caller, caller, Request, Single}
+use Rattle.model.specs.Requests.{Limits, Unlimited, Caller, caller, Request, Single, Group, Mark, Back, turnsState}
+use Rattle.model.specs.declared.Asked.the-variants as variant
 use Rattle.model.specs.Sheet6.{sheet6}
 use Rattle.model.specs.Table.{isDomain}
 use Rattle.model.specs.Step.{State, view, initial, isAllowed, answer, after}
 use Rattle.model.specs.Refusals.{unfit}
-use Rattle.model.specs.ReadRemoved.{NoReadEnds, OnlyRights, readStrikes, ReadRemoved}
-use Rattle.model.proofs.Offered.{test, and-both, all-append, answers-append, read-removed, no-read-ends}
+use Rattle.model.specs.ReadRemoved.{NoReadEnds, NoStates, OnlyRights, readStrikes, ReadRemoved}
+use Rattle.model.proofs.Offered.{test, clash, and-both, all-append, answers-append, read-removed, no-read-ends}
 use Rattle.text.specs.Class.{classOf, newline}
 use Rattle.text.specs.Line.{push, linesOf, partsOf}
 use Rattle.text.specs.Event.{bytes, spell, hasSpelling, InRange}
-use Rattle.text.specs.Group.{readGroup}
-use Rattle.text.specs.Read.{readEvent}
-use Rattle.text.specs.Result.{Result, value, refused}
-use Rattle.text.specs.Request.{groupOf, orGroup, readRequest}
+use Rattle.text.specs.Result.{Result, value, refused, refusalOf}
+use Rattle.text.specs.Request.{readRequest, spellRequest}
 use Rattle.text.specs.declared.spelling.Spelling.{Spelling}
 use Rattle.text.specs.declared.spelling.Spelling.the-variants.{Plain}
-use Rattle.text.proofs.Offered.{parts-together, read-is-spelling, spell-is-line, spelling-reads-back}
+use Rattle.text.proofs.Offered.{parts-together, read-request-is-spelling, spell-is-line, spelling-reads-back, state-reads-back}
 use Rattle.listing.specs.SameButRights.{SameButRights}
 use Rattle.listing.proofs.Offered.{lowered-listing}
 use Rattle.trace.specs.Run.{Ran, runTrace, runFrom, lent, run}
 use Rattle.trace.specs.Stops.{joined, firstLines}
 use Rattle.trace.specs.Check.{answerLine, listingOf, noCounts}
 use Rattle.trace.specs.Spellings.{checked}
-use Rattle.trace.specs.ReadRemoved.{withoutLine, IsRead, LineRemoved, ChecksRemoved}
+use Rattle.trace.specs.ReadRemoved.{withoutLine, IsRead, isNoState, NoStatesBehind, LineRemoved, ChecksRemoved}
 use Rattle.trace.proofs.Laws.Allowed.{isRequest, allRequests, consRequest, requests, requests-append, AllAllowed, Allowed, allowed-lines, Front, none, first, front-run, TraceOf, trace-of}
-use Rattle.trace.proofs.Laws.Turn.{Fit}
 use Rattle.trace.proofs.Laws.Order.{refused-run}
 use Rattle.trace.proofs.Laws.Stops.{lines-first}
 use Rattle.trace.proofs.Laws.Spellings.{header-misread, ran-text}
@@ -100,41 +97,51 @@ module _ (actor : ℕ) (domain : isDomain actor ≡ true) (u : Name) (s : Span) 
     place : ℕ
     earlier : take k (before ++ lines) ≡ before ++ take place lines
     left : without k (before ++ lines) ≡ before ++ without place lines
+    later : drop (suc k) (before ++ lines) ≡ drop (suc place) lines
     here : getD lines place [] ≡ spell actor (Read u s)
 
   at : {j : Spelling} {before : List (List ℕ)} → Front j before → (k : ℕ) (lines : List (List ℕ)) → getD (before ++ lines) k [] ≡ spell actor (Read u s) → At k before lines
-  at none k lines is = record { place = k; earlier = refl; left = refl; here = is }
+  at none k lines is = record { place = k; earlier = refl; left = refl; later = refl; here = is }
   at first zero lines is = absurd (let q : _≡_ {A = ℕ} 0 1 = cc (is, read-reads Unlimited Plain, header-misread Unlimited Plain) in omega arith)
-  at first (suc k) lines is = record { place = k; earlier = refl; left = refl; here = is }
+  at first (suc k) lines is = record { place = k; earlier = refl; left = refl; later = refl; here = is }
 
 -- every line that reads as a read, in either spelling, is the spelling of it
 pub is-read : (limits : Limits) (j : Spelling) (k : ℕ) (text : List ℕ) (by : Caller) (u : Name) (s : Span) → readRequest limits j (getD (linesOf text) k []) ≡ value (Single by (Read u s)) → IsRead k text (by .actor) u s
-unfolding hasSpelling
-is-read limits j k text by u s = go (readEvent j line) refl
+unfolding hasSpelling spellRequest
+is-read limits j k text by u s read =
+    let spelled = read-request-is-spelling limits j (getD (linesOf text) k []) (Single by (Read u s)) read in
+    record { is-domain = spelled .1 .0; line = spelled .2; small = spelled .1 .1 }
+
+-- ---- lines that are neither marks nor backs
+
+-- what such a line reads as is neither
+no-state : (limits : Limits) (k : Spelling) (l : List ℕ) (q : Request) → isNoState l ≡ true → readRequest limits k l ≡ value q → not (turnsState q) ≡ true
+unfolding spellRequest
+no-state limits k l (Single by e) free is = refl
+no-state limits k l (Group by names) free is = refl
+no-state limits k l (Mark by j) free is =
+    let s = read-request-is-spelling limits k l (Mark by j) is in
+    clash free (ap (λ r. eqb (refusalOf r) 2) (state-reads-back (variant.Mark (by .actor) j) l (s .1, s .2)))
+no-state limits k l (Back by j) free is =
+    let s = read-request-is-spelling limits k l (Back by j) is in
+    clash free (ap (λ r. eqb (refusalOf r) 2) (state-reads-back (variant.Back (by .actor) j) l (s .1, s .2)))
+
+no-states : (limits : Limits) (k : Spelling) (ls : List (List ℕ)) → all isNoState ls ≡ true → NoStates (requests limits k ls)
+unfolding requests
+no-states limits k [] free = refl
+no-states limits k (l ∷ ls) free = let p = and-both (isNoState l) (all isNoState ls) free in go (readRequest limits k l) refl (p .0) (no-states limits k ls (p .1))
   where
-    line : List ℕ
-    line = getD (linesOf text) k []
-
-    no-group : (g : Result (ℕ × List ℕ)) → groupOf limits g ≡ value (Single by (Read u s)) → ⊥
-    no-group (value g) z = let q : _≡_ {A = ℕ} 0 1 = cc in omega arith
-    no-group (refused x) z = let q : _≡_ {A = ℕ} 0 1 = cc in omega arith
-
-    go : (r : Result (ℕ × Event)) → readEvent j line ≡ r → orGroup limits line r ≡ value (Single by (Read u s)) → IsRead k text (by .actor) u s
-    go (value a) is z =
-        let same : a .1 ≡ Read u s = cc in
-        let asks : caller (a .0) limits ≡ by = cc in
-        let who : a .0 ≡ by .actor = ap (λ (b : Caller). b .actor) asks in
-        let spelled = read-is-spelling j line (by .actor) (Read u s) (is ∙ ap₂ (λ (x : ℕ) (e : Event). value (x, e)) who same) in
-        record { is-domain = spelled .0; line = spelled .2; small = spelled .1 }
-    go (refused x) is z = absurd (no-group (readGroup line) z)
+    go : (r : Result Request) → readRequest limits k l ≡ r → isNoState l ≡ true → NoStates (requests limits k ls) → NoStates (consRequest r (requests limits k ls))
+    go (value q) is free ih = rw (no-state limits k l q free is) ih
+    go (refused x) is free ih = ih
 
 -- ---- card 8
 
 module _ (sheet : Sheet) (limits : Limits) (h : State) (k : ℕ) (text : List ℕ) (actor : ℕ) (u : Name) (s : Span) (r : IsRead k text actor u s) (z : run sheet limits h text .refusal ≡ 0) where
-  fit : Fit limits h
+  fit : unfit limits (view h) ≡ false
   fit = go (test (unfit limits (view h)))
     where
-      go : (unfit limits (view h) ≡ true) ⊎ Fit limits h → Fit limits h
+      go : (unfit limits (view h) ≡ true) ⊎ (unfit limits (view h) ≡ false) → unfit limits (view h) ≡ false
       go (inl d) = absurd (let one = ap (λ (q : Ran State). q .refusal) (refused-run sheet limits h text d) in omega arith)
       go (inr f) = f
 
@@ -189,9 +196,12 @@ module _ (sheet : Sheet) (limits : Limits) (h : State) (k : ℕ) (text : List �
       and-both (all isAllowed (answers (after sheet) answer h (asked earlier))) (all isAllowed (answers (after sheet) answer (final (after sheet) h (asked earlier)) (Single (caller actor limits) (Read u s) ∷ asked later)))
       (sym (ap (all isAllowed) (answers-append (after sheet) answer h (asked earlier) (Single (caller actor limits) (Read u s) ∷ asked later)) ∙ all-append isAllowed (answers (after sheet) answer h (asked earlier)) _) ∙ with-read) .0
 
-  module _ (none-end : NoReadEnds sheet) where
+  module _ (none-end : NoReadEnds sheet) (none-behind : NoStatesBehind k text) where
+    no-later : NoStates (asked later)
+    no-later = no-states limits (t .spelling) later (ap (all isNoState) (sym (ap (drop (suc k)) (t .is) ∙ w .later)) ∙ none-behind)
+
     removed : ReadRemoved sheet h (asked earlier) (caller actor limits) u s (asked later)
-    removed = read-removed sheet none-end h (asked earlier) (caller actor limits) u s (asked later) with-read
+    removed = read-removed sheet none-end h (asked earlier) (caller actor limits) u s (asked later) no-later with-read
 
     left-are : asked (earlier ++ later) ≡ asked earlier ++ asked later
     left-are = requests-append limits (t .spelling) earlier later
@@ -233,13 +243,14 @@ module _ (sheet : Sheet) (limits : Limits) (h : State) (k : ℕ) (text : List �
         }
 
 -- "if one read is removed from a trace whose every event is allowed"
-pub read-line-removed : (sheet : Sheet) (limits : Limits) → NoReadEnds sheet → (h : State) (k : ℕ) (text : List ℕ) (actor : ℕ) (u : Name) (s : Span) → IsRead k text actor u s → run sheet limits h text .refusal ≡ 0 → LineRemoved sheet limits h k text u s
-read-line-removed sheet limits none-end h k text actor u s r z = line-removed sheet limits h k text actor u s r z none-end
+pub read-line-removed : (sheet : Sheet) (limits : Limits) → NoReadEnds sheet → (h : State) (k : ℕ) (text : List ℕ) (actor : ℕ) (u : Name) (s : Span) → IsRead k text actor u s → NoStatesBehind k text → run sheet limits h text .refusal ≡ 0
+    → LineRemoved sheet limits h k text u s
+read-line-removed sheet limits none-end h k text actor u s r none-behind z = line-removed sheet limits h k text actor u s r z none-end none-behind
 
 -- what `capcheck` prints
-pub read-check-removed : (k : ℕ) (text : List ℕ) (actor : ℕ) (u : Name) (s : Span) → IsRead k text actor u s → checked text .refusal ≡ 0 → length text ≤ 65536 → ChecksRemoved k text
-read-check-removed k text actor u s r z few =
-    let l = read-line-removed sheet6 Unlimited no-read-ends (initial 1024 noCounts) k text actor u s r z in
+pub read-check-removed : (k : ℕ) (text : List ℕ) (actor : ℕ) (u : Name) (s : Span) → IsRead k text actor u s → NoStatesBehind k text → checked text .refusal ≡ 0 → length text ≤ 65536 → ChecksRemoved k text
+read-check-removed k text actor u s r none-behind z few =
+    let l = read-line-removed sheet6 Unlimited no-read-ends (initial 1024 noCounts) k text actor u s r none-behind z in
     record {
       with-read = ran-text text few ∙ ap₂ (λ (x n : ℕ). answerLine x n ++ listingOf (checked text)) z (l .one-line-fewer);
       without-read = ran-text (withoutLine k text) (omega (arith, fewer-bytes k text)) ∙ ap (λ (x : ℕ). answerLine x (checked (withoutLine k text) .number) ++ listingOf (checked (withoutLine k text))) (l .allowed);

@@ -10,14 +10,15 @@ use lib.Dec.{leb}
 use lib.ListN.{length, replicate, take, drop, length-append, length-drop, take-append-drop, drop-of-length-le}
 use lib.Seq.{sets-eq, take-all, drop-drop, drop-at, length-take-le}
 use borrow.Author.Tests.{le-leb, lt-leb, leb-true, leb-false, eq-eqb, ne-eqb}
-use Rattle.model.specs.Requests.{Limits, Unlimited}
+use Rattle.model.specs.Requests.{Unlimited}
 use Rattle.model.specs.declared.Cap.{Cap}
 use Rattle.model.specs.declared.Refusal.{Refusal}
 use Rattle.model.specs.Answers.{number}
 use Rattle.model.specs.Table.{emptyRow, inOrder}
 use Rattle.model.specs.declared.Sheet.{Sheet}
 use Rattle.model.specs.Sheet6.{sheet6}
-use Rattle.model.specs.Step.{State, initial}
+use Rattle.model.specs.Slots.{Memory, Slot}
+use Rattle.model.specs.Step.{State}
 use Rattle.model.proofs.Offered.{order-fresh}
 use Rattle.table.proofs.Offered.{bytes6-is}
 use Rattle.table.specs.Words.{capOf, rowsIn}
@@ -34,7 +35,7 @@ use Rattle.listing.specs.WriteListing.{listingWritten, listingStored, WritesLis
 use Rattle.trace.specs.declared.run.RunAnswer.{RunAnswer}
 use Rattle.trace.specs.declared.run.RunOutcome.{RunOutcome}
 use Rattle.trace.specs.Run.{Ran, run, ranOf, Runs}
-use Rattle.trace.specs.Check.{answerLine, report, noCounts, checkText}
+use Rattle.trace.specs.Check.{answerLine, report, noCounts, begins, checkWith, storedWith}
 use Rattle.trace.proofs.Laws.Order.{order-run, number-run}
 
 -- the listing of a table in order is written
@@ -119,16 +120,21 @@ length-line word numbers e = simp length-append (omega arith)
 
 -- ---- the report of a run
 
-pub long-text : (input : List ℕ) → 65536 < length input → bytes "(long)\n" ≡ checkText input
-unfolding checkText
-long-text input l = sym (rw (lt-leb (length input) 65536 l))
+module _ (slots : List (Slot Memory)) (input : List ℕ) (l : 65536 < length input) where
+  pub long-text : bytes "(long)\n" ≡ checkWith slots input
+  unfolding checkWith
+  long-text = sym (rw (lt-leb (length input) 65536 l))
+
+  pub long-stored : slots ≡ storedWith slots input
+  unfolding storedWith
+  long-stored = sym (rw (lt-leb (length input) 65536 l))
 
 -- a row whose words are zeros
 abbrev pub zeroRow : List ℕ
 zeroRow = replicate 11 0
 
 -- 1,024 of them are 1,024 empty rows
-abbrev zeros : List (List ℕ)
+abbrev pub zeros : List (List ℕ)
 zeros = replicate 1024 zeroRow
 
 rows-empty : (n : ℕ) → map capOf (replicate n zeroRow) ≡ replicate n emptyRow
@@ -140,22 +146,27 @@ unfolding rowsIn
 empty-rows = rows-empty 1024
 
 -- bits of which none is set
-abbrev noBits : List ℕ
+abbrev pub noBits : List ℕ
 noBits = replicate 8192 0
 
-pub ran-is : {bytes input : List ℕ} {ws′ : List (List ℕ)} {bs′ : List ℕ} {r : RunOutcome} → bytes ≡ bytes6 → Runs (sheetIn bytes) Unlimited zeros noBits noCounts input ws′ bs′ r → {a : RunAnswer} → r .answer ≡ a
-    → ranOf a (lends (rowsIn ws′) bs′ (r .tally)) ≡ run sheet6 Unlimited (initial 1024 noCounts) input
-ran-is {bytes} {input} {ws′} {bs′} {r} six k e =
-    ap (λ (a : RunAnswer). ranOf a (lends (rowsIn ws′) bs′ (r .tally))) (sym e) ∙ k .ran
-    ∙ ap₂ (λ (sheet : Sheet) (t : List Cap). run sheet Unlimited (lends t noBits noCounts) input) (ap sheetIn six ∙ bytes6-is) empty-rows
+module _ (slots : List (Slot Memory)) where
+  pub ran-is : {bytes input : List ℕ} {ws′ : List (List ℕ)} {bs′ : List ℕ} {slots′ : List (Slot Memory)} {r : RunOutcome} → bytes ≡ bytes6 → Runs (sheetIn bytes) Unlimited zeros noBits slots noCounts input ws′ bs′ slots′ r → {a : RunAnswer} → r .answer ≡ a
+      → ranOf a (lends (rowsIn ws′) bs′ slots′ (r .tally)) ≡ run sheet6 Unlimited (begins slots) input
+  ran-is {bytes} {input} {ws′} {bs′} {slots′} {r} six k e =
+      ap (λ (a : RunAnswer). ranOf a (lends (rowsIn ws′) bs′ slots′ (r .tally))) (sym e) ∙ k .ran
+      ∙ ap₂ (λ (sheet : Sheet) (t : List Cap). run sheet Unlimited (lends t noBits slots noCounts) input) (ap sheetIn six ∙ bytes6-is) empty-rows
 
-module _ (input : List ℕ) (s : Ran State) (is : s ≡ run sheet6 Unlimited (initial 1024 noCounts) input) where
-  pub ran-order : inOrder (s .state .memory .table) (s .state .tally .issued) ≡ true
-  ran-order = ap (λ (r : Ran State). inOrder (r .state .memory .table) (r .state .tally .issued)) is ∙ order-run sheet6 Unlimited (initial 1024 noCounts) input (order-fresh 1024 noCounts (omega arith) refl)
+  module _ (input : List ℕ) (s : Ran State) (is : s ≡ run sheet6 Unlimited (begins slots) input) where
+    pub ran-order : inOrder (s .state .memory .table) (s .state .tally .issued) ≡ true
+    ran-order = ap (λ (r : Ran State). inOrder (r .state .memory .table) (r .state .tally .issued)) is ∙ order-run sheet6 Unlimited (begins slots) input (order-fresh 1024 noCounts (omega arith) refl)
 
-  pub ran-number : s .number ≤ length input
-  ran-number = omega (arith, ap (λ (r : Ran State). r .number) is, number-run sheet6 Unlimited (initial 1024 noCounts) input)
+    pub ran-number : s .number ≤ length input
+    ran-number = omega (arith, ap (λ (r : Ran State). r .number) is, number-run sheet6 Unlimited (begins slots) input)
 
-  pub ran-report : length input ≤ 65536 → report s ≡ checkText input
-  unfolding checkText
-  ran-report l = ap report is ∙ sym (rw (le-leb (length input) 65536 l))
+    pub ran-report : length input ≤ 65536 → report s ≡ checkWith slots input
+    unfolding checkWith
+    ran-report l = ap report is ∙ sym (rw (le-leb (length input) 65536 l))
+
+    pub ran-stored : length input ≤ 65536 → s .state .slots ≡ storedWith slots input
+    unfolding storedWith
+    ran-stored l = ap (λ (r : Ran State). r .state .slots) is ∙ sym (rw (le-leb (length input) 65536 l))

@@ -11,30 +11,32 @@ use lib.Dec.{eqb}
 use lib.ListN.{length, length-take}
 use borrow.Author.Tests.{leb-true, eqb-true}
 use Rattle.model.specs.declared.Event.the-variants.{Create, Borrow, Read, Write, Drop}
-use Rattle.model.specs.Requests.{Limits, Unlimited, Request, Single, Group, callerOf, risesAbove, risesStrictly, isGroup}
+use Rattle.model.specs.Requests.{Limits, Unlimited, Request, Single, Group, Mark, Back, callerOf, risesAbove, risesStrictly, isGroup}
 use Rattle.model.specs.Effects.{issuedAfter}
 use Rattle.model.specs.declared.Sheet.{Sheet}
 use Rattle.model.specs.Sheet6.{sheet6}
 use Rattle.model.specs.Step.{State, view, initial, answer, after}
 use Rattle.model.specs.Refusals.{unfit}
+use Rattle.model.specs.Slots.{unstored}
+use Rattle.model.specs.Table.{inOrder}
 use Rattle.model.specs.Named.{unnamed, rightlyNamed, allRightlyNamed}
-use Rattle.model.proofs.Offered.{fit-after, fit-order, issued-allowed, ordered, same-after, same-answer, test}
+use Rattle.model.proofs.Offered.{fit-order, issued-allowed, order-after, ordered, same-after, same-answer, test}
 use Rattle.text.specs.Class.{classOf, newline}
 use Rattle.text.specs.Line.{through, nextLine, linesOf, partsOf}
 use Rattle.text.specs.Decimal.{numeral, decimal, numberFrom}
 use Rattle.text.specs.Event.{bytes, spaced, form, spell, hasSpelling, writesName}
 use Rattle.text.specs.Group.{spellGroup, namesFrom, guessNames, readGroup}
 use Rattle.text.specs.Read.{same, guess, readEvent}
-use Rattle.text.specs.Result.{value, refused}
+use Rattle.text.specs.Result.{refused}
 use Rattle.text.specs.declared.spelling.Spelling.{Spelling}
 use Rattle.text.specs.declared.spelling.Spelling.the-variants.{Plain, Named}
-use Rattle.text.proofs.Offered.{parts-next, part-some, spell-is-line, header-is-no-event, group-reads-back, group-is-line, group-is-no-event, same-true, spelling-reads-back}
-use Rattle.text.specs.Request.{readRequest}
+use Rattle.text.specs.State.{spellSlot, readState}
+use Rattle.text.specs.Request.{readRequest, spellRequest, HasLine}
+use Rattle.text.proofs.Offered.{parts-next, part-some, header-is-no-event, header-is-no-state, request-is-line, request-reads-back, same-true}
 use Rattle.trace.specs.Run.{header, Ran, runLines, runFrom, lent, run}
 use Rattle.trace.specs.Check.{report, noCounts, checkText}
-use Rattle.trace.specs.Spellings.{spellRequest, textOf, plainText, namedText, HasLine, Spellable, Spelled, oneHigher, Rests, none, misspelt, OldTrace, SameVerdicts, checked, SameChecks}
+use Rattle.trace.specs.Spellings.{textOf, plainText, namedText, Spellable, Spelled, oneHigher, Rests, none, misspelt, OldTrace, SameVerdicts, checked, SameChecks}
 use Rattle.trace.proofs.Laws.Header.{trace-plain, trace-named}
-use Rattle.trace.proofs.Laws.Turn.{Fit}
 use Rattle.trace.proofs.Laws.Order.{refused-line, refused-run}
 use Rattle.trace.proofs.Laws.Report.{ran-report}
 
@@ -48,6 +50,8 @@ named-line i l (Single by (Read u s)) sp = sp
 named-line i l (Single by (Write u s)) sp = sp
 named-line i l (Single by (Drop u)) sp = sp
 named-line i l (Group by names) sp = sp
+named-line i l (Mark by j) sp = sp
+named-line i l (Back by j) sp = sp
 
 -- and whoever asks for it asks for the other
 unnamed-caller : (q : Request) → callerOf (unnamed q) .limits ≡ callerOf q .limits
@@ -58,6 +62,8 @@ unnamed-caller (Single by (Read u s)) = refl
 unnamed-caller (Single by (Write u s)) = refl
 unnamed-caller (Single by (Drop u)) = refl
 unnamed-caller (Group by names) = refl
+unnamed-caller (Mark by j) = refl
+unnamed-caller (Back by j) = refl
 
 named-caller : (i : ℕ) (q : Request) → callerOf (rightlyNamed i q) .limits ≡ callerOf q .limits
 unfolding rightlyNamed
@@ -67,25 +73,14 @@ named-caller i (Single by (Read u s)) = refl
 named-caller i (Single by (Write u s)) = refl
 named-caller i (Single by (Drop u)) = refl
 named-caller i (Group by names) = refl
-
--- ---- a request
-
--- it is one line, whatever follows
-one-line : (q : Request) (t : List ℕ) → linesOf (spellRequest q ++ t) ≡ spellRequest q ∷ linesOf t
-unfolding spellRequest
-one-line (Single by e) t = spell-is-line (by .actor) e t
-one-line (Group by names) t = group-is-line (by .actor) names t
-
-request-line : (q : Request) (s t : List ℕ) → linesOf ((spellRequest q ++ s) ++ t) ≡ spellRequest q ∷ linesOf (s ++ t)
-request-line q s t = ap linesOf (append-assoc (spellRequest q) s t) ∙ one-line q (s ++ t)
-
--- which reads back
-reads-back : (limits : Limits) (k : Spelling) (q : Request) → callerOf q .limits ≡ limits → HasLine k q → readRequest limits k (spellRequest q) ≡ value q
-unfolding spellRequest
-reads-back limits k (Single by e) is h = rw (spelling-reads-back k (by .actor) e (h .0) (h .1), ← is)
-reads-back limits k (Group by names) is h = rw (group-is-no-event k (by .actor) names (h .0) (h .1) (h .2) (h .3), group-reads-back (by .actor) names (h .1) (h .2) (h .3), ← is)
+named-caller i (Mark by j) = refl
+named-caller i (Back by j) = refl
 
 -- ---- the lines of both
+
+-- a request is one line, whatever follows
+request-line : (q : Request) (s t : List ℕ) → linesOf ((spellRequest q ++ s) ++ t) ≡ spellRequest q ∷ linesOf (s ++ t)
+request-line q s t = ap linesOf (append-assoc (spellRequest q) s t) ∙ request-is-line q (s ++ t)
 
 -- the same run, where one line more was taken before it
 record Higher (q p : Ran State) : Type 0 where
@@ -103,34 +98,31 @@ same-rests sheet limits (misspelt {rest = rest} {rest′ = rest′} some line no
 
 -- an example: a number with a leading zero, and in the first another line behind it
 rests-example : Rests (bytes "(read 01 0 8)\n(drop 1)\n") (bytes "(read 01 0 8)\n")
-unfolding readEvent guess hasSpelling spell form readGroup guessNames namesFrom isGroup risesStrictly risesAbove spellGroup spaced decimal numeral numberFrom through classOf same
+unfolding readEvent guess hasSpelling spell form readState spellSlot readGroup guessNames namesFrom isGroup risesStrictly risesAbove spellGroup spaced decimal numeral numberFrom through classOf same
 rests-example = misspelt {rest = bytes "(read 01 0 8)\n(drop 1)\n"} (omega arith) refl (λ limits. refl) (λ limits. refl)
 
 module _ (sheet : Sheet) (limits : Limits) {rest rest′ : List ℕ} (rests : Rests rest rest′) where
-  same-lines : (qs : List Request) → Spelled limits qs → (before : ℕ) (h : State) → Fit limits h → (i : ℕ) → i ≡ h .tally .issued
+  same-lines : (qs : List Request) → Spelled limits qs → (before : ℕ) (h : State) → inOrder (h .memory .table) (h .tally .issued) ≡ true → (i : ℕ) → i ≡ h .tally .issued
       → Higher (runLines (lent sheet limits) Named (before + 1) h (linesOf (textOf (allRightlyNamed i qs) ++ rest′))) (runLines (lent sheet limits) Plain before h (linesOf (plainText qs ++ rest)))
   unfolding textOf allRightlyNamed runLines
   same-lines [] sp before h o i is = same-rests sheet limits rests before h
   same-lines (q ∷ qs) sp before h o i is =
-      let small : suc i < 2 ^ 32 = omega (arith, is, leb-true (h .tally .issued) 1000000 (ordered (h .memory .table) (h .tally .issued) (fit-order limits (view h) o) .names-left)) in
+      let small : suc i < 2 ^ 32 = omega (arith, is, leb-true (h .tally .issued) 1000000 (ordered (h .memory .table) (h .tally .issued) o .names-left)) in
       rw (
         request-line (rightlyNamed i q) (textOf (allRightlyNamed (issuedAfter i q) qs)) rest′,
         request-line (unnamed q) (plainText qs) rest,
-        reads-back limits Named (rightlyNamed i q) (named-caller i q ∙ sp .0 .0) (named-line i small q (sp .0 .1)),
-        reads-back limits Plain (unnamed q) (unnamed-caller q ∙ sp .0 .0) (sp .0 .1),
+        request-reads-back limits Named (rightlyNamed i q) (named-caller i q ∙ sp .0 .0) (named-line i small q (sp .0 .1)),
+        request-reads-back limits Plain (unnamed q) (unnamed-caller q ∙ sp .0 .0) (sp .0 .1),
         answers,
         afters,
       )
-      (go (eqb (answer h (unnamed q) .refusal) 0) refl (same-lines qs (sp .1) (before + 1) (after sheet h (unnamed q)) (still-fit (unnamed q) (unnamed-caller q ∙ sp .0 .0)) (issuedAfter i q)))
+      (go (eqb (answer h (unnamed q) .refusal) 0) refl (same-lines qs (sp .1) (before + 1) (after sheet h (unnamed q)) (order-after sheet h (unnamed q) o) (issuedAfter i q)))
     where
       answers : answer h (rightlyNamed i q) ≡ answer h (unnamed q)
       answers = ap (λ (j : ℕ). answer h (rightlyNamed j q)) is ∙ same-answer h q
 
       afters : after sheet h (rightlyNamed i q) ≡ after sheet h (unnamed q)
       afters = ap (λ (j : ℕ). after sheet h (rightlyNamed j q)) is ∙ same-after sheet h q
-
-      still-fit : (p : Request) → callerOf p .limits ≡ limits → Fit limits (after sheet h p)
-      still-fit p e = rw e at (fit-after sheet h p (rw e o))
 
       next : State
       next = after sheet h (unnamed q)
@@ -160,13 +152,13 @@ unfolding readGroup guessNames namesFrom isGroup risesStrictly risesAbove spellG
 no-group = refl
 
 pub header-misread : (limits : Limits) (k : Spelling) → readRequest limits k header ≡ refused 2
-header-misread limits k = rw (header-is-no-event k, no-group)
+header-misread limits k = rw (header-is-no-event k, no-group, header-is-no-state)
 
 no-header : (limits : Limits) (q : Request) → Spellable limits q → same (spellRequest (unnamed q)) header ≡ false
 no-header limits q sp = go (test (same (spellRequest (unnamed q)) header))
   where
     go : (same (spellRequest (unnamed q)) header ≡ true) ⊎ (same (spellRequest (unnamed q)) header ≡ false) → same (spellRequest (unnamed q)) header ≡ false
-    go (inl y) = absurd (let z : _≡_ {A = ℕ} 0 1 = cc (ap (readRequest limits Plain) (same-true (spellRequest (unnamed q)) header y), reads-back limits Plain (unnamed q) (unnamed-caller q ∙ sp .0) (sp .1), header-misread limits Plain) in omega arith)
+    go (inl y) = absurd (let z : _≡_ {A = ℕ} 0 1 = cc (ap (readRequest limits Plain) (same-true (spellRequest (unnamed q)) header y), request-reads-back limits Plain (unnamed q) (unnamed-caller q ∙ sp .0) (sp .1), header-misread limits Plain) in omega arith)
     go (inr n) = n
 
 first-line : (text line : List ℕ) (lines : List (List ℕ)) → linesOf text ≡ line ∷ lines → nextLine text ≡ line
@@ -185,7 +177,7 @@ header-first : (t : List ℕ) → same (nextLine (header ++ t)) header ≡ true
 unfolding through classOf same
 header-first t = refl
 
-module _ (sheet : Sheet) (limits : Limits) (h : State) (qs : List Request) (sp : Spelled limits qs) {rest rest′ : List ℕ} (rests : Rests rest rest′) (old : OldTrace (plainText qs ++ rest)) (o : Fit limits h) where
+module _ (sheet : Sheet) (limits : Limits) (h : State) (qs : List Request) (sp : Spelled limits qs) {rest rest′ : List ℕ} (rests : Rests rest rest′) (old : OldTrace (plainText qs ++ rest)) (o : unfit limits (view h) ≡ false) where
   abbrev plain : List ℕ
   plain = plainText qs ++ rest
 
@@ -203,7 +195,7 @@ module _ (sheet : Sheet) (limits : Limits) (h : State) (qs : List Request) (sp :
 
   fitting : SameVerdicts sheet limits h plain (header ++ behind)
   fitting =
-      let s = same-lines sheet limits rests qs sp 0 h o (h .tally .issued) refl in
+      let s = same-lines sheet limits rests qs sp 0 h (fit-order limits (view h) o) (h .tally .issued) refl in
       let p = runLines (lent sheet limits) Plain 0 h (linesOf plain) in
       record {
         same-refusal = rw (named-run, plain-run) (s .refusals);
@@ -221,7 +213,7 @@ same-verdicts sheet limits h qs sp {rest} {rest′} rests old = go (test (unfit 
     named : List ℕ
     named = namedText (h .tally .issued) qs ++ rest′
 
-    go : (unfit limits (view h) ≡ true) ⊎ Fit limits h → SameVerdicts sheet limits h plain named
+    go : (unfit limits (view h) ≡ true) ⊎ (unfit limits (view h) ≡ false) → SameVerdicts sheet limits h plain named
     go (inl d) =
         let p = refused-run sheet limits h plain d in
         let n = refused-run sheet limits h named d in
@@ -231,7 +223,7 @@ same-verdicts sheet limits h qs sp {rest} {rest′} rests old = go (test (unfit 
 -- ---- what `capcheck` prints
 
 pub ran-text : (text : List ℕ) → length text ≤ 65536 → checkText text ≡ report (checked text)
-ran-text text l = sym (ran-report text (checked text) refl l)
+ran-text text l = sym (ran-report unstored text (checked text) refl l)
 
 pub same-checks : (qs : List Request) → Spelled Unlimited qs → {rest rest′ : List ℕ} → Rests rest rest′ → OldTrace (plainText qs ++ rest)
     → length (plainText qs ++ rest) ≤ 65536 → length (namedText 0 qs ++ rest′) ≤ 65536 → SameChecks (plainText qs ++ rest) (namedText 0 qs ++ rest′)

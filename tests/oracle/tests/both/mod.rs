@@ -3,7 +3,9 @@
 #![allow(dead_code)]
 
 use oracle::traces::Step;
-use oracle::{Act, By, Event, History, Row, Spelling, Tally, Written, apply, read_event_line};
+use oracle::{
+    Act, By, Event, History, Lent, Row, Spelling, States, Tally, Written, apply, read_event_line,
+};
 
 pub const ROWS: usize = 8;
 
@@ -11,6 +13,7 @@ pub const ROWS: usize = 8;
 pub struct Both {
     pub rows: Vec<Row>,
     pub written: Written,
+    pub states: States,
     pub tally: Tally,
     pub history: History,
 }
@@ -20,8 +23,19 @@ impl Both {
         Both {
             rows: vec![Row::default(); rows],
             written: Written::default(),
+            states: States::default(),
             tally: Tally::default(),
             history: History::new(rows),
+        }
+    }
+
+    /// What is lent.
+    pub fn lent(&mut self) -> Lent<'_> {
+        Lent {
+            rows: &mut self.rows,
+            written: Some(&mut self.written),
+            states: Some(&mut self.states),
+            tally: &mut self.tally,
         }
     }
 
@@ -31,8 +45,7 @@ impl Both {
             limits,
             ..By::default()
         };
-        let written = Some(&mut self.written);
-        let answer = apply(by, &mut self.rows, written, &mut self.tally, act);
+        let answer = apply(by, self.lent(), act);
         self.demand_three(limits, act, answer);
         assert_eq!(answer, self.history.answer(limits, act), "{act:?}");
         assert_eq!(self.rows, self.history.table(), "{act:?}");
@@ -68,4 +81,19 @@ pub fn after(steps: &[Step]) -> Both {
 pub fn act(line: &str) -> Act {
     let line = format!("{line}\n");
     read_event_line(line.as_bytes(), Spelling::Plain).expect("a line")
+}
+
+/// One event on rows with so many names issued, nothing written and nothing stored.
+pub fn answer_on(by: By, rows: &[Row], issued: u32, act: Act) -> Result<u32, u8> {
+    let mut tally = Tally {
+        issued,
+        ..Tally::default()
+    };
+    let lent = Lent {
+        rows: &mut rows.to_vec(),
+        written: Some(&mut Written::default()),
+        states: Some(&mut States::default()),
+        tally: &mut tally,
+    };
+    apply(by, lent, act)
 }

@@ -8,7 +8,7 @@ use Rattle.rules.proofs.count.count_allowed.Statement.{statement}
 use Rattle.rules.proofs.count.count_allowed.Tie as tie
 
 returns : tie.Need-returns
-returns c = let s = c .before .before .before .before in let told = c .before .before .asked .given in rw (told .1) (c .count-event .ensures ∙ count-by (told .0 .1 .0) (s .args .t) (caller 0 Unlimited) (caller (told .0 .0) Unlimited))
+returns c = let s = c .before .before .before .before in let told = c .before .before .work .given in rw (told .1) (c .count-event .ensures ∙ count-by (told .0 .1 .0) (s .args .t) (caller 0 Unlimited) (caller (told .0 .0) Unlimited))
 
 returns-2 : tie.Need-returns-2
 returns-2 c = rw (c .before .enum-told .given .1, c .count-up .ensures)

@@ -2,7 +2,7 @@
 -- All that the proof knows of the four is that they meet their contracts. For each of them, `goes-` says that what is had gives its `pre`, and `gives-` that its `post` gives what is wanted:
 --     held          n  ↦  held n
 --     load          the table shared for κ, and the rows lent for μ  ↦  the tokens, and the rows with the first m records in them
---     core          the rows lent for ρ, the bits, given for good, the tally, the limits, what is asked, and the names  ↦  the tokens, the outcome, the rows after it, and the bits' last list
+--     core          the rows lent for ρ, the bits, given for good, the tally, the limits, the work, and the names  ↦  the tokens, the outcome, the rows after it, and the bits' last list
 --     store         the table at κ, given for good, and the rows shared for π  ↦  the tokens, and the table's last list
 -- Assumes nothing.
 use mathlib.Core.Path.{_≡_, refl, sym, ap, subst, _∙_}
@@ -78,15 +78,15 @@ use Rattle.rules.proofs.records.request_held as core
 use Rattle.rules.proofs.records.request_held.Symbol as core-def
 use Rattle.rules.proofs.records.request_held.Symbol.{name as #rules·core}
 use Rattle.rules.proofs.records.request_held.Met as core-thm
-use Rattle.model.specs.Requests.{requestOf}
+use Rattle.model.specs.Requests.{workOf}
 use Rattle.table.specs.Limits.{limitsIn}
 use Rattle.rules.specs.Records.{held, Requested}
 use Rattle.rules.proofs.records.held as held′
 use Rattle.rules.proofs.records.load as load′
 use Rattle.rules.proofs.records.store as store′
-use Rattle.model.specs.declared.Asked.{Asked}
-use Rattle.model.proofs.Asked as Q
-use Rattle.model.proofs.Asked.Laws as Q′
+use Rattle.model.specs.declared.Work.{Work}
+use Rattle.model.proofs.Work as Q
+use Rattle.model.proofs.Work.Laws as Q′
 use Rattle.model.specs.declared.Sheet.{Sheet}
 use Rattle.model.proofs.Sheet as S
 use Rattle.model.proofs.Sheet.Laws as S′
@@ -199,7 +199,7 @@ abbrev Core : {M : Type 1} (𝓤 : URA M) (H : Heap 𝓤) (A : Atoms 𝓤) (mem�
 Core 𝓤 H A mem′ run = tripleOf 𝓤 H A core.signature (core.spec 𝓤 H A mem′ run)
 
 module _ {M : Type 1} (𝓤 : URA M) (H : Heap 𝓤) (A : Atoms 𝓤) (W : Given 𝓤 H A) (mem′ : Memory → SProp 𝓤) (run : Routine → Fun 𝓤) (κ κ₂ κ′ κ₃ κ₀ : Lft) (q q₂ q′ q₃ q₀ : Share) (bounds : AllOutlive 5 (apply.signature .outlives) (κ, (κ₂, (κ′, (κ₃, (κ₀, tt))))))
-    (b o : ℕ) (γ : GName) (ys : List Cap) (b₂ o₂ : ℕ) (γ₂ : GName) (bs : List ℕ) (b′ o′ : ℕ) (γ′ : GName) (t : Tally) (b₃ o₃ : ℕ) (γ₃ : GName) (ls : List ℕ) (b₀ o₀ : ℕ) (γ₀ : GName) (xs : List ℕ) (sh : Sheet) (x : Asked) (room : Room T.the-row (length ys)) (room₂ : Room u8 (length bs)) (room₃ : Room u32 (length ls)) (room₀ : Room u32 (length xs)) (sh-is : Is S.the-row sh (LL.vals S.the-type S′.the-laws sh)) (x-is : Is Q.the-row x (EL.vals Q.the-type Q′.the-laws x)) where
+    (b o : ℕ) (γ : GName) (ys : List Cap) (b₂ o₂ : ℕ) (γ₂ : GName) (bs : List ℕ) (b′ o′ : ℕ) (γ′ : GName) (t : Tally) (b₃ o₃ : ℕ) (γ₃ : GName) (ls : List ℕ) (b₀ o₀ : ℕ) (γ₀ : GName) (xs : List ℕ) (sh : Sheet) (x : Work) (room : Room T.the-row (length ys)) (room₂ : Room u8 (length bs)) (room₃ : Room u32 (length ls)) (room₀ : Room u32 (length xs)) (sh-is : Is S.the-row sh (LL.vals S.the-type S′.the-laws sh)) (x-is : Is Q.the-row x (EL.vals Q.the-type Q′.the-laws x)) where
   abbrev n : ℕ
   n = length ys
 
@@ -233,12 +233,12 @@ module _ {M : Type 1} (𝓤 : URA M) (H : Heap 𝓤) (A : Atoms 𝓤) (W : Given
   s = sliceVal (b, o) n
 
   abbrev Arg : Type 0
-  Arg = RefT (List Cap) × (RefT (List ℕ) × (RefT Tally × (Sheet × (RefT (List ℕ) × (Asked × (RefT (List ℕ) × Unit {0}))))))
+  Arg = RefT (List Cap) × (RefT (List ℕ) × (RefT Tally × (Sheet × (RefT (List ℕ) × (Work × (RefT (List ℕ) × Unit {0}))))))
 
   abbrev a : Arg
   a = (table b o γ ys, (bits, (tally t, (sh, (limits, (x, (names, tt)))))))
 
-  -- the machine values of the sheet and of what is asked, and the request
+  -- the machine values of the sheet and of the work, and the request
   abbrev sv : Val
   sv = LL.val S.the-type S′.the-laws sh
 
@@ -246,7 +246,7 @@ module _ {M : Type 1} (𝓤 : URA M) (H : Heap 𝓤) (A : Atoms 𝓤) (W : Given
   xv = EL.val Q.the-type Q′.the-laws x
 
   abbrev req : Request
-  req = requestOf (limitsIn ls) x xs
+  req = workOf (limitsIn ls) x xs
 
   abbrev at : Vals apply.signature (κ, (κ₂, (κ′, (κ₃, (κ₀, tt)))))
   at = (s ∷ [], (s₂ ∷ [], (vptr b′ o′ ∷ [], (sv ∷ [], (s₃ ∷ [], (xv ∷ [], (s₀ ∷ [], tt)))))))

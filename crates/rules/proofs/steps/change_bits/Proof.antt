@@ -9,7 +9,7 @@ use Rattle.rules.proofs.steps.change_bits.Statement.{statement}
 use Rattle.rules.proofs.steps.change_bits.Tie as tie
 
 returns : tie.Need-returns
-returns c = let s = c .before .before .before .before .before .before .before .before in let told = c .before .before .before .before .before .asked .given in rw (told .1) (c .before .before .event-bits .ensures ∙ bits-by (s .args .bits .now) (told .0 .1 .0) (caller 0 Unlimited) (caller (told .0 .0) Unlimited))
+returns c = let s = c .before .before .before .before .before .before .before .before in let told = c .before .before .before .before .before .work .given in rw (told .1) (c .before .before .event-bits .ensures ∙ bits-by (s .args .bits .now) (told .0 .1 .0) (caller 0 Unlimited) (caller (told .0 .0) Unlimited))
 
 returns-2 : tie.Need-returns-2
 unfolding bitsAfter

@@ -9,7 +9,7 @@ use borrow.Author.Needs.{needs}
 use Rattle.model.specs.declared.Cap.{Cap}
 use Rattle.model.specs.declared.Event.{Event}
 use Rattle.model.specs.declared.Access.the-variants.{Reading, Writing}
-use Rattle.model.specs.declared.Asked.the-variants as ask
+use Rattle.model.specs.declared.Work.the-variants as work
 use Rattle.model.specs.Requests.{Unlimited, Single, caller}
 use Rattle.model.specs.Effects.{afterAccess, rowsWithout, rowsAfter}
 use Rattle.table.specs.Words.{rowsIn}
@@ -41,7 +41,7 @@ access-rows-requires c κs =
 append-requires : tie.Need-append-requires
 append-requires c κs =
     let s = c .before .before .before .before .before .before .before .before .before .before .before in let ws = s .args .table .now in let T = rowsIn ws in
-    let j = subst (λ (x : Event). AllowedOn T (s .args .issued) (ask.Single (s .args .actor) x) []) (c .before .before .before .before .before .before .before .before .before .e .given .1) (s .pre .1) in
+    let j = subst (λ (x : Event). AllowedOn T (s .args .issued) (work.Single (s .args .actor) x) []) (c .before .before .before .before .before .before .before .before .before .e .given .1) (s .pre .1) in
     let span = c .before .before .before .before .before .before .before .before .before .e .given .0 .1 .0 in
     let left = c .before .before .before .access-rows .ensures in let long = c .before .before .table .given in
     let room = room-create ws (s .args .k) (s .args .issued) (s .pre .0) (s .args .actor) (c .before .before .before .before .before .before .before .before .before .e .given .0 .0) span (c .before .before .before .before .before .before .before .before .before .e .given .0 .1 .1 .0) j (sheetIn (s .args .sheet .now)) in
@@ -55,7 +55,7 @@ find-requires c κs =
 row-of-requires : tie.Need-row-of-requires
 row-of-requires c κs =
     let s = c .before .before .before .before .before .before in let ws = s .args .table .now in let T = rowsIn ws in
-    let j = subst (λ (x : Event). AllowedOn T (s .args .issued) (ask.Single (s .args .actor) x) []) (c .before .before .before .before .e2 .given .1) (s .pre .1) in
+    let j = subst (λ (x : Event). AllowedOn T (s .args .issued) (work.Single (s .args .actor) x) []) (c .before .before .before .before .e2 .given .1) (s .pre .1) in
     (orderly-few T (length ws) (s .args .k) (s .args .issued) (s .pre .0), orderly-rise T (length ws) (s .args .k) (s .args .issued) (s .pre .0), there-borrow ws (s .args .k) (s .args .issued) (s .pre .0) (s .args .actor) (c .before .before .before .before .e2 .given .0 .0) (c .before .before .before .before .e2 .given .0 .1 .0) (c .before .before .before .before .e2 .given .0 .1 .1 .0) (c .before .before .before .before .e2 .given .0 .1 .1 .1 .0) j, c .before .find .ensures)
 
 add-new-row-2 : tie.Need-add-new-row-2
@@ -67,13 +67,13 @@ add-new-row-2 c =
 add-new-row-3 : tie.Need-add-new-row-3
 add-new-row-3 c =
     let s = c .before .before .before .before .before .before .before .before in let ws = s .args .table .now in let T = rowsIn ws in
-    let j = subst (λ (x : Event). AllowedOn T (s .args .issued) (ask.Single (s .args .actor) x) []) (c .before .before .before .before .before .before .e2 .given .1) (s .pre .1) in
+    let j = subst (λ (x : Event). AllowedOn T (s .args .issued) (work.Single (s .args .actor) x) []) (c .before .before .before .before .before .before .e2 .given .1) (s .pre .1) in
     omega (arith, ap (λ (d : Cap). d .depth) (c .before .row-of .ensures), depth-borrow ws (s .args .k) (s .args .issued) (s .pre .0) (s .args .actor) (c .before .before .before .before .before .before .e2 .given .0 .0) (c .before .before .before .before .before .before .e2 .given .0 .1 .0) (c .before .before .before .before .before .before .e2 .given .0 .1 .1 .0) (c .before .before .before .before .before .before .e2 .given .0 .1 .1 .1 .0) j)
 
 append-requires-2 : tie.Need-append-requires-2
 append-requires-2 c κs =
     let s = c .before .before .before .before .before .before .before .before .before .before .before in let ws = s .args .table .now in let T = rowsIn ws in
-    let j = subst (λ (x : Event). AllowedOn T (s .args .issued) (ask.Single (s .args .actor) x) []) (c .before .before .before .before .before .before .before .before .before .e2 .given .1) (s .pre .1) in
+    let j = subst (λ (x : Event). AllowedOn T (s .args .issued) (work.Single (s .args .actor) x) []) (c .before .before .before .before .before .before .before .before .before .e2 .given .1) (s .pre .1) in
     (room-borrow ws (s .args .k) (s .args .issued) (s .pre .0) (s .args .actor) (c .before .before .before .before .before .before .before .before .before .e2 .given .0 .0) (c .before .before .before .before .before .before .before .before .before .e2 .given .0 .1 .0) (c .before .before .before .before .before .before .before .before .before .e2 .given .0 .1 .1 .0) (c .before .before .before .before .before .before .before .before .before .e2 .given .0 .1 .1 .1 .0) j, ready ws (s .args .k) (s .args .issued) (s .pre .0), s .pre .2, subst (λ (d : Cap). Found T (s .args .k) (d .parent .0) (c .before .before .before .before .before .before .find .result)) (sym (c .before .before .new-row2 .ensures)) (c .before .before .before .before .before .before .find .ensures), subst (λ (d : Cap). 0 < d .name .0) (sym (c .before .before .new-row2 .ensures)) (omega arith))
 
 access-rows-requires-2 : tie.Need-access-rows-requires-2

@@ -1,83 +1,46 @@
 -- `take` meets its contract.
 -- Assumes nothing.
-use mathlib.Core.Path.{_≡_, refl, sym, subst, _∙_, ap}
-use mathlib.Core.Bool.{false}
-use mathlib.Core.List.{List}
-use Prim.Native.Nat.{ℕ}
-use lib.ListN.{length}
-use Rattle.model.specs.declared.Cap.{Cap}
-use Rattle.model.specs.declared.Answer.{Answer}
-use Rattle.model.specs.declared.Answer.the-variants.{Allowed, Refused}
-use Rattle.model.specs.Requests.{Limits, Request, requestOf, callerOf}
-use Rattle.model.specs.Refusals.{viewOf, judge}
-use Rattle.model.specs.Limits.{refusedSheet}
-use Rattle.model.specs.Effects.{newName}
-use Rattle.model.specs.Step.{Verdict, verdict}
-use Rattle.model.specs.Table.{lentTable}
-use Rattle.model.specs.Answers.{verdictOf}
-use Rattle.table.specs.Words.{rowsIn}
-use Rattle.table.specs.Rows.{before}
+use mathlib.Core.Path.{_≡_, ap}
+use Rattle.model.specs.declared.Tally.{Tally}
+use Rattle.model.specs.Requests.{Request, workOf}
 use Rattle.table.specs.Sheets.{sheetIn}
 use Rattle.table.specs.Limits.{limitsIn}
-use Rattle.table.proofs.Offered.{orderly-issued}
-use Rattle.rules.proofs.Laws.Steps.{allowed-zero, stepped-allowed, stepped-refused, orderly-after, allowed-after, with-limits, without-limits, all-fit, same-rows, same-bits, counted}
+use Rattle.table.specs.States.{statesIn}
+use Rattle.table.proofs.Offered.{states-eight}
+use Rattle.rules.proofs.Laws.Steps.{is-work, worked-stepped}
+use Rattle.rules.proofs.Laws.States.{same-fit}
 use borrow.Author.Needs.{needs}
 use Rattle.rules.proofs.steps.take.Statement.{statement}
 use Rattle.rules.proofs.steps.take.Tie as tie
 
-judge-request-requires : tie.Need-judge-request-requires
-judge-request-requires c κs = let f = c .before .before .before .before .before .pre in (f .known .orderly, f .sized, f .allowed)
+take-work-requires : tie.Need-take-work-requires
+take-work-requires c κs = c .before .before .before .before .before .before .before .before .before .before .pre .fit
 
-change-requires : tie.Need-change-requires
-change-requires c κs =
-    let s = c .before .before .before .before .before .before .before .before .before .before .before in let ws = s .args .table .now in let bs = s .args .bits .now in let o = s .pre .known .orderly in
-    let limits : Limits = limitsIn (s .args .limits .now) in
-    let req : Request = requestOf limits (s .args .asked) (s .args .names .now) in
-    let told = c .before .before .before .a2 .given in
-    let v : Verdict = verdict (judge (viewOf (rowsIn ws) bs (s .args .t .issued)) req) (newName (s .args .t .issued) req) in
-    let q : verdictOf (Allowed (told .0 .0)) ≡ v = subst (λ (x : Answer). verdictOf x ≡ v) (told .1) (c .before .before .before .before .before .judge-request .ensures) in
-    (s .pre .known, record { bits = bs; limits = limits; judged = allowed-zero (sheetIn (s .args .sheet .now)) ws bs (s .args .t) req (told .0 .0) q })
+take-mark-requires : tie.Need-take-mark-requires
+take-mark-requires c κs = (c .before .before .before .before .before .before .before .before .before .before .before .pre .fit .known .orderly, c .before .before .before .before .before .before .before .before .before .before .before .pre .fit .sized, c .before .before .before .before .before .before .before .before .before .before .before .pre .memory)
 
-change-bits-requires : tie.Need-change-bits-requires
-change-bits-requires c κs = c .before .before .before .before .before .before .before .before .before .before .before .before .before .before .pre .sized
-
-count-allowed-requires : tie.Need-count-allowed-requires
-count-allowed-requires c κs = let s = c .before .before .before .before .before .before .before .before .before .before .before .before .before .before .before .before .before in orderly-issued (rowsIn (s .args .table .now)) (length (s .args .table .now)) (s .args .k) (s .args .t .issued) (s .pre .known .orderly)
+take-back-requires : tie.Need-take-back-requires
+take-back-requires c κs = c .before .before .before .before .before .before .before .before .before .before .before .before .pre
 
 returns : tie.Need-returns
-returns c =
-    let s = c .before .before .before .before .before .before .before .before .before .before in let ws = s .args .table .now in let bs = s .args .bits .now in let o = s .pre .known .orderly in
-    let limits : Limits = limitsIn (s .args .limits .now) in
-    let req : Request = requestOf limits (s .args .asked) (s .args .names .now) in
-    let told = c .before .before .a .given in
-    let v : Verdict = verdict (judge (viewOf (rowsIn ws) bs (s .args .t .issued)) req) (newName (s .args .t .issued) req) in
-    let sheet = sheetIn (s .args .sheet .now) in
-    let l : refusedSheet (rowsIn ws) (callerOf req .limits) ≡ false = with-limits (λ x. refusedSheet (rowsIn ws) x ≡ false) limits (s .args .asked) (s .args .names .now) (s .pre .allowed) in
-    let q : verdictOf (Refused (told .0 .0)) ≡ v = subst (λ (x : Answer). verdictOf x ≡ v) (told .1) (c .before .before .before .before .judge-request .ensures) in
-    let st = stepped-refused sheet ws bs (s .args .t) req (s .args .k) o (s .pre .sized) l (c .count-refused .result) (told .0 .0) q (c .count-refused .ensures) in
-    (st, record { known = record { orderly = orderly-after sheet ws bs (s .args .t) req ws bs _ st (s .args .k) (s .args .k) refl o (o .front); placed = s .pre .known .placed }; sized = s .pre .sized; allowed = s .pre .allowed })
+returns c = let s = c .before .before .before .before .before .before .before .before .before .before .before .before .before .before in let work = c .before .before .before .before .before .before .before .before .asked .given .0 .0 in let limits = limitsIn (s .args .limits .now) in let q : Request = workOf limits work (s .args .names .now) in
+    rw (c .before .before .before .before .before .before .before .before .asked .given .1) (
+      worked-stepped (sheetIn (s .args .sheet .now)) (s .args .table .now) (s .args .bits .now) (statesIn (s .args .stored .now) (s .args .copies .now)) (s .args .t) q (c .before .before .before .take-work .last .0) (c .before .before .before .take-work .last .1 .1 .1 .0) (c .before .before .before .take-work .result .outcome) (is-work limits work (s .args .names .now)) (states-eight (s .args .stored .now) (s .args .copies .now) (s .pre .memory)) (c .before .before .before .take-work .ensures .0),
+      record { fit = c .before .before .before .take-work .ensures .1; memory = s .pre .memory },
+    )
 
 returns-2 : tie.Need-returns-2
-returns-2 c =
-    let s = c .before .before .before .before .before .before .before .before .before .before .before .before .before .before .before .before .before .before in let ws = s .args .table .now in let bs = s .args .bits .now in let o = s .pre .known .orderly in
-    let limits : Limits = limitsIn (s .args .limits .now) in
-    let req : Request = requestOf limits (s .args .asked) (s .args .names .now) in
-    let told = c .before .before .before .before .before .before .before .before .before .before .a2 .given in
-    let v : Verdict = verdict (judge (viewOf (rowsIn ws) bs (s .args .t .issued)) req) (newName (s .args .t .issued) req) in
-    let sheet = sheetIn (s .args .sheet .now) in let left = c .before .before .before .before .before .before .change in let put = c .before .before .before .change-bits in
-    let l : refusedSheet (rowsIn ws) (callerOf req .limits) ≡ false = with-limits (λ x. refusedSheet (rowsIn ws) x ≡ false) limits (s .args .asked) (s .args .names .now) (s .pre .allowed) in
-    let q : verdictOf (Allowed (told .0 .0)) ≡ v = subst (λ (x : Answer). verdictOf x ≡ v) (told .1) (c .before .before .before .before .before .before .before .before .before .before .before .before .judge-request .ensures) in
-    let st = stepped-allowed sheet ws bs (s .args .t) req (s .args .k) o (left .last .0) (put .last .0) (c .count-allowed .result) (told .0 .0) q
-    (left .ensures .table ∙ ap (λ (rows : List Cap). lentTable (length ws) rows) (same-rows limits (s .args .names .now) sheet (s .args .t .issued) (before (rowsIn ws) (s .args .k)) (s .args .asked)))
-    (put .ensures ∙ same-bits limits (s .args .names .now) bs (s .args .asked)) (c .count-allowed .ensures ∙ counted limits (s .args .names .now) (s .args .asked) (s .args .t)) in
-    let fit = all-fit ws bs (s .args .t) req (s .args .k) o (s .pre .sized) l in (
-      st,
+returns-2 c = let s = c .before .before .before .before .before .before .before .before .before .before .before .before .before .before .before in
+    rw (c .before .before .before .before .before .before .before .before .before .asked2 .given .1) (
+      c .before .before .before .take-mark .ensures .0 (sheetIn (s .args .sheet .now)) (limitsIn (s .args .limits .now)) (s .pre .fit .allowed),
       record {
-        known = record { orderly = orderly-after sheet ws bs (s .args .t) req (left .last .0) (put .last .0) _ st (s .args .k) (left .result) (c .before .before .before .before .before .table .given) o (left .ensures .front); placed = left .ensures .placed };
-        sized = c .before .before .bits .given ∙ s .pre .sized;
-        allowed = without-limits (λ x. refusedSheet (rowsIn (left .last .0)) x ≡ false) limits (s .args .asked) (s .args .names .now) (allowed-after sheet ws bs (s .args .t) req (left .last .0) (put .last .0) _ st fit);
+        fit = same-fit (s .args .table .now) (s .args .bits .now) (s .args .k) (c .before .before .before .take-mark .result .live) (s .args .t .issued) (c .before .before .before .take-mark .result .outcome .tally .issued) (s .args .limits .now) (s .args .places .now) (s .pre .fit) (c .before .before .before .take-mark .ensures .2) (c .before .before .before .take-mark .ensures .3);
+        memory = c .before .before .before .take-mark .ensures .1;
       },
     )
 
+returns-3 : tie.Need-returns-3
+returns-3 c = rw (c .before .before .before .before .before .before .before .before .before .before .asked3 .given .1) (c .before .before .before .take-back .ensures .0 (sheetIn (c .before .before .before .before .before .before .before .before .before .before .before .before .before .before .before .before .args .sheet .now)), record { fit = c .before .before .before .take-back .ensures .1; memory = c .before .before .before .before .before .before .before .before .before .before .before .before .before .before .before .before .pre .memory })
+
 pub take-spec : {M : Type 1} → statement M
-take-spec = tie.close (tie.spec judge-request-requires (λ c. search needs) (λ c κs. search needs) (λ c. search needs) change-requires change-bits-requires count-allowed-requires (λ c. search needs) (λ c. search needs) returns (λ c. search needs) (λ c. search needs) returns-2)
+take-spec = tie.close (tie.spec (λ c. search needs) take-work-requires (λ c. search needs) take-mark-requires (λ c. search needs) take-back-requires (λ c. search needs) (λ c. search needs) returns (λ c. search needs) (λ c. search needs) (λ c. search needs) (λ c. search needs) returns-2 (λ c. search needs) (λ c. search needs) (λ c. search needs) (λ c. search needs) returns-3)

@@ -1,6 +1,6 @@
 -- `judge` meets its contract.
 -- Assumes nothing.
-use mathlib.Core.Path.{_∙_}
+use mathlib.Core.Path.{refl, _∙_}
 use Prim.Native.Nat.{suc, _≤_}
 use lib.ListN.{length}
 use Rattle.model.specs.declared.Event.the-variants.{Create, Borrow, Read, Write, Drop}
@@ -39,27 +39,27 @@ judge-drop-requires c κs = risen (c .before .before .before .before .before)
 returns : tie.Need-returns
 returns c =
     let s = c .before .before .before .before .before .before in let T = rowsIn (s .args .table .now) in let n = length (s .args .table .now) in let e = c .before .before .e .given in
-    rw (e .1) (c .judge-create .ensures ∙ answered T n (s .args .k) (s .args .issued) (s .pre .0) (s .args .bits .now) (s .pre .1) (Single (caller (s .args .actor) (limitsIn (s .args .limits .now))) (Create (e .0 .0) (e .0 .1 .0) (e .0 .1 .1 .0))) (s .pre .2) (suc (s .args .issued)))
+    rw (e .1) (c .judge-create .ensures ∙ answered T n (s .args .k) (s .args .issued) (s .pre .0) (s .args .bits .now) (s .pre .1) (Single (caller (s .args .actor) (limitsIn (s .args .limits .now))) (Create (e .0 .0) (e .0 .1 .0) (e .0 .1 .1 .0))) refl (s .pre .2) (suc (s .args .issued)))
 
 returns-2 : tie.Need-returns-2
 returns-2 c =
     let s = c .before .before .before .before .before .before in let T = rowsIn (s .args .table .now) in let n = length (s .args .table .now) in let e = c .before .before .e2 .given in
-    rw (e .1) (c .judge-borrow .ensures ∙ answered T n (s .args .k) (s .args .issued) (s .pre .0) (s .args .bits .now) (s .pre .1) (Single (caller (s .args .actor) (limitsIn (s .args .limits .now))) (Borrow (e .0 .0) (e .0 .1 .0) (e .0 .1 .1 .0) (e .0 .1 .1 .1 .0))) (s .pre .2) (suc (s .args .issued)))
+    rw (e .1) (c .judge-borrow .ensures ∙ answered T n (s .args .k) (s .args .issued) (s .pre .0) (s .args .bits .now) (s .pre .1) (Single (caller (s .args .actor) (limitsIn (s .args .limits .now))) (Borrow (e .0 .0) (e .0 .1 .0) (e .0 .1 .1 .0) (e .0 .1 .1 .1 .0))) refl (s .pre .2) (suc (s .args .issued)))
 
 returns-3 : tie.Need-returns-3
 returns-3 c =
     let s = c .before .before .before .before .before .before in let T = rowsIn (s .args .table .now) in let n = length (s .args .table .now) in let e = c .before .before .e3 .given in
-    rw (e .1) (c .judge-read .ensures ∙ answered T n (s .args .k) (s .args .issued) (s .pre .0) (s .args .bits .now) (s .pre .1) (Single (caller (s .args .actor) (limitsIn (s .args .limits .now))) (Read (e .0 .0) (e .0 .1 .0))) (s .pre .2) 0)
+    rw (e .1) (c .judge-read .ensures ∙ answered T n (s .args .k) (s .args .issued) (s .pre .0) (s .args .bits .now) (s .pre .1) (Single (caller (s .args .actor) (limitsIn (s .args .limits .now))) (Read (e .0 .0) (e .0 .1 .0))) refl (s .pre .2) 0)
 
 returns-4 : tie.Need-returns-4
 returns-4 c =
     let s = c .before .before .before .before .before .before in let T = rowsIn (s .args .table .now) in let n = length (s .args .table .now) in let e = c .before .before .e4 .given in
-    rw (e .1) (c .judge-write .ensures ∙ answered T n (s .args .k) (s .args .issued) (s .pre .0) (s .args .bits .now) (s .pre .1) (Single (caller (s .args .actor) (limitsIn (s .args .limits .now))) (Write (e .0 .0) (e .0 .1 .0))) (s .pre .2) 0)
+    rw (e .1) (c .judge-write .ensures ∙ answered T n (s .args .k) (s .args .issued) (s .pre .0) (s .args .bits .now) (s .pre .1) (Single (caller (s .args .actor) (limitsIn (s .args .limits .now))) (Write (e .0 .0) (e .0 .1 .0))) refl (s .pre .2) 0)
 
 returns-5 : tie.Need-returns-5
 returns-5 c =
     let s = c .before .before .before .before .before .before in let T = rowsIn (s .args .table .now) in let n = length (s .args .table .now) in let e = c .before .before .e5 .given in
-    rw (e .1) (c .judge-drop .ensures ∙ answered T n (s .args .k) (s .args .issued) (s .pre .0) (s .args .bits .now) (s .pre .1) (Single (caller (s .args .actor) (limitsIn (s .args .limits .now))) (Drop (e .0 .0))) (s .pre .2) 0)
+    rw (e .1) (c .judge-drop .ensures ∙ answered T n (s .args .k) (s .args .issued) (s .pre .0) (s .args .bits .now) (s .pre .1) (Single (caller (s .args .actor) (limitsIn (s .args .limits .now))) (Drop (e .0 .0))) refl (s .pre .2) 0)
 
 pub judge-spec : {M : Type 1} → statement M
 judge-spec = tie.close (tie.spec (λ c. search needs) judge-create-requires (λ c. search needs) judge-borrow-requires (λ c. search needs) judge-read-requires (λ c. search needs) judge-write-requires (λ c. search needs) judge-drop-requires returns returns-2 returns-3 returns-4 returns-5)
