@@ -1,5 +1,8 @@
 //! Domains: who acts, who holds what is made, how much each may make, and what each is charged.
 
+mod answers;
+
+use answers::{drop, made, refused, DONE};
 use kelzoud::{
     apply, charge, read_event, read_listing, run, write_drop_by, write_event, write_listing, Addr,
     Answer, Cap, Charge, Domain, Event, Holders, Kind, Lent, Limits, Line, Name, Outcome, Refusal,
@@ -59,20 +62,6 @@ fn write(name: u32, span: Span) -> Event {
         name: Name(name),
         span,
     }
-}
-
-fn drop(name: u32) -> Event {
-    Event::Drop { name: Name(name) }
-}
-
-const fn made(name: u32) -> Answer {
-    Answer::Allowed(Some(Name(name)))
-}
-
-const DONE: Answer = Answer::Allowed(None);
-
-const fn refused(refusal: Refusal) -> Answer {
-    Answer::Refused(refusal)
 }
 
 /// A table of eight rows with its written bits, its tally and its limits.

@@ -1,5 +1,8 @@
 //! States to come back to: slots, marks and backs, what is stored, and what is judged on going back.
 
+mod answers;
+
+use answers::{drop, made, refused, DONE};
 use kelzoud::{
     check, read_event, write_event, Addr, Answer, Cap, Domain, Event, Kind, Lent, Limits, Line,
     Name, Outcome, Refusal, Request, Right, RunAnswer, Slot, Span, Spelling, States, Tally,
@@ -55,20 +58,6 @@ fn read(name: u32) -> Event {
 fn write(name: u32) -> Event {
     let name = Name(name);
     Event::Write { name, span: WHOLE }
-}
-
-fn drop(name: u32) -> Event {
-    Event::Drop { name: Name(name) }
-}
-
-const fn made(name: u32) -> Answer {
-    Answer::Allowed(Some(Name(name)))
-}
-
-const DONE: Answer = Answer::Allowed(None);
-
-const fn refused(refusal: Refusal) -> Answer {
-    Answer::Refused(refusal)
 }
 
 /// A table of eight rows with all that is lent with it.
