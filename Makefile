@@ -30,13 +30,14 @@ all: library program
 library:
 	$(RT) staticlib kelzoud_events
 	$(RT) staticlib kelzoud
+	$(RT) staticlib columns
 	$(MAKE) archives
 
 archives: $(archives)
 
-# The calls for events are exported by a crate of their own, so that they can be linked alone. The
-# whole library has the objects of both.
-$(libraries)/libkelzoud.a: $(proved)/libkelzoud.a $(proved)/libkelzoud_events.a
+# The calls for events are exported by a crate of their own, so that they can be linked alone, and those
+# for columns by another, which no other crate needs. The whole library has the objects of all three.
+$(libraries)/libkelzoud.a: $(addprefix $(proved)/,libkelzoud.a libkelzoud_events.a libcolumns.a)
 	rm -rf $(libraries)/objects $@
 	mkdir -p $(libraries)/objects
 	cd $(libraries)/objects && for archive in $^; do $(AR) x ../../../$$archive || exit 1; done

@@ -3,7 +3,7 @@
  *
  * The caller lends all memory: a table of capabilities, the written bits of its addresses, room for
  * states to come back to, a tally of events, a conflict sheet where the default one does not serve, a
- * sheet of limits where domains are to have them, texts and output buffers.
+ * sheet of limits where domains are to have them, texts, columns and output buffers.
  * The library keeps nothing between calls, allocates nothing and has no global state, so calls with
  * different memory may run at the same time on different threads.
  *
@@ -15,7 +15,8 @@
  *     states of kz_check among them.
  *   - Whatever a call may write overlaps nothing else that the call is given.
  * Nothing else is asked. Every event, table, tally, sheet, line, text and listing gets an answer, and
- * so do any written bits and any limits, of whatever length, and whatever stands in a kz_states.
+ * so do any written bits, any limits and any columns, of whatever length, and whatever stands in a
+ * kz_states.
  *
  * A call answers with a kz_answer: a refusal, which is 0 when the call was allowed, and a value, as
  * each call says. A call that is refused changes nothing that was lent, except as kz_apply,
@@ -45,6 +46,7 @@ enum {
     KZ_SLOTS = 8,                 /* states to come back to, in slots 0 to 7 */
     KZ_WRITTEN_BYTES = 8192,      /* bytes of written bits, no fewer and no more */
     KZ_WRITTEN_ADDRESSES = 65536, /* addresses that have a written bit, from 0 on */
+    KZ_MAX_COLUMN_EVENTS = 4096,  /* events that are put into columns, or taken from them */
     KZ_MAX_INPUT = 65536,         /* bytes of input that kz_check runs */
     KZ_MAX_LINE = 75,             /* bytes of an event line, its newline included */
     KZ_MAX_NAMED_LINE = 86,       /* the same where new names are written out */
@@ -90,7 +92,8 @@ enum kz_refusal {
                                 fit, as kz_states says */
     KZ_MISGROUPED = 13,      /* lent names: none, more than KZ_MAX_GROUP, or not strictly rising */
     KZ_MISSPELT = 2,         /* text that is not spelled so; an unknown kind, right, cap_kind, mark,
-                                domain or slot; holders without the domain that acts */
+                                domain or slot; holders without the domain that acts; events that
+                                have no columns, or columns that no events have, as kz_columns says */
     KZ_GIVEN_TWICE = 14,     /* a sheet's text gives a combination twice */
     KZ_NOT_GIVEN = 15,       /* a sheet's text leaves a combination out */
     KZ_NOTHING_STORED = 19,  /* a back to a slot in which nothing is stored */
@@ -107,7 +110,8 @@ enum kz_refusal {
     KZ_TABLE_FULL = 10,      /* a create or borrow when no row is empty and no limits are lent; a listing
                                 with too many rows */
     KZ_LIMIT_REACHED = 18,   /* a create or borrow of a domain that has reached its lent limit */
-    KZ_BUFFER_TOO_SHORT = 11 /* a text that is longer than the output buffer */
+    KZ_BUFFER_TOO_SHORT = 11 /* a text that is longer than the output buffer; more entries than a column
+                                or a list of events that is lent for them has */
 };
 
 /*
@@ -338,6 +342,51 @@ typedef struct kz_shares {
     uint32_t rest;    /* what is left over, less than there are holders */
 } kz_shares;
 
+/* How many entries kz_to_columns or kz_from_columns used in each list. */
+typedef struct kz_counts {
+    uint32_t events;  /* how many events there are, at most KZ_MAX_COLUMN_EVENTS */
+    uint32_t kinds;   /* the same: every event has one */
+    uint32_t names;   /* all but creates have one */
+    uint32_t starts;  /* all but drops have one */
+    uint32_t lengths; /* as many as starts */
+    uint32_t rights;  /* creates and borrows have one */
+} kz_counts;
+
+/*
+ * A trace by column, with like beside like, as one stores it: the kinds of its events, their names,
+ * starts, lengths and rights, each in the events' order, and with no entry where a kind lacks the value.
+ * So `(create 0 64 rw)`, `(borrow 1 0 8 ro)`, `(write 1 32 4)` and `(drop 2)` are
+ *
+ *   kinds   1 2 4 5    KZ_CREATE to KZ_DROP
+ *   names   1 1 2
+ *   starts  0 0 32
+ *   lengths 64 8 4
+ *   rights  2 1        KZ_RO and KZ_RW
+ *
+ * Only creates, borrows, reads, writes and drops of one name have columns, and only as domain 0 does them
+ * for itself alone, in lines of no more words than these: no name is written out, `cap_kind`, `fresh` and
+ * `actor` are 0, what is made has 1 in `holders_low` and 0 in `holders_high`, and whatever the kind lacks
+ * is 0, as kz_read_event leaves it. A right is KZ_RO or KZ_RW. Names, starts and lengths may be any: no
+ * table is asked whether they are right.
+ *
+ * Where events are put into columns, the lengths say how much room each has. Where they are taken from
+ * columns, they say how many entries each has, and that must be just as many as the kinds ask for:
+ * kz_columns_used makes the second of the first.
+ */
+typedef struct kz_columns {
+    uint8_t *kinds; /* of every event */
+    size_t kinds_len;
+    uint32_t *names; /* of borrows, reads, writes and drops */
+    size_t names_len;
+    uint32_t *starts; /* of creates, borrows, reads and writes */
+    size_t starts_len;
+    uint32_t *lengths; /* of the same */
+    size_t lengths_len;
+    uint8_t *rights; /* of creates and borrows */
+    size_t rights_len;
+    kz_counts used; /* how many entries the last allowed call used */
+} kz_columns;
+
 /* The whole of a part, lent with the default sheet and without limits. Set `sheet`, or `limits` and
    `limit_count`, of what is returned to use others. */
 static inline kz_lent kz_lend(kz_part *part);
@@ -565,6 +614,33 @@ static inline kz_answer kz_read_sheet(const uint8_t *text, size_t text_len, kz_s
 static inline kz_answer kz_write_sheet(const kz_sheet *sheet, uint8_t *out, size_t out_len);
 
 /*
+ * Puts events, in their order, into columns, from the start of each; the entries behind them stay.
+ *
+ * Allowed: the value is the number of events, and `used` has how many entries each column got.
+ * Refused, with value 0: KZ_MISSPELT for more than KZ_MAX_COLUMN_EVENTS events, and where one of them has
+ * no columns, as kz_columns says; else KZ_BUFFER_TOO_SHORT where a column has too little room. No entry
+ * is touched, nor `used`.
+ */
+static inline kz_answer kz_to_columns(const kz_event *events, size_t count, kz_columns *columns);
+
+/*
+ * Takes the events from columns to the start of `events`, which has `room` of them; those behind stay. They
+ * are those that kz_to_columns puts into these columns, word for word. The entries of the columns are only
+ * read; where they are const, kz_abi_from_columns is the call.
+ *
+ * Allowed: the value is the number of events, and `used` has it with how many entries each column has.
+ * Refused, with value 0: KZ_MISSPELT for more than KZ_MAX_COLUMN_EVENTS kinds, for a kind that is none of
+ * KZ_CREATE to KZ_DROP or a right that is neither KZ_RO nor KZ_RW, and where another column has more or
+ * fewer entries than the kinds ask for; else KZ_BUFFER_TOO_SHORT where `room` is too little. No event is
+ * touched, nor `used`.
+ */
+static inline kz_answer kz_from_columns(kz_columns *columns, kz_event *events, size_t room);
+
+/* The same columns, of which each has as many entries as `used` says: what kz_to_columns has filled, to be
+   given to kz_from_columns. */
+static inline kz_columns kz_columns_used(const kz_columns *columns);
+
+/*
  * Writes what the program capcheck prints for an input to the start of `out`; the bytes after it
  * stay. That is `(allowed LINES)` or `(refused NUMBER LINE)` for a run on KZ_MAX_ROWS empty rows, with
  * no address written and nothing stored, by the default sheet and without limits, and the listing after
@@ -586,8 +662,8 @@ static inline kz_answer kz_check(kz_states *states, const uint8_t *input, size_t
  * KZ_DISORDERED, and kz_abi_check writes `(refused 1 0)` then. A sheet is its bytes and how many they are:
  * none is the default one, of fewer than KZ_SHEET_PLACES the missing ones count as KZ_END, and of more
  * the first count. Limits are 32-bit numbers and how many they are, none or KZ_DOMAINS. An answer is one
- * number, the refusal times 2^32 plus the value; only kz_abi_apply_all writes kz_answer structs, and
- * kz_abi_charge a kz_shares.
+ * number, the refusal times 2^32 plus the value; only kz_abi_apply_all writes kz_answer structs,
+ * kz_abi_charge a kz_shares, and the two calls for columns a kz_counts.
  */
 
 /* Both archives. */
@@ -637,6 +713,17 @@ uint64_t kz_abi_read_listing(kz_cap *table, size_t rows, kz_tally *tally, const 
 uint64_t kz_abi_read_sheet(const uint8_t *text, size_t text_len, uint8_t sheet[18]);
 
 uint64_t kz_abi_write_sheet(const uint8_t *sheet, size_t sheet_len, uint8_t *out, size_t out_len);
+
+uint64_t kz_abi_to_columns(const kz_event *events, size_t count, uint8_t *kinds, size_t kinds_len,
+                           uint32_t *names, size_t names_len, uint32_t *starts, size_t starts_len,
+                           uint32_t *lengths, size_t lengths_len, uint8_t *rights,
+                           size_t rights_len, kz_counts *used);
+
+uint64_t kz_abi_from_columns(const uint8_t *kinds, size_t kinds_len, const uint32_t *names,
+                             size_t names_len, const uint32_t *starts, size_t starts_len,
+                             const uint32_t *lengths, size_t lengths_len, const uint8_t *rights,
+                             size_t rights_len, kz_event *events, size_t events_len,
+                             kz_counts *used);
 
 uint64_t kz_abi_check(const uint8_t *input, size_t input_len, kz_cap *stored, size_t stored_rows,
                       uint8_t *stored_bits, size_t stored_size, uint8_t *out, size_t out_len);
@@ -888,6 +975,30 @@ static inline kz_answer kz_read_sheet(const uint8_t *text, size_t text_len, kz_s
 static inline kz_answer kz_write_sheet(const kz_sheet *sheet, uint8_t *out, size_t out_len) {
     return kz_abi_answer(
         kz_abi_write_sheet(kz_abi_results(sheet), kz_abi_places(sheet), out, out_len));
+}
+
+static inline kz_answer kz_to_columns(const kz_event *events, size_t count, kz_columns *columns) {
+    return kz_abi_answer(kz_abi_to_columns(
+        events, count, columns->kinds, columns->kinds_len, columns->names, columns->names_len,
+        columns->starts, columns->starts_len, columns->lengths, columns->lengths_len,
+        columns->rights, columns->rights_len, &columns->used));
+}
+
+static inline kz_answer kz_from_columns(kz_columns *columns, kz_event *events, size_t room) {
+    return kz_abi_answer(kz_abi_from_columns(
+        columns->kinds, columns->kinds_len, columns->names, columns->names_len, columns->starts,
+        columns->starts_len, columns->lengths, columns->lengths_len, columns->rights,
+        columns->rights_len, events, room, &columns->used));
+}
+
+static inline kz_columns kz_columns_used(const kz_columns *columns) {
+    kz_columns used = *columns;
+    used.kinds_len = used.used.kinds;
+    used.names_len = used.used.names;
+    used.starts_len = used.used.starts;
+    used.lengths_len = used.used.lengths;
+    used.rights_len = used.used.rights;
+    return used;
 }
 
 static inline kz_answer kz_check(kz_states *states, const uint8_t *input, size_t input_len,

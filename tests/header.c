@@ -78,6 +78,7 @@ static void check_layout(void) {
     CHECK(sizeof(kz_event) == 48);
     CHECK(sizeof(kz_answer) == 8);
     CHECK(sizeof(kz_shares) == 12);
+    CHECK(sizeof(kz_counts) == 24);
     CHECK(sizeof(kz_part) == KZ_MAX_ROWS * 44 + KZ_WRITTEN_BYTES + 426336 + 28);
     CHECK(sizeof(kz_states) == 426336 && sizeof(kz_part) == 479612);
     CHECK(ROWS_OF(states) == 8200 && sizeof states.written == 65536);
@@ -107,6 +108,12 @@ static void check_layout(void) {
     CHECK(offsetof(kz_shares, refusal) == 0);
     CHECK(offsetof(kz_shares, share) == 4);
     CHECK(offsetof(kz_shares, rest) == 8);
+    CHECK(offsetof(kz_counts, events) == 0);
+    CHECK(offsetof(kz_counts, kinds) == 4);
+    CHECK(offsetof(kz_counts, names) == 8);
+    CHECK(offsetof(kz_counts, starts) == 12);
+    CHECK(offsetof(kz_counts, lengths) == 16);
+    CHECK(offsetof(kz_counts, rights) == 20);
 }
 
 /* Answers come apart also where the value is as large as can be, and where it is 0. */
@@ -1942,6 +1949,474 @@ static void check_wrong_sheet_text(void) {
 #undef REST
 }
 
+/* Lists of events and columns, with room for two entries more than there can be. Where nothing was
+   written each byte is UNTOUCHED, which is no kind and no right. */
+enum { LIST_ROOM = KZ_MAX_COLUMN_EVENTS + 2, UNTOUCHED = 0xee };
+
+static struct lists {
+    kz_event events[LIST_ROOM];
+    uint32_t names[LIST_ROOM], starts[LIST_ROOM], lengths[LIST_ROOM];
+    uint8_t kinds[LIST_ROOM], rights[LIST_ROOM];
+} lists, expected;
+
+static void clear_lists(void) {
+    memset(&lists, UNTOUCHED, sizeof lists);
+}
+
+/* What the lists have is expected to stay, but for what is changed there. */
+static void expect_lists(void) {
+    memcpy(&expected, &lists, sizeof lists);
+}
+
+static int as_expected(void) {
+    return memcmp(&lists, &expected, sizeof lists) == 0;
+}
+
+/* Counts that no call gives. */
+static const kz_counts other_counts = {61, 62, 63, 64, 65, 66};
+
+static int same_counts(const kz_counts *one, const kz_counts *other) {
+    return memcmp(one, other, sizeof *one) == 0;
+}
+
+static int counted(const kz_counts *used, size_t events, size_t names, size_t spans,
+                   size_t rights) {
+    return used->events == events && used->kinds == events && used->names == names &&
+           used->starts == spans && used->lengths == spans && used->rights == rights;
+}
+
+/* The columns of the lists, with so many entries of each. */
+static kz_columns lend_columns(size_t kinds, size_t names, size_t spans, size_t rights) {
+    const kz_columns columns = {lists.kinds,   kinds, lists.names,  names,  lists.starts, spans,
+                                lists.lengths, spans, lists.rights, rights, other_counts};
+    return columns;
+}
+
+static kz_columns lend_all(void) {
+    return lend_columns(LIST_ROOM, LIST_ROOM, LIST_ROOM, LIST_ROOM);
+}
+
+/* The length of a column by its number, from the kinds on. */
+enum { COLUMNS = 5 };
+
+static size_t *length_of(kz_columns *columns, size_t column) {
+    switch (column) {
+    case 0:
+        return &columns->kinds_len;
+    case 1:
+        return &columns->names_len;
+    case 2:
+        return &columns->starts_len;
+    case 3:
+        return &columns->lengths_len;
+    default:
+        return &columns->rights_len;
+    }
+}
+
+/* Whether events are refused so, and nothing is touched. */
+static int not_to_columns(const kz_event *events, size_t count, kz_columns columns,
+                          enum kz_refusal refusal) {
+    expect_lists();
+    return refused(kz_to_columns(events, count, &columns), refusal) && as_expected() &&
+           same_counts(&columns.used, &other_counts);
+}
+
+/* The same of columns. */
+static int not_from_columns(kz_columns columns, size_t room, enum kz_refusal refusal) {
+    expect_lists();
+    return refused(kz_from_columns(&columns, lists.events, room), refusal) && as_expected() &&
+           same_counts(&columns.used, &other_counts);
+}
+
+/* Events of each kind, with numbers as small and as large as can be, and how many entries they need. */
+enum { MIXED = 7, MIXED_NAMES = 5, MIXED_SPANS = 6, MIXED_RIGHTS = 3 };
+
+static const kz_event mixed[MIXED] = {
+    {KZ_CREATE, 0, 0, 64, KZ_RW, 0, 0, 0, 0, 0, 1, 0},
+    {KZ_BORROW, 1, 8, 16, KZ_RO, 0, 0, 0, 0, 0, 1, 0},
+    {KZ_READ, 2, 9, 0, 0, 0, 0, 0, 0, 0, 0, 0},
+    {KZ_CREATE, 0, 4294967295u, 4294967295u, KZ_RO, 0, 0, 0, 0, 0, 1, 0},
+    {KZ_DROP, 4294967295u, 0, 0, 0, 0, 0, 0, 0, 0, 0, 0},
+    {KZ_WRITE, 1, 32, 4294967295u, 0, 0, 0, 0, 0, 0, 0, 0},
+    {KZ_READ, 0, 4294967295u, 1, 0, 0, 0, 0, 0, 0, 0, 0},
+};
+
+static kz_columns lend_mixed(void) {
+    return lend_columns(MIXED, MIXED_NAMES, MIXED_SPANS, MIXED_RIGHTS);
+}
+
+/* The lists with nothing but their entries. */
+static void expect_mixed(void) {
+    static const uint8_t kinds[MIXED] = {1, 2, 3, 1, 5, 4, 3};
+    static const uint32_t names[MIXED_NAMES] = {1, 2, 4294967295u, 1, 0};
+    static const uint32_t starts[MIXED_SPANS] = {0, 8, 9, 4294967295u, 32, 4294967295u};
+    static const uint32_t lengths[MIXED_SPANS] = {64, 16, 0, 4294967295u, 4294967295u, 1};
+    static const uint8_t rights[MIXED_RIGHTS] = {2, 1, 1};
+    memset(&expected, UNTOUCHED, sizeof expected);
+    memcpy(expected.kinds, kinds, sizeof kinds);
+    memcpy(expected.names, names, sizeof names);
+    memcpy(expected.starts, starts, sizeof starts);
+    memcpy(expected.lengths, lengths, sizeof lengths);
+    memcpy(expected.rights, rights, sizeof rights);
+}
+
+/* There, with this room, and back from just what was used, with this room for events. */
+static void check_there_and_back(kz_columns columns, size_t room) {
+    kz_columns used;
+    clear_lists();
+    CHECK(allowed(kz_to_columns(mixed, MIXED, &columns), MIXED));
+    CHECK(counted(&columns.used, MIXED, MIXED_NAMES, MIXED_SPANS, MIXED_RIGHTS));
+    expect_mixed();
+    CHECK(as_expected());
+    used = kz_columns_used(&columns);
+    used.used = other_counts;
+    memcpy(expected.events, mixed, sizeof mixed);
+    CHECK(allowed(kz_from_columns(&used, lists.events, room), MIXED));
+    CHECK(same_counts(&used.used, &columns.used));
+    CHECK(as_expected());
+}
+
+static void check_columns(void) {
+    kz_columns columns = lend_all(), used;
+    check_there_and_back(lend_all(), LIST_ROOM);
+    check_there_and_back(lend_mixed(), MIXED);
+    CHECK(allowed(kz_to_columns(mixed, MIXED, &columns), MIXED));
+    CHECK(columns.kinds_len == LIST_ROOM && columns.rights_len == LIST_ROOM);
+    used = kz_columns_used(&columns);
+    CHECK(used.kinds == lists.kinds && used.kinds_len == MIXED);
+    CHECK(used.names == lists.names && used.names_len == MIXED_NAMES);
+    CHECK(used.starts == lists.starts && used.starts_len == MIXED_SPANS);
+    CHECK(used.lengths == lists.lengths && used.lengths_len == MIXED_SPANS);
+    CHECK(used.rights == lists.rights && used.rights_len == MIXED_RIGHTS);
+    CHECK(same_counts(&used.used, &columns.used));
+}
+
+/* Each kind by itself: the entries that it has, and its line, which reads to the very same event. */
+static void check_columns_of_kinds(void) {
+    static const struct {
+        const char *line;
+        kz_event event;
+        uint32_t names, spans, rights;
+    } cases[] = {
+        {"(create 5 6 ro)\n", {1, 0, 5, 6, 1, 0, 0, 0, 0, 0, 1, 0}, 0, 1, 1},
+        {"(borrow 4 5 6 rw)\n", {2, 4, 5, 6, 2, 0, 0, 0, 0, 0, 1, 0}, 1, 1, 1},
+        {"(read 4 5 6)\n", {3, 4, 5, 6, 0, 0, 0, 0, 0, 0, 0, 0}, 1, 1, 0},
+        {"(write 4 5 6)\n", {4, 4, 5, 6, 0, 0, 0, 0, 0, 0, 0, 0}, 1, 1, 0},
+        {"(drop 4)\n", {5, 4, 0, 0, 0, 0, 0, 0, 0, 0, 0, 0}, 1, 0, 0},
+    };
+    size_t i;
+    for (i = 0; i < sizeof cases / sizeof cases[0]; i++) {
+        const kz_event *event = &cases[i].event;
+        const uint32_t names = cases[i].names, spans = cases[i].spans, rights = cases[i].rights;
+        kz_columns columns = lend_columns(1, names, spans, rights);
+        clear_lists();
+        expect_lists();
+        expected.kinds[0] = (uint8_t)event->kind;
+        if (names != 0) expected.names[0] = event->name;
+        if (spans != 0) expected.starts[0] = event->start;
+        if (spans != 0) expected.lengths[0] = event->length;
+        if (rights != 0) expected.rights[0] = (uint8_t)event->right;
+        CHECK(reads_as(0, cases[i].line, event));
+        CHECK(allowed(kz_to_columns(event, 1, &columns), 1));
+        CHECK(counted(&columns.used, 1, names, spans, rights));
+        CHECK(as_expected());
+        columns.used = other_counts;
+        expected.events[0] = *event;
+        CHECK(allowed(kz_from_columns(&columns, lists.events, LIST_ROOM), 1));
+        CHECK(counted(&columns.used, 1, names, spans, rights));
+        CHECK(as_expected());
+    }
+}
+
+/* Whether an event of this kind may have this number in this of its twelve words, in place of another. */
+static int may_have(uint32_t kind, size_t word, uint32_t number) {
+    switch (word) {
+    case 1:
+        return kind != KZ_CREATE;
+    case 2:
+    case 3:
+        return kind != KZ_DROP;
+    case 4:
+        return (kind == KZ_CREATE || kind == KZ_BORROW) && (number == KZ_RO || number == KZ_RW);
+    default:
+        return 0;
+    }
+}
+
+/* The events with this number in a word of one of them. */
+static void check_word(size_t at, size_t word, uint32_t number) {
+    kz_columns columns = lend_mixed();
+    kz_event events[MIXED];
+    uint32_t words[12];
+    memcpy(events, mixed, sizeof mixed);
+    memcpy(words, &mixed[at], sizeof words);
+    if (words[word] == number) return;
+    words[word] = number;
+    memcpy(&events[at], words, sizeof words);
+    if (may_have(mixed[at].kind, word, number)) {
+        CHECK(allowed(kz_to_columns(events, MIXED, &columns), MIXED));
+        CHECK(allowed(kz_from_columns(&columns, lists.events, MIXED), MIXED));
+        CHECK(memcmp(lists.events, events, sizeof events) == 0);
+    } else {
+        CHECK(not_to_columns(events, MIXED, columns, KZ_MISSPELT));
+    }
+}
+
+/* Every word of every kind with other numbers. That of the kind gets no other kind, since some have the
+   same values. */
+static void check_wrong_column_events(void) {
+    static const uint32_t numbers[] = {0,   1,   2,   3,   4,     5,     6,           7,          8,
+                                       255, 256, 257, 258, 65536, 65537, 2147483648u, 4294967295u};
+    static const uint32_t kinds[] = {0, 6, 7, 8, 9, 255, 256, 257, 258, 261, 65537, 4294967295u};
+    size_t at, word, i;
+    for (at = 0; at < MIXED; at++) {
+        for (i = 0; i < sizeof kinds / sizeof kinds[0]; i++) check_word(at, 0, kinds[i]);
+        for (word = 1; word < 12; word++) {
+            for (i = 0; i < sizeof numbers / sizeof numbers[0]; i++)
+                check_word(at, word, numbers[i]);
+        }
+    }
+}
+
+/* Lines that a trace may have, and whose events have no columns. */
+static void check_events_without_columns(void) {
+    static const struct {
+        uint32_t named;
+        const char *line;
+    } cases[] = {
+        {1, "(create 1 0 8 rw)\n"},
+        {1, "(borrow 2 1 0 8 rw)\n"},
+        {0, "(create 0 8 rw fresh)\n"},
+        {0, "(create 0 8 rw 0000000000000003)\n"},
+        {0, "(borrow 1 0 8 rw raw)\n"},
+        {0, "(borrow 1 0 8 rw cell)\n"},
+        {0, "(borrow 1 0 8 rw 8000000000000001)\n"},
+        {0, "(as 1 (create 0 8 rw))\n"},
+        {0, "(as 63 (drop 1))\n"},
+        {0, "(drop 1 2)\n"},
+        {0, "(mark 0)\n"},
+        {0, "(back 0)\n"},
+    };
+    const kz_event alone = event_of(KZ_DROP_ALL, 0, 0, 1, 0);
+    uint32_t names[KZ_MAX_GROUP];
+    size_t i;
+    for (i = 0; i < sizeof cases / sizeof cases[0]; i++) {
+        const uint8_t *line = (const uint8_t *)cases[i].line;
+        const size_t length = strlen(cases[i].line);
+        kz_event event;
+        CHECK(allowed(kz_read_event(cases[i].named, line, length, &event, names), 0));
+        CHECK(not_to_columns(&event, 1, lend_all(), KZ_MISSPELT));
+    }
+    CHECK(not_to_columns(&alone, 1, lend_all(), KZ_MISSPELT));
+}
+
+/* Each list too short in its turn, from one entry to all of them. Events and columns that are wrong
+   besides are refused for that. */
+static void check_short_columns(void) {
+    static const size_t needed[COLUMNS] = {MIXED, MIXED_NAMES, MIXED_SPANS, MIXED_SPANS,
+                                           MIXED_RIGHTS};
+    kz_columns columns = lend_mixed();
+    kz_event wrong[MIXED];
+    size_t column, room;
+    memcpy(wrong, mixed, sizeof mixed);
+    wrong[MIXED - 1].actor = 1;
+    clear_lists();
+    for (column = 0; column < COLUMNS; column++) {
+        for (room = 0; room < needed[column]; room++) {
+            kz_columns shorter = lend_all();
+            *length_of(&shorter, column) = room;
+            CHECK(not_to_columns(mixed, MIXED, shorter, KZ_BUFFER_TOO_SHORT));
+            CHECK(not_to_columns(wrong, MIXED, shorter, KZ_MISSPELT));
+        }
+    }
+    CHECK(allowed(kz_to_columns(mixed, MIXED, &columns), MIXED));
+    columns.used = other_counts;
+    for (room = 0; room < MIXED; room++) {
+        CHECK(not_from_columns(columns, room, KZ_BUFFER_TOO_SHORT));
+        lists.rights[MIXED_RIGHTS - 1] = 3;
+        CHECK(not_from_columns(columns, room, KZ_MISSPELT));
+        lists.rights[MIXED_RIGHTS - 1] = KZ_RO;
+    }
+}
+
+/* Columns with one entry more or one less than the kinds ask for, whatever the room for events. What
+   stands behind the columns is a kind and a right, so that only the lengths are wrong. */
+static void check_column_lengths(void) {
+    static const size_t rooms[] = {0, MIXED - 1, MIXED, LIST_ROOM};
+    kz_columns columns = lend_mixed();
+    size_t column, i;
+    clear_lists();
+    CHECK(allowed(kz_to_columns(mixed, MIXED, &columns), MIXED));
+    lists.kinds[MIXED] = KZ_DROP;
+    lists.rights[MIXED_RIGHTS] = KZ_RW;
+    for (i = 0; i < sizeof rooms / sizeof rooms[0]; i++) {
+        for (column = 0; column < COLUMNS; column++) {
+            kz_columns other = lend_mixed();
+            ++*length_of(&other, column);
+            CHECK(not_from_columns(other, rooms[i], KZ_MISSPELT));
+            *length_of(&other, column) -= 2;
+            CHECK(not_from_columns(other, rooms[i], KZ_MISSPELT));
+        }
+        CHECK(not_from_columns(lend_columns(MIXED, MIXED_NAMES, MIXED_SPANS + 1, MIXED_RIGHTS),
+                               rooms[i], KZ_MISSPELT));
+        CHECK(not_from_columns(lend_columns(MIXED, MIXED_NAMES, MIXED_SPANS - 1, MIXED_RIGHTS),
+                               rooms[i], KZ_MISSPELT));
+    }
+}
+
+/* Another of the five kinds asks for other entries, except that a read and a write have the same. */
+static int asks_for_the_same(uint8_t one, uint8_t other) {
+    return one == other || (one == KZ_READ && other == KZ_WRITE) ||
+           (one == KZ_WRITE && other == KZ_READ);
+}
+
+/* Numbers that are no kind and no right, and kinds that the other columns are not for, at each place. */
+static void check_wrong_columns(void) {
+    static const uint8_t numbers[] = {0, 1, 2, 3, 4, 5, 6, 7, 8, 128, 255};
+    kz_columns columns = lend_mixed();
+    size_t at, i;
+    clear_lists();
+    CHECK(allowed(kz_to_columns(mixed, MIXED, &columns), MIXED));
+    for (i = 0; i < sizeof numbers; i++) {
+        for (at = 0; at < MIXED; at++) {
+            const uint8_t kind = lists.kinds[at];
+            if (asks_for_the_same(kind, numbers[i])) continue;
+            lists.kinds[at] = numbers[i];
+            CHECK(not_from_columns(lend_mixed(), LIST_ROOM, KZ_MISSPELT));
+            lists.kinds[at] = kind;
+        }
+        for (at = 0; at < MIXED_RIGHTS; at++) {
+            const uint8_t right = lists.rights[at];
+            if (numbers[i] == KZ_RO || numbers[i] == KZ_RW) continue;
+            lists.rights[at] = numbers[i];
+            CHECK(not_from_columns(lend_mixed(), LIST_ROOM, KZ_MISSPELT));
+            lists.rights[at] = right;
+        }
+    }
+    lists.kinds[2] = KZ_WRITE;
+    lists.rights[0] = KZ_RO;
+    CHECK(allowed(kz_from_columns(&columns, lists.events, LIST_ROOM), MIXED));
+    CHECK(lists.events[2].kind == KZ_WRITE && lists.events[0].right == KZ_RO);
+}
+
+/* Columns that were filled by hand, taken to events, and those put into columns again. */
+static void check_back_and_there(void) {
+    static const uint32_t numbers[] = {7, 0, 4294967295u, 9, 7};
+    static const uint8_t kinds[] = {5, 4, 4, 2, 3, 1}, rights[] = {1, 2};
+    static kz_event events[6];
+    kz_columns columns = lend_columns(6, 5, 5, 2);
+    clear_lists();
+    memcpy(lists.kinds, kinds, sizeof kinds);
+    memcpy(lists.names, numbers, sizeof numbers);
+    memcpy(lists.starts, numbers, sizeof numbers);
+    memcpy(lists.lengths, numbers, sizeof numbers);
+    memcpy(lists.rights, rights, sizeof rights);
+    expect_lists();
+    CHECK(allowed(kz_from_columns(&columns, events, 6), 6));
+    CHECK(counted(&columns.used, 6, 5, 5, 2));
+    CHECK(events[0].kind == KZ_DROP && events[0].name == 7 && events[0].start == 0);
+    CHECK(events[3].kind == KZ_BORROW && events[3].name == 9 && events[3].right == KZ_RO);
+    CHECK(events[5].kind == KZ_CREATE && events[5].start == 7 && events[5].holders_low == 1);
+    clear_lists();
+    columns.used = other_counts;
+    CHECK(allowed(kz_to_columns(events, 6, &columns), 6));
+    CHECK(counted(&columns.used, 6, 5, 5, 2));
+    CHECK(as_expected());
+}
+
+/* As many events as there may be, and one more, which is refused though a list is too short besides. */
+static void check_most_columns(void) {
+    static kz_event events[KZ_MAX_COLUMN_EVENTS + 1];
+    const uint32_t most = KZ_MAX_COLUMN_EVENTS;
+    kz_columns columns = lend_columns(most, most, most, most);
+    uint32_t i;
+    for (i = 0; i <= most; i++) events[i] = event_of(KZ_BORROW, i, most - i, 4, KZ_RO);
+    clear_lists();
+    expect_lists();
+    for (i = 0; i < most; i++) {
+        expected.events[i] = events[i];
+        expected.kinds[i] = KZ_BORROW;
+        expected.names[i] = i;
+        expected.starts[i] = most - i;
+        expected.lengths[i] = 4;
+        expected.rights[i] = KZ_RO;
+    }
+    CHECK(allowed(kz_to_columns(events, most, &columns), most));
+    CHECK(counted(&columns.used, most, most, most, most));
+    CHECK(allowed(kz_from_columns(&columns, lists.events, most), most));
+    CHECK(counted(&columns.used, most, most, most, most));
+    CHECK(as_expected());
+    columns = lend_columns(most, most, most, most - 1);
+    CHECK(not_to_columns(events, most, columns, KZ_BUFFER_TOO_SHORT));
+    CHECK(not_to_columns(events, most + 1, columns, KZ_MISSPELT));
+    columns = lend_columns(most + 1, most + 1, most + 1, most + 1);
+    CHECK(not_to_columns(events, most + 1, columns, KZ_MISSPELT));
+    lists.kinds[most] = KZ_BORROW;
+    lists.rights[most] = KZ_RO;
+    CHECK(not_from_columns(columns, most + 1, KZ_MISSPELT));
+    CHECK(not_from_columns(columns, most, KZ_MISSPELT));
+    CHECK(not_from_columns(columns, 0, KZ_MISSPELT));
+    columns = lend_columns(most, most, most, most);
+    CHECK(not_from_columns(columns, most - 1, KZ_BUFFER_TOO_SHORT));
+}
+
+/* No events need no entries, and those that are lent for them stay. */
+static void check_no_columns(void) {
+    const kz_columns none = {NULL, 0, NULL, 0, NULL, 0, NULL, 0, NULL, 0, other_counts};
+    kz_columns columns = none;
+    CHECK(allowed(kz_to_columns(NULL, 0, &columns), 0));
+    CHECK(counted(&columns.used, 0, 0, 0, 0));
+    columns = none;
+    CHECK(allowed(kz_from_columns(&columns, NULL, 0), 0));
+    CHECK(counted(&columns.used, 0, 0, 0, 0));
+    clear_lists();
+    expect_lists();
+    columns = lend_all();
+    CHECK(allowed(kz_to_columns(NULL, 0, &columns), 0));
+    CHECK(counted(&columns.used, 0, 0, 0, 0));
+    columns = kz_columns_used(&columns);
+    columns.used = other_counts;
+    CHECK(allowed(kz_from_columns(&columns, lists.events, LIST_ROOM), 0));
+    CHECK(counted(&columns.used, 0, 0, 0, 0));
+    CHECK(as_expected());
+    CHECK(not_to_columns(mixed, 1, none, KZ_BUFFER_TOO_SHORT));
+    lists.kinds[0] = KZ_DROP;
+    CHECK(not_from_columns(lend_columns(1, 0, 0, 0), LIST_ROOM, KZ_MISSPELT));
+    CHECK(not_from_columns(lend_columns(1, 1, 0, 0), 0, KZ_BUFFER_TOO_SHORT));
+    CHECK(not_from_columns(lend_columns(0, 1, 0, 0), 0, KZ_MISSPELT));
+    CHECK(not_from_columns(lend_columns(0, 0, 1, 0), 0, KZ_MISSPELT));
+    CHECK(not_from_columns(lend_columns(0, 0, 0, 1), 0, KZ_MISSPELT));
+}
+
+/* The exported functions, which have each list by itself and answer one number. */
+static void check_columns_exported(void) {
+    const uint64_t misspelt = (uint64_t)KZ_MISSPELT << 32;
+    const uint64_t too_short = (uint64_t)KZ_BUFFER_TOO_SHORT << 32;
+    const uint8_t kind = KZ_DROP;
+    const uint32_t name = 9;
+    kz_counts used = other_counts;
+    clear_lists();
+    CHECK(kz_abi_to_columns(mixed, MIXED, lists.kinds, MIXED, lists.names, MIXED_NAMES,
+                            lists.starts, MIXED_SPANS, lists.lengths, MIXED_SPANS, lists.rights,
+                            MIXED_RIGHTS, &used) == MIXED);
+    CHECK(counted(&used, MIXED, MIXED_NAMES, MIXED_SPANS, MIXED_RIGHTS));
+    expect_mixed();
+    CHECK(as_expected());
+    CHECK(kz_abi_from_columns(&kind, 1, &name, 1, NULL, 0, NULL, 0, NULL, 0, lists.events, 1,
+                              &used) == 1);
+    CHECK(counted(&used, 1, 1, 0, 0));
+    CHECK(lists.events[0].kind == KZ_DROP && lists.events[0].name == 9);
+    used = other_counts;
+    CHECK(kz_abi_to_columns(mixed, 1, NULL, 0, NULL, 0, NULL, 0, NULL, 0, NULL, 0, &used) ==
+          too_short);
+    CHECK(kz_abi_from_columns(&kind, 1, &name, 1, NULL, 0, NULL, 0, NULL, 0, NULL, 0, &used) ==
+          too_short);
+    CHECK(kz_abi_from_columns(&kind, 1, NULL, 0, NULL, 0, NULL, 0, NULL, 0, lists.events, 1,
+                              &used) == misspelt);
+    CHECK(same_counts(&used, &other_counts));
+}
+
 static void check_null(void) {
     static const char listing[] = "(issued 0)\n";
     const uint8_t *text = (const uint8_t *)listing;
@@ -2087,6 +2562,17 @@ int main(void) {
     check_sheet_bytes();
     check_sheet_text();
     check_wrong_sheet_text();
+    check_columns();
+    check_columns_of_kinds();
+    check_wrong_column_events();
+    check_events_without_columns();
+    check_short_columns();
+    check_column_lengths();
+    check_wrong_columns();
+    check_back_and_there();
+    check_most_columns();
+    check_no_columns();
+    check_columns_exported();
     check_null();
     check_longest();
     check_states_untouched();
