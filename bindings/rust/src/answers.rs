@@ -20,7 +20,8 @@ pub enum Refusal {
     /// strictly rising.
     Misgrouped = 13,
     /// A line or listing is not in the one spelling, or a line of a sheet's text not of its form; or the
-    /// holders that an event gives lack the domain that acts.
+    /// holders that an event gives lack the domain that acts; or events have no
+    /// [columns](crate::Columns), or columns no events.
     Misspelt = 2,
     /// A sheet's text gives a combination twice.
     GivenTwice = 14,
@@ -56,7 +57,8 @@ pub enum Refusal {
     TableFull = 10,
     /// A create or borrow of a domain that has made as many live capabilities as its limit says.
     LimitReached = 18,
-    /// A text is longer than the output buffer.
+    /// A text is longer than the output buffer, or a column or a list of events too short for what is to
+    /// stand there.
     BufferTooShort = 11,
 }
 
@@ -112,7 +114,7 @@ impl Refusal {
             Refusal::Misnamed => "the written name is not the next",
             Refusal::TableFull => "no row is empty",
             Refusal::LimitReached => "the domain has reached its limit",
-            Refusal::BufferTooShort => "the output buffer is too short",
+            Refusal::BufferTooShort => "what is lent for the result is too short",
         }
     }
 }

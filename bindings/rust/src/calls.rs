@@ -219,7 +219,7 @@ fn write_request(request: Request, names: &[Name], out: &mut [u8]) -> Result<usi
 /// [`Refusal::Misspelt`].
 pub fn read_event(spelling: Spelling, line: &[u8]) -> Result<Line, Refusal> {
     let named = (spelling == Spelling::Named).into();
-    let mut request = Request::NONE;
+    let mut request = Request::EMPTY;
     let mut names = [Name(0); MAX_GROUP];
     let answer = unsafe {
         ffi::kz_abi_read_event(

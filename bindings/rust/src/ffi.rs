@@ -11,6 +11,9 @@ pub type AnswerWords = [u32; 2];
 /// `kz_shares`, word for word.
 pub type ShareWords = [u32; 3];
 
+/// `kz_counts`, word for word.
+pub type CountWords = [u32; 6];
+
 unsafe extern "C" {
     pub fn kz_abi_apply(
         table: *mut Cap,
@@ -118,6 +121,38 @@ unsafe extern "C" {
         sheet_len: usize,
         out: *mut u8,
         out_len: usize,
+    ) -> u64;
+
+    pub fn kz_abi_to_columns(
+        events: *const EventWords,
+        count: usize,
+        kinds: *mut u8,
+        kinds_len: usize,
+        names: *mut u32,
+        names_len: usize,
+        starts: *mut u32,
+        starts_len: usize,
+        lengths: *mut u32,
+        lengths_len: usize,
+        rights: *mut u8,
+        rights_len: usize,
+        used: *mut CountWords,
+    ) -> u64;
+
+    pub fn kz_abi_from_columns(
+        kinds: *const u8,
+        kinds_len: usize,
+        names: *const u32,
+        names_len: usize,
+        starts: *const u32,
+        starts_len: usize,
+        lengths: *const u32,
+        lengths_len: usize,
+        rights: *const u8,
+        rights_len: usize,
+        events: *mut EventWords,
+        events_len: usize,
+        used: *mut CountWords,
     ) -> u64;
 
     pub fn kz_abi_check(

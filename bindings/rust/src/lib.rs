@@ -172,7 +172,7 @@
 //! ```
 //!
 //! Many events are handed over in one call by [`apply_all`], and a log is read line by line by
-//! [`read_event`].
+//! [`read_event`]. Who stores traces keeps them [by column](Columns), with like beside like.
 //!
 //! The calls are those of the C library `libkelzoud.a`, which the build script links from the
 //! directory in `KELZOUD_LIB`. They keep nothing between calls and allocate nothing.
@@ -182,6 +182,7 @@
 
 mod answers;
 mod calls;
+mod columns;
 mod domains;
 mod ffi;
 mod lent;
@@ -195,6 +196,7 @@ pub use calls::{
     apply, apply_all, charge, check, drop_all, read_event, read_listing, run, write_drop,
     write_drop_by, write_event, write_listing,
 };
+pub use columns::{from_columns, to_columns, Columns, ColumnsMut, Counts};
 pub use domains::{Charge, Domain, Holders, HoldersIter, Limits};
 pub use lent::Lent;
 pub use requests::{Group, Line, Request, Spelling};
@@ -225,6 +227,9 @@ pub const WRITTEN_BYTES: usize = 8_192;
 
 /// How many addresses have a written bit, from 0 on. A fresh capability ends there or below.
 pub const WRITTEN_ADDRESSES: u32 = 65_536;
+
+/// The most events that are put into [columns](Columns), or taken from them, in one call.
+pub const MAX_COLUMN_EVENTS: usize = 4_096;
 
 /// The most bytes of input that [`check`] runs.
 pub const MAX_INPUT: usize = 65_536;

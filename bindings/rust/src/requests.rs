@@ -45,8 +45,9 @@ pub struct Request {
 }
 
 impl Request {
-    /// What is overwritten when a line is read. No request has this kind.
-    pub(crate) const NONE: Request = Request {
+    /// Room for a request. Until one is written it is of no kind, and refused
+    /// [`Misspelt`](crate::Refusal::Misspelt).
+    pub const EMPTY: Request = Request {
         kind: 0,
         name: 0,
         start: 0,
@@ -77,25 +78,40 @@ impl Request {
             start,
             length,
             actor: actor.number(),
-            ..Request::NONE
+            ..Request::EMPTY
         }
+    }
+
+    /// The event, and the domain that acts; nothing for names that are dropped together, which stand beside
+    /// the request, and for [room](Request::EMPTY). Holders that an event need not give it does not give.
+    ///
+    /// ```
+    /// use kelzoud::{Domain, Event, Name, Request};
+    ///
+    /// let (three, drop) = (Domain::new(3).unwrap(), Event::Drop { name: Name(1) });
+    /// assert_eq!(drop.by(three).event(), Some((drop, three)));
+    /// assert_eq!(Request::drop_all(0..2).event(), None);
+    /// ```
+    pub fn event(self) -> Option<(Event, Domain)> {
+        let actor = Domain::new(self.actor)?;
+        Some((self.event_of(actor)?, actor))
     }
 
     /// What a line asks for that was read into this request and these names; nothing for a kind, right,
     /// kind of capability, mark, domain or slot that no line has.
     pub(crate) fn line(self, names: [Name; MAX_GROUP]) -> Option<Line> {
-        let actor = Domain::new(self.actor)?;
         if self.kind == DROP_ALL {
+            let actor = Domain::new(self.actor)?;
             let count = self.length as usize;
             let names = Group { names, count };
             return Some(Line::DropAll { actor, names });
         }
-        let event = self.event(actor)?;
+        let (event, actor) = self.event()?;
         Some(Line::Event { actor, event })
     }
 
-    /// The event, if it is one. Holders that an event need not give it does not give.
-    fn event(self, actor: Domain) -> Option<Event> {
+    /// The event of this domain, if it is one.
+    fn event_of(self, actor: Domain) -> Option<Event> {
         let name = Name(self.name);
         let holders = Holders::from_halves(self.holders_low, self.holders_high);
         let holders = (holders != Holders::of(actor)).then_some(holders);

@@ -9,6 +9,7 @@ pub struct Name(pub u32);
 
 /// An address.
 #[derive(Clone, Copy, Debug, PartialEq, Eq, PartialOrd, Ord, Hash)]
+#[repr(transparent)]
 pub struct Addr(pub u32);
 
 /// A run of addresses, of any length, 0 included. Legal when its end is at most 4,294,967,296. One
