@@ -5,6 +5,7 @@
 //! run or a call for many events checks the order once.
 
 mod charge;
+mod columns;
 mod domain;
 mod event;
 mod group;
@@ -20,6 +21,9 @@ mod text;
 mod written;
 
 pub use charge::charge;
+pub use columns::{
+    Columns, ColumnsMut, EventWords, MAX_COLUMN_EVENTS, Used, from_columns, to_columns,
+};
 pub use domain::DOMAINS;
 pub use event::{BACK, DROP_ALL, Event, Kind, MARK, Refusal};
 pub use group::{MAX_GROUP, drop_all, read_drop, write_drop};

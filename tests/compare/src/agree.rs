@@ -671,38 +671,7 @@ pub fn run_by(subject: Subject, by: By, lent: &mut Lent, text: &[u8]) -> Result<
 /// What words and names hold before a line is read into them, and after a refusal.
 const UNTOUCHED: u32 = 0xA5A5_A5A5;
 
-const UNTOUCHED_WORDS: Words = words_of([UNTOUCHED; 12]);
-
-pub const fn words_of(words: [u32; 12]) -> Words {
-    let [
-        kind,
-        name,
-        start,
-        length,
-        right,
-        named,
-        written,
-        cap_kind,
-        fresh,
-        actor,
-        holders_low,
-        holders_high,
-    ] = words;
-    Words {
-        kind,
-        name,
-        start,
-        length,
-        right,
-        named,
-        written,
-        cap_kind,
-        fresh,
-        actor,
-        holders_low,
-        holders_high,
-    }
-}
+const UNTOUCHED_WORDS: Words = Words::of([UNTOUCHED; 12]);
 
 /// A line in the given spelling.
 pub fn read_line(subject: Subject, line: &[u8], spelling: Spelling) -> Agreed {
@@ -737,7 +706,7 @@ fn expected_line(line: &[u8], named: u32) -> Option<(Words, Vec<u32>)> {
         _ => Spelling::Named,
     };
     if let Some(act) = oracle::read_event_line(line, spelling) {
-        return Some((words_of(act.words()), Vec::new()));
+        return Some((Words::of(act.words()), Vec::new()));
     }
     let (actor, names) = oracle::read_drop_line(line)?;
     Some((dropped(actor, &names), names))

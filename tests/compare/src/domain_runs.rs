@@ -296,7 +296,7 @@ fn unpacked(answer: u64) -> Result<u32, Refused> {
 
 impl World for Both<'_> {
     fn act(&mut self, act: Act) -> Answered {
-        let event = Event::from(agree::words_of(act.words()));
+        let event = Event::from(Words::of(act.words()));
         agree::apply_by(self.subject, self.by, &mut self.lent, event).map(unpacked)
     }
 

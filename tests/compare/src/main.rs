@@ -7,6 +7,7 @@
 mod acting;
 mod agree;
 mod charges;
+mod columns;
 mod domain_runs;
 mod domain_texts;
 mod domains;
@@ -108,6 +109,7 @@ fn main() -> ExitCode {
     charges::groups(&mut report, subject);
     states::groups(&mut report, subject);
     state_runs::groups(&mut report, subject);
+    columns::groups(&mut report, subject);
     domains::met(&mut report);
     states::met(&mut report);
     report.met("every answer of an event was met", agree::every_answer_met);

@@ -2,10 +2,10 @@
 //! measures the one can test or measure the other.
 
 pub use baseline::{
-    BACK, CELL, Cap, DOMAINS, Event, FRESH, MARK, MAX_GROUP, RAW, REFERENCE, SHEET_PLACES, SLOTS,
-    STORED_BYTES, STORED_ROWS, Tally, WRITTEN_BYTES,
+    BACK, CELL, Cap, Columns, ColumnsMut, DOMAINS, Event, FRESH, MARK, MAX_GROUP, RAW, REFERENCE,
+    SHEET_PLACES, SLOTS, STORED_BYTES, STORED_ROWS, Tally, WRITTEN_BYTES,
 };
-pub use words::{AnswerWords, DROP_ALL, ShareWords, Words};
+pub use words::{AnswerWords, CountWords, DROP_ALL, ShareWords, Words};
 
 #[cfg(library)]
 #[allow(unsafe_code)]
@@ -71,6 +71,12 @@ pub trait Interface {
     fn read_sheet(&self, text: &[u8], sheet: &mut [u8; SHEET_PLACES]) -> u64;
 
     fn write_sheet(&self, sheet: &[u8], out: &mut [u8]) -> u64;
+
+    /// `kz_abi_to_columns`: events into columns, and how many entries were used.
+    fn to_columns(&self, events: &[Words], columns: ColumnsMut, used: &mut CountWords) -> u64;
+
+    /// `kz_abi_from_columns`: columns into events, and how many entries were used.
+    fn from_columns(&self, columns: Columns, events: &mut [Words], used: &mut CountWords) -> u64;
 
     /// `kz_abi_check`, whose working space are rows and bytes for states.
     fn check(

@@ -4,7 +4,8 @@
 use std::ptr;
 
 use crate::{
-    AnswerWords, Cap, Interface, MAX_GROUP, Memory, SHEET_PLACES, ShareWords, Tally, Words, ffi,
+    AnswerWords, Cap, Columns, ColumnsMut, CountWords, Interface, MAX_GROUP, Memory, SHEET_PLACES,
+    ShareWords, Tally, Words, ffi,
 };
 
 pub struct Library;
@@ -143,6 +144,46 @@ impl Interface for Library {
         let size = out.len();
         let out = out.as_mut_ptr();
         unsafe { ffi::kz_abi_write_sheet(sheet.as_ptr(), sheet.len(), out, size) }
+    }
+
+    fn to_columns(&self, events: &[Words], columns: ColumnsMut, used: &mut CountWords) -> u64 {
+        unsafe {
+            ffi::kz_abi_to_columns(
+                events.as_ptr().cast(),
+                events.len(),
+                columns.kinds.as_mut_ptr(),
+                columns.kinds.len(),
+                columns.names.as_mut_ptr(),
+                columns.names.len(),
+                columns.starts.as_mut_ptr(),
+                columns.starts.len(),
+                columns.lengths.as_mut_ptr(),
+                columns.lengths.len(),
+                columns.rights.as_mut_ptr(),
+                columns.rights.len(),
+                used,
+            )
+        }
+    }
+
+    fn from_columns(&self, columns: Columns, events: &mut [Words], used: &mut CountWords) -> u64 {
+        unsafe {
+            ffi::kz_abi_from_columns(
+                columns.kinds.as_ptr(),
+                columns.kinds.len(),
+                columns.names.as_ptr(),
+                columns.names.len(),
+                columns.starts.as_ptr(),
+                columns.starts.len(),
+                columns.lengths.as_ptr(),
+                columns.lengths.len(),
+                columns.rights.as_ptr(),
+                columns.rights.len(),
+                events.as_mut_ptr().cast(),
+                events.len(),
+                used,
+            )
+        }
     }
 
     fn check(

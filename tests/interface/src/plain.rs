@@ -2,7 +2,9 @@
 
 use baseline::{Cap, Event, Lent, MAX_GROUP, Refusal, SHEET_PLACES, Spelling, Tally};
 
-use crate::{AnswerWords, DROP_ALL, Interface, Memory, ShareWords, Words};
+use crate::{
+    AnswerWords, Columns, ColumnsMut, CountWords, DROP_ALL, Interface, Memory, ShareWords, Words,
+};
 
 pub struct Baseline;
 
@@ -11,6 +13,14 @@ fn packed(answer: Result<u32, Refusal>) -> u64 {
         Ok(value) => u64::from(value),
         Err(refusal) => (refusal as u64) << 32,
     }
+}
+
+/// The number of events, where entries were used.
+fn counted(answer: Result<CountWords, Refusal>, used: &mut CountWords) -> u64 {
+    packed(answer.map(|counts| {
+        *used = counts;
+        counts[0]
+    }))
 }
 
 /// The names that the words mean, where they mean names; those past the end of the list are none.
@@ -114,6 +124,14 @@ impl Interface for Baseline {
 
     fn write_sheet(&self, sheet: &[u8], out: &mut [u8]) -> u64 {
         packed(baseline::write_sheet(sheet, out))
+    }
+
+    fn to_columns(&self, events: &[Words], columns: ColumnsMut, used: &mut CountWords) -> u64 {
+        counted(baseline::to_columns(events, columns), used)
+    }
+
+    fn from_columns(&self, columns: Columns, events: &mut [Words], used: &mut CountWords) -> u64 {
+        counted(baseline::from_columns(columns, events), used)
     }
 
     fn check(

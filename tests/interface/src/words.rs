@@ -25,6 +25,38 @@ pub struct Words {
 }
 
 impl Words {
+    /// These words, in the order of `kz_event`.
+    pub const fn of(words: [u32; 12]) -> Words {
+        let [
+            kind,
+            name,
+            start,
+            length,
+            right,
+            named,
+            written,
+            cap_kind,
+            fresh,
+            actor,
+            holders_low,
+            holders_high,
+        ] = words;
+        Words {
+            kind,
+            name,
+            start,
+            length,
+            right,
+            named,
+            written,
+            cap_kind,
+            fresh,
+            actor,
+            holders_low,
+            holders_high,
+        }
+    }
+
     /// The same by this domain, and for these holders of what is made.
     pub fn by(self, actor: u32, holders: u64) -> Words {
         Words {
@@ -48,6 +80,31 @@ impl Words {
             length,
             ..Words::default()
         }
+    }
+}
+
+impl From<[u32; 12]> for Words {
+    fn from(words: [u32; 12]) -> Words {
+        Words::of(words)
+    }
+}
+
+impl From<Words> for [u32; 12] {
+    fn from(words: Words) -> [u32; 12] {
+        [
+            words.kind,
+            words.name,
+            words.start,
+            words.length,
+            words.right,
+            words.named,
+            words.written,
+            words.cap_kind,
+            words.fresh,
+            words.actor,
+            words.holders_low,
+            words.holders_high,
+        ]
     }
 }
 
@@ -93,3 +150,6 @@ pub type AnswerWords = [u32; 2];
 
 /// The refusal, the share and the rest of a charge, as `kz_shares` has them.
 pub type ShareWords = [u32; 3];
+
+/// How many entries of events, kinds, names, starts, lengths and rights were used, as `kz_counts` has them.
+pub type CountWords = [u32; 6];

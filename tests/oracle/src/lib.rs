@@ -1,11 +1,13 @@
-//! A second checker, written from document 01 and cards 1, 2 and 4 to 11 alone and for clarity alone.
+//! A second checker, written from document 01 and cards 1, 2 and 4 to 12 alone and for clarity alone.
 //!
 //! It shares no code and no plan with what it judges: the history derives everything from its notes
 //! each time it is asked, the rows of a lent table are searched from end to end, and text is taken
 //! apart strictly as it is read. Written addresses are a set, and so are holders: they have bits only in the
 //! lent bytes and masks. A stored state is a table and such a set, and the history keeps notes in its place. The
-//! history and the lent table share values and spans, and no rule.
+//! history and the lent table share values and spans, and no rule. A trace goes into columns and comes out of them as
+//! text.
 
+mod columns;
 pub mod domain_traces;
 mod domains;
 mod history;
@@ -23,6 +25,7 @@ pub mod traces;
 mod values;
 mod written;
 
+pub use columns::{Columns, MAX_COLUMN_EVENTS, from_columns, to_columns};
 pub use domains::{
     Charge, DOMAINS, Holders, Limits, charge, holders_of, is_domain, mask_of, mask_word,
 };
