@@ -1,8 +1,8 @@
 /*
  * How much stack each call of the library writes: the stack below a call is painted before it, and looked
  * through afterwards. On 1,024 rows, a root and chains below it down to depth 64, all of them fresh and
- * their memory written, so that reads look at its bits. What a call leaves unwritten of its frames does
- * not show.
+ * their memory written, so that reads look at its bits; the calls for columns on as many events as they
+ * take. What a call leaves unwritten of its frames does not show.
  */
 #include <stdio.h>
 #include <stdlib.h>
@@ -10,7 +10,7 @@
 
 #include <kelzoud.h>
 
-enum { PAINTED = 1 << 18, PAINT = 0xa5 };
+enum { PAINTED = 1 << 18, PAINT = 0x5b };
 
 static kz_part part;
 static kz_part made;
@@ -132,6 +132,38 @@ static void read_sheet(void) {
     kz_read_sheet(sheet_text, sheet_len, &found);
 }
 
+/* As many events as go into columns, of all kinds in turn, and the columns. */
+enum { MOVED = KZ_MAX_COLUMN_EVENTS };
+
+static kz_event moved[MOVED];
+static uint8_t kinds[MOVED], rights[MOVED];
+static uint32_t moved_names[MOVED], starts[MOVED], lengths[MOVED];
+static kz_columns columns = {kinds, MOVED, moved_names, MOVED, starts, MOVED, lengths, MOVED, rights, MOVED,
+                             {0, 0, 0, 0, 0, 0}};
+
+static void all_kinds(void) {
+    static const kz_event five[] = {
+        {KZ_CREATE, 0, 0, 64, KZ_RW, 0, 0, 0, 0, 0, 1, 0},
+        {KZ_BORROW, 1, 0, 64, KZ_RO, 0, 0, 0, 0, 0, 1, 0},
+        {KZ_READ, 2, 0, 64, 0, 0, 0, 0, 0, 0, 0, 0},
+        {KZ_WRITE, 1, 0, 64, 0, 0, 0, 0, 0, 0, 0, 0},
+        {KZ_DROP, 1, 0, 0, 0, 0, 0, 0, 0, 0, 0, 0},
+    };
+    for (size_t i = 0; i < MOVED; i++)
+        moved[i] = five[i % 5];
+    kz_to_columns(moved, MOVED, &columns);
+    columns = kz_columns_used(&columns);
+}
+
+static void to_columns(void) {
+    kz_to_columns(moved, MOVED, &columns);
+}
+
+static void from_columns(void) {
+    static kz_event found[MOVED];
+    kz_from_columns(&columns, found, MOVED);
+}
+
 /* A chain down to the greatest depth, and a line of each sort. */
 static char trace[KZ_MAX_INPUT];
 static size_t trace_len;
@@ -195,7 +227,8 @@ int main(void) {
         {"kz_apply, a sheet", events_by_sheet}, {"kz_apply, limits", events_in_limits},
         {"kz_mark, kz_back", states},   {"the same, limits", states_in_limits},
         {"kz_charge", charge},          {"kz_write_sheet", write_sheet},
-        {"kz_read_sheet", read_sheet},
+        {"kz_read_sheet", read_sheet},  {"kz_to_columns", to_columns},
+        {"kz_from_columns", from_columns},
     };
     deep_rows();
     deep_trace();
@@ -204,6 +237,7 @@ int main(void) {
     for (size_t place = 0; place < KZ_SHEET_PLACES; place++)
         sheet.results[place] = (uint8_t)(place % 3);
     sheet_len = kz_write_sheet(&sheet, sheet_text, sizeof sheet_text).value;
+    all_kinds();
     const size_t none = measure(nothing);
     for (size_t i = 0; i < sizeof calls / sizeof calls[0]; i++)
         printf("%-18s %6zu\n", calls[i].name, measure(calls[i].call) - none);

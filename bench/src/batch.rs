@@ -69,7 +69,7 @@ struct Repeated {
     call: RepeatedCall,
 }
 
-fn repeated(
+pub fn repeated(
     calls: usize,
     call: impl FnMut(&dyn Interface, usize) -> u64 + 'static,
 ) -> Box<dyn Batch> {

@@ -1,12 +1,13 @@
 //! Times each call of the C interface, the library beside the baseline where this was built with
 //! `KELZOUD_LIB` set: how the times grow with the rows, how they depend on the table's shape, what is
 //! gained by many events in one call, how the times grow with the written bits, what domains and limits cost,
-//! and what a mark and a back cost beside a copy of what they store.
+//! what a mark and a back cost beside a copy of what they store, and what traces by column cost.
 //!
-//! `bench [rows] [shapes] [many] [bits] [domains] [states]`: with words only those tables are made.
+//! `bench [rows] [shapes] [many] [bits] [domains] [states] [columns]`: with words only those tables are made.
 
 mod batch;
 mod clock;
+mod columns;
 mod print;
 mod random;
 mod shape;
@@ -231,13 +232,14 @@ fn main() {
         .chain([interface::baseline()])
         .collect();
     let wanted: Vec<String> = env::args().skip(1).collect();
-    let tables: [Table; 6] = [
+    let tables: [Table; 7] = [
         ("rows", NOTES, growth_by_rows),
         ("shapes", SHAPE_NOTES, ratios_by_shape),
         ("many", MANY_NOTES, many_events),
         ("bits", BITS_NOTES, growth_by_bits),
         ("domains", DOMAINS_NOTES, growth_by_domains),
         ("states", STATES_NOTES, beside_a_copy),
+        ("columns", columns::NOTES, columns::growth_by_events),
     ];
     for (name, notes, table) in tables {
         if wanted.is_empty() || wanted.iter().any(|word| word == name) {
