@@ -1,7 +1,7 @@
 // The words of an event with a spelling in document 01's form.
 use kelzoud_events::events::Words;
+use table::ordered::is_right;
 ghost use mathlib.Core.Path.{_≡_};
-ghost use Rattle.model.specs.Table.{isRight};
 ghost use Rattle.columns.specs.Form.{isEvent};
 ghost use Rattle.columns.specs.Walk.{isFive, restPlain, rightPlain, holdersPlain, nameFits, spanFits};
 
@@ -12,13 +12,6 @@ pub fn is_five(kind: u32) -> bool
     ensures { λ r. ⌜ r ≡ isFive kind ⌝ }
 {
     (1 <= kind) & (kind <= 5)
-}
-
-// Whether a number is a right.
-pub fn is_right(r: u32) -> bool
-    ensures { λ b. ⌜ b ≡ isRight r ⌝ }
-{
-    (r == 1) | (r == 2)
 }
 
 // The words that no event of document 01's form has: a written name, a kind of capability, a mark, a domain, and holders above the first 32.

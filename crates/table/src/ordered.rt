@@ -72,7 +72,7 @@ fn rest_is_empty(table: &[Row], k: usize) -> bool
 }
 
 // Whether this is a right.
-pub(crate) fn is_right(r: u32) -> bool
+pub fn is_right(r: u32) -> bool
     ensures { λ b. ⌜ b ≡ isRight r ⌝ }
 {
     if r == 1 { true } else { r == 2 }

@@ -6,7 +6,7 @@ use mathlib.Core.List.{List, [], _∷_, map, flatMap}
 use Prim.Native.Nat.{ℕ, _+_, _≤_, _<_}
 use native.Mathlib.Omega.{arith}
 use lib.Dec.{leb, ltb}
-use lib.ListN.{length, getD, drop, set, length-map, drop-of-length-le}
+use lib.ListN.{length, getD, List·getD-map, drop, set, length-map, drop-of-length-le}
 use borrow.Author.Tests.{le-leb, lt-leb, leb-true}
 use Rattle.model.specs.Lists.{consIf, all}
 use Rattle.model.proofs.Offered.{and-both}
@@ -20,7 +20,7 @@ use Rattle.columns.specs.Walk.{none, withKind, countsOf, usedBy, kindsIn
 use Rattle.columns.proofs.Laws.Form.{form-in}
 use Rattle.columns.proofs.Laws.Words.{are-words}
 use Rattle.columns.proofs.Laws.Entries.{entries-in, Has, columns-counted, kinds-read}
-use Rattle.columns.proofs.Laws.Turns.{next, Small, kinds-small, plus, plus-next, plus-end, Storing, begin, store, finish, put-next}
+use Rattle.columns.proofs.Laws.Turns.{next, Small, kinds-small, Storing, begin, store, finish, put-next}
 
 -- the columns of events that stand as words
 abbrev pub columnsIn : List (List ℕ) → Columns
@@ -82,15 +82,12 @@ pub record Putting (out lent : Columns) (at : Counts) (i : ℕ) (left whole : Co
 pub putting : (out whole : Columns) → Putting out out none 0 whole whole
 putting out whole = record { kinds = begin (whole .kinds); names = begin (whole .names); starts = begin (whole .starts); lengths = begin (whole .lengths); rights = begin (whole .rights) }
 
--- kinds so far, and those of what is left
-module _ (ws : List (List ℕ)) (i : ℕ) (c : Counts) where
-  pub words-more : i < length ws → plus (withKind (getD (getD ws i []) 0 0) c) (countsOf (kindsIn (drop (i + 1) ws))) ≡ plus c (countsOf (kindsIn (drop i ws)))
-  unfolding countsOf
-  words-more h = plus-next (getD (getD ws i []) 0 0) c (countsOf (kindsIn (drop (i + 1) ws))) ∙ ap (λ (l : List (List ℕ)). plus c (countsOf (kindsIn l))) (sym (next ws [] i h))
+-- the kinds of a list of events that stand as words
+pub kind-at : (ws : List (List ℕ)) (i : ℕ) → getD (kindsIn ws) i 0 ≡ getD (getD ws i []) 0 0
+kind-at ws i = List·getD-map (λ w. getD w 0 0) ws i []
 
-  pub words-all : length ws ≤ i → c ≡ plus c (countsOf (kindsIn (drop i ws)))
-  unfolding countsOf
-  words-all h = rw (drop-of-length-le ws h) (sym (plus-end c))
+pub kinds-length : (ws : List (List ℕ)) → length (kindsIn ws) ≡ length ws
+kinds-length ws = length-map ws (λ w. getD w 0 0)
 
 -- ---- all events
 

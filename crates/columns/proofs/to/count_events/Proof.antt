@@ -11,15 +11,15 @@ use Rattle.model.specs.Lists.{all}
 use Rattle.text.specs.Result.{value}
 use Rattle.columns.specs.Form.{isEvent}
 use Rattle.columns.specs.Walk.{withKind, countsOf, kindsIn}
-use Rattle.columns.proofs.Laws.Turns.{Small, small-with, all-next, all-end, plus, kinds-none}
-use Rattle.columns.proofs.Laws.To.{words-more, words-all}
+use Rattle.columns.proofs.Laws.Turns.{Small, small-with, all-next, all-end, plus, kinds-none, kinds-more, kinds-all}
+use Rattle.columns.proofs.Laws.To.{kind-at, kinds-length}
 use borrow.Author.Needs.{needs}
 use Rattle.columns.proofs.to.count_events.Statement.{statement}
 use Rattle.columns.proofs.to.count_events.Tie as tie
 
 abbrev Inv-loop : tie.InvT-loop
 Inv-loop events counts₀ i₀ counts i =
-    (i ≤ length events) × Small counts i × (all isEvent (drop i events) ≡ all isEvent events) × (plus counts (countsOf (kindsIn (drop i events))) ≡ countsOf (kindsIn events))
+    (i ≤ length events) × Small counts i × (all isEvent (drop i events) ≡ all isEvent events) × (plus counts (countsOf (drop i (kindsIn events))) ≡ countsOf (kindsIn events))
 
 abbrev μ-loop : tie.MeasureT-loop
 μ-loop events counts₀ i₀ counts i = length events - i
@@ -42,13 +42,13 @@ with-kind-requires c κs = let s = c .before .before .before .before .loop .inv 
 loop-again : tie.Need-loop-again Inv-loop μ-loop
 loop-again c =
     let s = c .before .before .before .before .before .before in
-    let l = c .before .before .before .before .before in
-    let l = l .loop in
+    let l = c .before .before .before .before .before .loop in
     let ws = s .args .events .now in
     let t = c .before .before .before .before .loop-test .taken in
     let yes : isEvent (getD ws (l .i) []) ≡ true = sym (c .before .before .is-event .ensures) ∙ not-false (c .before .before .is-event .result) (c .before .if1 .left) in
-    let to : c .with-kind .result ≡ withKind (getD (getD ws (l .i) []) 0 0) (l .counts) = c .with-kind .ensures in
-    (omega (arith, t), small-with (getD (getD ws (l .i) []) 0 0) (l .inv .1) to, sym (all-next isEvent ws [] (l .i) t ∙ rw yes) ∙ l .inv .2, rw to (words-more ws (l .i) (l .counts) t) ∙ l .inv .3)
+    let kind = getD (kindsIn ws) (l .i) 0 in
+    let to : c .with-kind .result ≡ withKind kind (l .counts) = c .with-kind .ensures ∙ ap (λ k. withKind k (l .counts)) (sym (kind-at ws (l .i))) in
+    (omega (arith, t), small-with kind (l .inv .1) to, sym (all-next isEvent ws [] (l .i) t ∙ rw yes) ∙ l .inv .2, rw to (kinds-more (kindsIn ws) (l .i) (l .counts) (omega (arith, t, kinds-length ws))) ∙ l .inv .3)
 
 returns-2 : tie.Need-returns-2 Inv-loop μ-loop
 returns-2 c =
@@ -56,7 +56,7 @@ returns-2 c =
     let l = c .before in
     let ws = s .args .events .now in
     let every : all isEvent ws ≡ true = sym (l .loop .inv .2) ∙ all-end isEvent ws (l .loop .i) (c .loop-test .left) in
-    rw every (ap value (words-all ws (l .loop .i) (l .loop .counts) (c .loop-test .left) ∙ l .loop .inv .3))
+    rw every (ap value (kinds-all (kindsIn ws) (l .loop .i) (l .loop .counts) (omega (arith, c .loop-test .left, kinds-length ws)) ∙ l .loop .inv .3))
 
 pub count-events-spec : {M : Type 1} → statement M
 count-events-spec =
