@@ -5,15 +5,14 @@ use mathlib.Core.Bool.{Bool, cond, _&&_}
 use mathlib.Core.List.{List, [], _∷_, map, flatMap}
 use lib.Dec.{leb, ltb}
 use lib.ListN.{length, getD, drop}
-use Rattle.model.specs.declared.Terms.{Terms}
 use Rattle.model.specs.declared.NewName.the-variants.{Unwritten}
 use Rattle.model.specs.declared.Event.{Event}
 use Rattle.model.specs.declared.Event.the-variants.{Create, Borrow, Read, Write, Drop}
 use Rattle.model.specs.Lists.{all}
 use Rattle.text.specs.Result.{Result, value, refused}
 use Rattle.text.specs.Read.{same}
+use Rattle.text.specs.Form.{inForm, plainTerms}
 use Rattle.kelzoud_events.specs.Interface.{eventWith}
-use Rattle.columns.specs.Form.{inForm}
 
 -- "one column of kinds .., one of names, one of starts, one of lengths and one of rights"
 pub record Columns : Type 0 where
@@ -88,10 +87,6 @@ hasSpan k = ltb k 5
 
 abbrev pub hasRight : ℕ → Bool
 hasRight k = ltb k 3
-
--- what document 01's form gives besides a span: a right, to a reference that is not marked and that domain 0 alone holds
-abbrev pub plainTerms : ℕ → Terms
-plainTerms right = record { right = right; kind = 0; fresh = 0; holders = 1 }
 
 -- the event of a kind with these values, of which it has those that its kind has; another kind stands for an event of no form
 abbrev pub eventFrom : ℕ → ℕ → ℕ → ℕ → ℕ → Event

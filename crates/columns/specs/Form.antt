@@ -1,30 +1,14 @@
--- Card 12, "traces by column": which events have "a spelling in document 01's form", and the words by which they stand in a lent list.
+-- Card 12, "traces by column": the words by which "events with a spelling in document 01's form" stand in a lent list.
 -- Assumes nothing.
 use Prim.Native.Nat.{ℕ}
 use mathlib.Core.Bool.{Bool, _&&_}
-use mathlib.Core.List.{List, [], _∷_, _++_}
+use mathlib.Core.List.{List, [], _∷_}
 use lib.ListN.{getD}
 use Rattle.model.specs.declared.Event.{Event}
-use Rattle.model.specs.declared.Event.the-variants.{Create, Borrow, Read, Write, Drop}
 use Rattle.model.specs.Requests.{Request, Single, Unlimited, caller}
-use Rattle.text.specs.Event.{bytes, line, spanNumbers, rightWord, spell, hasSpelling}
 use Rattle.text.specs.Read.{same}
-use Rattle.text.specs.declared.spelling.Spelling.the-variants.{Plain}
+use Rattle.text.specs.Form.{inForm}
 use Rattle.kelzoud_events.specs.Interface.{eventIn, wordsOf}
-
--- Document 01, "The bracket text": "`(create START LENGTH RIGHT)`, `(borrow NAME START LENGTH RIGHT)`, `(read NAME START LENGTH)`,
--- `(write NAME START LENGTH)`, `(drop NAME)`", "ended by byte 10". It knows no new names, kinds, marks, domains and masks.
-unfoldable pub form01 : Event → List ℕ
-form01 (Create w s r) = line "(create" (spanNumbers s) (rightWord (r .right) ++ bytes ")\n")
-form01 (Borrow w n s r) = line "(borrow" (n .0 ∷ spanNumbers s) (rightWord (r .right) ++ bytes ")\n")
-form01 (Read n s) = line "(read" (n .0 ∷ spanNumbers s) (bytes ")\n")
-form01 (Write n s) = line "(write" (n .0 ∷ spanNumbers s) (bytes ")\n")
-form01 (Drop n) = line "(drop" (n .0 ∷ []) (bytes ")\n")
-
--- "events with a spelling in document 01's form": those that domain 0 spells without a new name, and that are spelled so. What this asks of
--- their values is `in-form` of proofs/Laws/Form.
-unfoldable pub inForm : Event → Bool
-inForm e = hasSpelling Plain 0 e && same (spell 0 e) (form01 e)
 
 -- such an event as it is asked for: by domain 0
 abbrev pub asked : Event → Request

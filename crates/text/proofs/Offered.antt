@@ -2,6 +2,7 @@
 -- Assumes nothing.
 pub use Rattle.text.proofs.Laws.Digits.{decimal-under, decimal-width, digitAt}
 unfoldable pub use Rattle.text.proofs.Laws.Digits.{digits}
+pub use Rattle.text.proofs.Laws.Form.{InForm, PlainlyGiven, form-in, form-read, form-reads, form-reads-back, form-refused, in-form}
 pub use Rattle.text.proofs.Laws.Group.{group-few, names-after}
 pub use Rattle.text.proofs.Laws.GroupLine.{group-is-line, group-is-no-event, group-reads-back, read-group-is-spelling, refused-group-is-2}
 pub use Rattle.text.proofs.Laws.Line.{part-inside, part-longer, part-some, part-then, parts-end, parts-next, parts-together, through-le}

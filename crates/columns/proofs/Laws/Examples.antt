@@ -17,11 +17,12 @@ use Rattle.text.specs.Decimal.{numeral, decimal, numberFrom}
 use Rattle.text.specs.Event.{bytes, spaced, form, spell, writesName, hasSpelling}
 use Rattle.text.specs.Mask.{hex, hexFrom}
 use Rattle.text.specs.Read.{same, guess, readEvent}
+use Rattle.text.specs.Form.{form01, inForm}
 use Rattle.text.specs.Result.{Result, value, refused}
 use Rattle.text.specs.declared.spelling.Spelling.{Spelling}
 use Rattle.text.specs.declared.spelling.Spelling.the-variants.{Plain, Named}
 use Rattle.kelzoud_events.specs.Interface.{packed, nameOf, eventWith, eventIn, wordsOf}
-use Rattle.columns.specs.Form.{form01, inForm, eventWords, isEvent}
+use Rattle.columns.specs.Form.{eventWords, isEvent}
 use Rattle.columns.specs.Columns.{Columns, columns, columnsOf, taken, toColumns, eventsFrom, sameColumns, fits, fromColumns}
 use Rattle.columns.specs.Lent.{room, readEvents, movedTo, storedTo, movedFrom, storedFrom, packedMoved, countsAfter}
 use Rattle.columns.proofs.Laws.Inverse.{to-else}

@@ -15,14 +15,15 @@ use Rattle.model.specs.declared.Event.the-variants.{Create, Borrow, Read, Write
 use Rattle.model.specs.Lists.{consIf, all}
 use Rattle.model.specs.Table.{isRight}
 use Rattle.model.proofs.Offered.{clash, and-both}
+use Rattle.text.specs.Form.{inForm}
 use Rattle.text.specs.Result.{value, refused}
+use Rattle.text.proofs.Offered.{InForm, in-form, form-in}
 use Rattle.kelzoud_events.specs.Interface.{eventWith, wordsOf}
 use Rattle.columns.specs.declared.counts.Counts.{Counts}
-use Rattle.columns.specs.Form.{inForm, eventWords}
+use Rattle.columns.specs.Form.{eventWords}
 use Rattle.columns.specs.Columns.{Columns, columns, kindOf, nameIn, startIn, lengthIn, rightIn, columnsOf, taken, hasName, hasSpan, hasRight, eventFrom, behind, eventsFrom, eventsOf, fits, fromColumns}
 use Rattle.columns.specs.Lent.{used, over, movedFrom, storedFrom}
 use Rattle.columns.specs.Walk.{countIf, withKind, countsOf, usedBy, isFive, lengthsFit, kept}
-use Rattle.columns.proofs.Laws.Form.{InForm, in-form, form-in}
 use Rattle.columns.proofs.Laws.Entries.{Has, entries-from, columns-counted}
 use Rattle.columns.proofs.Laws.Words.{five-is}
 use Rattle.columns.proofs.Laws.Inverse.{fits-is, is-fits}

@@ -17,12 +17,12 @@ use Rattle.model.specs.Lists.{all}
 use Rattle.model.proofs.Offered.{All, test, and-both, unless}
 use Rattle.text.specs.Result.{Result, value, refused}
 use Rattle.text.specs.Read.{same}
-use Rattle.text.proofs.Offered.{same-refl, same-true}
+use Rattle.text.specs.Form.{inForm}
+use Rattle.text.proofs.Offered.{InForm, in-form, same-refl, same-true}
 use Rattle.kelzoud_events.specs.Interface.{eventWith, eventIn}
-use Rattle.columns.specs.Form.{inForm, eventWords, twelve, isEvent}
+use Rattle.columns.specs.Form.{eventWords, twelve, isEvent}
 use Rattle.columns.specs.Columns.{Columns, columns, columnsOf, taken, toColumns, eventsFrom, eventsOf, sameColumns, fits, fromColumns}
 use Rattle.columns.specs.Lent.{over, room, overColumns, readEvents, storedTo, storedFrom}
-use Rattle.columns.proofs.Laws.Form.{InForm, in-form}
 use Rattle.columns.proofs.Laws.Words.{words-back, words-are, are-words}
 
 -- a value is no refusal

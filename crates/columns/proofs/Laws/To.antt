@@ -10,14 +10,15 @@ use lib.ListN.{length, getD, List·getD-map, drop, set, length-map, drop-of-leng
 use borrow.Author.Tests.{le-leb, lt-leb, leb-true}
 use Rattle.model.specs.Lists.{consIf, all}
 use Rattle.model.proofs.Offered.{and-both}
+use Rattle.text.specs.Form.{inForm}
 use Rattle.text.specs.Result.{value, refused}
+use Rattle.text.proofs.Offered.{form-in}
 use Rattle.kelzoud_events.specs.Interface.{eventIn}
 use Rattle.columns.specs.declared.counts.Counts.{Counts}
-use Rattle.columns.specs.Form.{inForm, isEvent}
+use Rattle.columns.specs.Form.{isEvent}
 use Rattle.columns.specs.Columns.{Columns, columns, kindOf, nameIn, startIn, lengthIn, rightIn, columnsOf, taken, toColumns, hasName, hasSpan, hasRight}
 use Rattle.columns.specs.Lent.{used, room, overColumns, readEvents, movedTo, storedTo}
 use Rattle.columns.specs.Walk.{none, withKind, countsOf, usedBy, kindsIn, roomFor}
-use Rattle.columns.proofs.Laws.Form.{form-in}
 use Rattle.columns.proofs.Laws.Words.{are-words}
 use Rattle.columns.proofs.Laws.Entries.{entries-in, Has, columns-counted, kinds-read}
 use Rattle.columns.proofs.Laws.Turns.{next, Small, kinds-small, Storing, begin, store, finish, put-next}

@@ -17,12 +17,11 @@ use Rattle.model.specs.declared.Event.the-variants.{Create, Borrow, Read, Write
 use Rattle.model.specs.Table.{isRight}
 use Rattle.model.proofs.Offered.{test, clash, and-both}
 use Rattle.text.specs.Read.{same}
-use Rattle.text.proofs.Offered.{same-refl, same-true}
+use Rattle.text.specs.Form.{inForm, plainTerms}
+use Rattle.text.proofs.Offered.{InForm, PlainlyGiven, form-in, in-form, same-refl, same-true}
 use Rattle.kelzoud_events.specs.Interface.{nameOf, spanOf, eventWith, eventIn, wordsOf}
-use Rattle.columns.specs.Form.{inForm, eventWords, twelve, isEvent}
-use Rattle.columns.specs.Columns.{plainTerms}
+use Rattle.columns.specs.Form.{eventWords, twelve, isEvent}
 use Rattle.columns.specs.Walk.{isFive, nameFits, spanFits, rightPlain, holdersPlain, restPlain, wordsPlain}
-use Rattle.columns.proofs.Laws.Form.{InForm, Given, in-form, form-in}
 
 -- what holds of each of the five kinds holds of any
 pub five-is : (A : ℕ → Type 0) → A 1 → A 2 → A 3 → A 4 → A 5 → (k : ℕ) → isFive k ≡ true → A k
@@ -167,7 +166,7 @@ module _ (w : List ℕ) where
   abbrev zero-at : (k : ℕ) → eqb (getD w k 0) 0 ≡ true → getD w k 0 ≡ 0
   zero-at k h = eqb-true (getD w k 0) 0 h
 
-  made : isRight (getD w 4 0) ≡ true → Given Unwritten (plainTerms (getD w 4 0))
+  made : isRight (getD w 4 0) ≡ true → PlainlyGiven Unwritten (plainTerms (getD w 4 0))
   made h = record { unwritten = refl; right = h; terms = refl }
 
   plain-create : getD w 0 0 ≡ 1 → Tested → isEvent w ≡ true

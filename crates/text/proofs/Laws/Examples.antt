@@ -21,6 +21,7 @@ use Rattle.text.specs.Mask.{hex, hexFrom}
 use Rattle.text.specs.Event.{bytes, spaced, form, spell, writesName, hasSpelling}
 use Rattle.text.specs.Write.{written, stored, writeEvent}
 use Rattle.text.specs.Read.{same, guess, readEvent}
+use Rattle.text.specs.Form.{form01, inForm, readForm}
 use Rattle.text.specs.Group.{spellGroup, namesFrom, guessNames, readGroup, writeGroup}
 use Rattle.text.specs.State.{spellSlot, spellMark, spellBack, readState, writeSlot, writeMark, writeBack}
 use Rattle.text.specs.Request.{readRequest, writeRequest}
@@ -309,6 +310,28 @@ requests-written : (writeRequest (Mark (caller 2 Unlimited) 3) (bytes ".........
     × (writeRequest (Back (caller 0 Unlimited) 8) (bytes "...........") ≡ record { answer = refused 2; buffer = bytes "..........." })
 unfolding writeSlot written stored spellSlot spaced decimal numeral
 requests-written = (refl, refl, refl)
+
+-- ---- document 01's form, without the words that cards have added
+
+abbrev forms : List String → List (Result Event)
+forms = map (λ s. readForm (bytes s))
+
+-- the five forms
+five-forms : forms ("(create 0 64 rw)\n" ∷ "(borrow 1 16 16 ro)\n" ∷ "(read 1 0 4)\n" ∷ "(write 2 0 8)\n" ∷ "(drop 7)\n" ∷ [])
+    ≡ value (Create Unwritten (span 0 64) (terms 2 0 0))
+    ∷ value (Borrow Unwritten (name 1) (span 16 16) (terms 1 0 0))
+    ∷ value (Read (name 1) (span 0 4))
+    ∷ value (Write (name 2) (span 0 8))
+    ∷ value (Drop (name 7))
+    ∷ []
+unfolding readEvent guess through classOf numberFrom same hasSpelling writesName hasBit spell form form01 inForm spaced decimal numeral hex hexFrom
+five-forms = refl
+
+-- refusal 2: a mark, a kind, another domain, a mask, names dropped together, a mark of a state, the line before names, a name written out, and an empty line
+no-forms : forms ("(create 0 8 rw fresh)\n" ∷ "(borrow 1 0 8 rw raw)\n" ∷ "(as 3 (read 1 0 8))\n" ∷ "(create 0 8 rw 0000000000000003)\n" ∷ "(drop 1 2)\n"
+    ∷ "(mark 1)\n" ∷ "(trace 2)\n" ∷ "(create 1 0 8 rw)\n" ∷ "\n" ∷ "" ∷ []) ≡ replicate 10 (refused 2)
+unfolding readEvent guess through classOf numberFrom same hasSpelling writesName hasBit spell form form01 inForm spaced decimal numeral hex hexFrom
+no-forms = refl
 
 -- ---- the longest lines
 
