@@ -26,7 +26,7 @@ form01 (Read n s) = line "(read" (n .0 ∷ spanNumbers s) (bytes ")\n")
 form01 (Write n s) = line "(write" (n .0 ∷ spanNumbers s) (bytes ")\n")
 form01 (Drop n) = line "(drop" (n .0 ∷ []) (bytes ")\n")
 
--- "events with a spelling in document 01's form": those that domain 0 spells without a new name, and that are spelled so. What this asks of
+-- Card 12, "events with a spelling in document 01's form": those that domain 0 spells without a new name, and that are spelled so. What this asks of
 -- their values is `in-form` of proofs/Laws/Form.
 unfoldable pub inForm : Event → Bool
 inForm e = hasSpelling Plain 0 e && same (spell 0 e) (form01 e)

@@ -19,7 +19,7 @@ ghost use lib.ListN.{length, take};
 ghost use Rattle.model.specs.Table.{inOrder};
 ghost use Rattle.table.specs.Words.{rowsIn};
 ghost use Rattle.table.specs.States.{statesIn, emptied};
-ghost use Rattle.text.specs.Event.{bytes, spaced};
+ghost use Rattle.text.specs.Event.{bytes};
 ghost use Rattle.text.specs.Put.{Room, Put};
 ghost use Rattle.text.specs.Write.{Writes};
 ghost use Rattle.listing.specs.Listing.{listing};
@@ -38,16 +38,6 @@ fn answer_length(refusal: u32, number: u32) -> usize
     }
 }
 
-// Writes a line at the buffer's first bytes: its word, its numbers and its closing bracket.
-fn put_line(word: &[u8], numbers: &[u32], out: &mut [u8]) -> usize
-    requires { ⌜ Room (now out) 0 (now word ++ (spaced (now numbers) ++ bytes ")\n")) ⌝ }
-    ensures { λ r. ⌜ Put (now (out .entry)) 0 (now (word .entry) ++ (spaced (now (numbers .entry)) ++ bytes ")\n")) (now (out .exit)) r ⌝ }
-{
-    let past_word = pieces::put_bytes(out, 0, word);
-    let past_numbers = pieces::put_numbers(out, past_word, numbers);
-    pieces::put_bytes(out, past_numbers, b")\n")
-}
-
 // Writes the line of an answer at the buffer's first bytes.
 fn put_answer(refusal: u32, number: u32, out: &mut [u8]) -> usize
     requires { ⌜ Room (now out) 0 (answerLine refusal number) ⌝ }
@@ -55,10 +45,10 @@ fn put_answer(refusal: u32, number: u32, out: &mut [u8]) -> usize
 {
     if refusal == 0 {
         let numbers = [number];
-        put_line(b"(allowed", &numbers, out)
+        pieces::put_line(b"(allowed", &numbers, out)
     } else {
         let numbers = [refusal, number];
-        put_line(b"(refused", &numbers, out)
+        pieces::put_line(b"(refused", &numbers, out)
     }
 }
 
