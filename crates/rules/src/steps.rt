@@ -248,7 +248,7 @@ fn change_bits(bits: &mut [u8], work: Work)
 // Work on what is fit: a table in order, of which it is known how many rows live and where each row's parent stands, with as many bits as there
 // are to be, and limits that are not refused. All that is known after it too, so that a run of requests looks for it once. The names are those
 // of names dropped together.
-fn take_work(
+pub fn take_work(
     table: &mut [Row],
     k: usize,
     places: &mut [u16; 1024],

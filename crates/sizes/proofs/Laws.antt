@@ -1,0 +1,10 @@
+pub mod Fewer
+pub mod Peak
+pub mod Room
+pub mod Renamed
+pub mod Given
+pub mod Taken
+pub mod Turns
+pub mod Rounds
+pub mod Laid
+pub mod Words
