@@ -1,5 +1,5 @@
-// Standard input and output, for the programs that run traces. No contract can say what is read or written; what is printed is what
-// `trace::check_text` is proved to give.
+// Standard input and output, for the programs that take traces. No contract can say what is read or written; what `print_check` prints is
+// what `trace::check_text` is proved to give.
 use libc::STDERR_FILENO;
 use libc::STDIN_FILENO;
 use libc::STDOUT_FILENO;
@@ -7,9 +7,18 @@ use table::WIDTH;
 ghost use Rattle.console.specs.Read.{ReadInto};
 
 // What came of reading an input: so many bytes, or a read that failed.
-enum Input {
+pub enum Input {
     Read(usize),
     Failed,
+}
+
+// Writes a text to standard output, or this sentence to standard error where it could not be written. Whether it was written.
+pub fn print(text: &[u8], sentence: &[u8]) -> bool {
+    let is_written = io::write_all(STDOUT_FILENO, text);
+    if !is_written {
+        io::write_all(STDERR_FILENO, sentence);
+    }
+    is_written
 }
 
 // Prints what `capcheck` prints of an input, or says on standard error that it could not.
@@ -19,16 +28,14 @@ pub fn print_check(input: &[u8]) {
     let printed = trace::check_text(input, &mut stored, &mut copies);
     let bytes = printed.bytes;
     let length = printed.length;
-    if !io::write_all(STDOUT_FILENO, &bytes[..length]) {
-        io::write_all(
-            STDERR_FILENO,
-            b"capcheck: the output could not be written\n",
-        );
-    }
+    print(
+        &bytes[..length],
+        b"capcheck: the output could not be written\n",
+    );
 }
 
 // Reads until the buffer is full or the input ends. A read that a signal interrupts before it moves a byte counts as one that failed.
-fn read_input(fd: i32, buf: &mut [u8]) -> Input
+pub fn read_input(fd: i32, buf: &mut [u8]) -> Input
     ensures { λ r. ⌜ ReadInto r (now (buf .exit)) ⌝ }
 {
     let mut done = 0;
