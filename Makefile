@@ -31,13 +31,15 @@ library:
 	$(RT) staticlib kelzoud_events
 	$(RT) staticlib kelzoud
 	$(RT) staticlib columns
+	$(RT) staticlib sizes
 	$(MAKE) archives
 
 archives: $(archives)
 
 # The calls for events are exported by a crate of their own, so that they can be linked alone, and those
-# for columns by another, which no other crate needs. The whole library has the objects of all three.
-$(libraries)/libkelzoud.a: $(addprefix $(proved)/,libkelzoud.a libkelzoud_events.a libcolumns.a)
+# for columns and for table sizes by two others, which no other library needs. The whole library has the
+# objects of all four.
+$(libraries)/libkelzoud.a: $(addprefix $(proved)/,libkelzoud.a libkelzoud_events.a libcolumns.a libsizes.a)
 	rm -rf $(libraries)/objects $@
 	mkdir -p $(libraries)/objects
 	cd $(libraries)/objects && for archive in $^; do $(AR) x ../../../$$archive || exit 1; done

@@ -15,12 +15,12 @@
  *     states of kz_check among them.
  *   - Whatever a call may write overlaps nothing else that the call is given.
  * Nothing else is asked. Every event, table, tally, sheet, line, text and listing gets an answer, and
- * so do any written bits, any limits and any columns, of whatever length, and whatever stands in a
- * kz_states.
+ * so do any written bits, any limits, any columns and any lengths of traces, however many they are, and
+ * whatever stands in a kz_states.
  *
  * A call answers with a kz_answer: a refusal, which is 0 when the call was allowed, and a value, as
  * each call says. A call that is refused changes nothing that was lent, except as kz_apply,
- * kz_apply_all, kz_drop_all and kz_run say.
+ * kz_apply_all, kz_drop_all, kz_run and kz_sizes say.
  *
  * First come the values and structs, then the calls, and at the end what the calls are made of, for
  * the foreign function interfaces of other languages. A program that makes no other calls than those
@@ -47,6 +47,7 @@ enum {
     KZ_WRITTEN_BYTES = 8192,      /* bytes of written bits, no fewer and no more */
     KZ_WRITTEN_ADDRESSES = 65536, /* addresses that have a written bit, from 0 on */
     KZ_MAX_COLUMN_EVENTS = 4096,  /* events that are put into columns, or taken from them */
+    KZ_MAX_CLIENTS = 8,           /* clients whose traces kz_sizes takes together */
     KZ_MAX_INPUT = 65536,         /* bytes of input that kz_check runs */
     KZ_MAX_LINE = 75,             /* bytes of an event line, its newline included */
     KZ_MAX_NAMED_LINE = 86,       /* the same where new names are written out */
@@ -93,7 +94,8 @@ enum kz_refusal {
     KZ_MISGROUPED = 13,      /* lent names: none, more than KZ_MAX_GROUP, or not strictly rising */
     KZ_MISSPELT = 2,         /* text that is not spelled so; an unknown kind, right, cap_kind, mark,
                                 domain or slot; holders without the domain that acts; events that
-                                have no columns, or columns that no events have, as kz_columns says */
+                                have no columns, or columns that no events have, as kz_columns says;
+                                lengths of traces that kz_sizes does not take */
     KZ_GIVEN_TWICE = 14,     /* a sheet's text gives a combination twice */
     KZ_NOT_GIVEN = 15,       /* a sheet's text leaves a combination out */
     KZ_NOTHING_STORED = 19,  /* a back to a slot in which nothing is stored */
@@ -387,6 +389,14 @@ typedef struct kz_columns {
     kz_counts used; /* how many entries the last allowed call used */
 } kz_columns;
 
+/* What kz_sizes found. */
+typedef struct kz_sizing {
+    uint32_t refusal; /* 0 where every line is allowed, else the kz_refusal of the first that is not */
+    uint32_t rows;    /* the fewest rows with which every line is allowed; 0 where one is refused */
+    uint32_t client;  /* whose line is refused, from 1; 0 where none is, or where no line was taken */
+    uint32_t line;    /* which line of its trace that is, from 1; 0 in the same cases */
+} kz_sizing;
+
 /* The whole of a part, lent with the default sheet and without limits. Set `sheet`, or `limits` and
    `limit_count`, of what is returned to use others. */
 static inline kz_lent kz_lend(kz_part *part);
@@ -654,6 +664,37 @@ static inline kz_answer kz_check(kz_states *states, const uint8_t *input, size_t
                                  uint8_t *out, size_t out_len);
 
 /*
+ * Tries how many rows a table needs for clients that use it together: programs, cores, or whatever else is
+ * recorded apart and is to share one table. A client is its trace, a text of event lines. The traces stand
+ * in `text` end to end, and `lengths` has how many bytes each of them has, `count` numbers in the same
+ * order.
+ *
+ * One line of each client is taken in turn, from the first client on, and then from the first again. A
+ * client whose lines are all taken is passed over, one with an empty trace from the start. All lines are
+ * taken on one table, empty at first, by the default sheet and without limits, as domain 0's. They are
+ * `(create START LENGTH RIGHT)`, `(borrow NAME START LENGTH RIGHT)`, `(read NAME START LENGTH)`,
+ * `(write NAME START LENGTH)` and `(drop NAME)`, without any other words.
+ *
+ * Each client counts names for itself: what its first create or borrow makes is its 1, whatever the others
+ * make. A name that it was not yet given is KZ_UNISSUED. Addresses are the same for all: a create of one
+ * client ends what it touches of another's. So clients that share no memory are recorded at addresses of
+ * their own.
+ *
+ * Allowed: the value is the fewest rows with which every line is allowed, at most KZ_MAX_ROWS. With fewer
+ * some line is KZ_TABLE_FULL; with more every line is allowed too. Where nothing is made, as where there
+ * is no client, it is 0. Lines that are taken in another order may need more.
+ * Refused, with value 0: the first line that is refused on KZ_MAX_ROWS rows gives the refusal. That is
+ * KZ_MISSPELT for a line with other words, and for a last one without its newline, and KZ_TABLE_FULL where
+ * KZ_MAX_ROWS rows are too few. KZ_MISSPELT also for more than KZ_MAX_CLIENTS lengths, and for lengths
+ * that are not `text_len` together: then no line is taken.
+ *
+ * In both cases `report` gets all of it, and where a line is refused whose it is and which. Nothing else is
+ * changed, and nothing is kept: the table is the call's own, and stands on the caller's stack.
+ */
+static inline kz_answer kz_sizes(const uint8_t *text, size_t text_len, const uint32_t *lengths,
+                                 size_t count, kz_sizing *report);
+
+/*
  * The functions that the archives export. The calls above are made of these, which have the parts of
  * a kz_lent one by one. A language that cannot include this header declares them itself: each of their
  * structs is a run of 32-bit words without gaps, and each length is a size_t. Written bits are bytes
@@ -663,7 +704,7 @@ static inline kz_answer kz_check(kz_states *states, const uint8_t *input, size_t
  * none is the default one, of fewer than KZ_SHEET_PLACES the missing ones count as KZ_END, and of more
  * the first count. Limits are 32-bit numbers and how many they are, none or KZ_DOMAINS. An answer is one
  * number, the refusal times 2^32 plus the value; only kz_abi_apply_all writes kz_answer structs,
- * kz_abi_charge a kz_shares, and the two calls for columns a kz_counts.
+ * kz_abi_charge a kz_shares, the two calls for columns a kz_counts, and kz_abi_sizes a kz_sizing.
  */
 
 /* Both archives. */
@@ -727,6 +768,9 @@ uint64_t kz_abi_from_columns(const uint8_t *kinds, size_t kinds_len, const uint3
 
 uint64_t kz_abi_check(const uint8_t *input, size_t input_len, kz_cap *stored, size_t stored_rows,
                       uint8_t *stored_bits, size_t stored_size, uint8_t *out, size_t out_len);
+
+uint64_t kz_abi_sizes(const uint8_t *text, size_t text_len, const uint32_t *lengths, size_t count,
+                      kz_sizing *report);
 
 /* The bodies of the calls. */
 
@@ -1006,6 +1050,11 @@ static inline kz_answer kz_check(kz_states *states, const uint8_t *input, size_t
     return kz_abi_answer(kz_abi_check(input, input_len, states->rows,
                                       (size_t)KZ_SLOTS * (KZ_MAX_ROWS + 1), states->written,
                                       (size_t)KZ_SLOTS * KZ_WRITTEN_BYTES, out, out_len));
+}
+
+static inline kz_answer kz_sizes(const uint8_t *text, size_t text_len, const uint32_t *lengths,
+                                 size_t count, kz_sizing *report) {
+    return kz_abi_answer(kz_abi_sizes(text, text_len, lengths, count, report));
 }
 
 #ifdef __cplusplus

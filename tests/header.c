@@ -79,6 +79,7 @@ static void check_layout(void) {
     CHECK(sizeof(kz_answer) == 8);
     CHECK(sizeof(kz_shares) == 12);
     CHECK(sizeof(kz_counts) == 24);
+    CHECK(sizeof(kz_sizing) == 16);
     CHECK(sizeof(kz_part) == KZ_MAX_ROWS * 44 + KZ_WRITTEN_BYTES + 426336 + 28);
     CHECK(sizeof(kz_states) == 426336 && sizeof(kz_part) == 479612);
     CHECK(ROWS_OF(states) == 8200 && sizeof states.written == 65536);
@@ -114,6 +115,10 @@ static void check_layout(void) {
     CHECK(offsetof(kz_counts, starts) == 12);
     CHECK(offsetof(kz_counts, lengths) == 16);
     CHECK(offsetof(kz_counts, rights) == 20);
+    CHECK(offsetof(kz_sizing, refusal) == 0);
+    CHECK(offsetof(kz_sizing, rows) == 4);
+    CHECK(offsetof(kz_sizing, client) == 8);
+    CHECK(offsetof(kz_sizing, line) == 12);
 }
 
 /* Answers come apart also where the value is as large as can be, and where it is 0. */
@@ -2417,6 +2422,280 @@ static void check_columns_exported(void) {
     CHECK(same_counts(&used, &other_counts));
 }
 
+/* What is reported of a text with these lengths. Every word of the report is written, and the answer says
+   the same. */
+static kz_sizing sizes_of(const uint8_t *text, size_t text_len, const uint32_t *lengths,
+                          size_t count) {
+    kz_sizing report;
+    kz_answer answer;
+    memset(&report, UNTOUCHED, sizeof report);
+    answer = kz_sizes(text, text_len, lengths, count, &report);
+    CHECK(answer.refusal == report.refusal && answer.value == report.rows);
+    return report;
+}
+
+/* The same of so many clients, with these traces. */
+static kz_sizing sizes_of_traces(const char *const *traces, size_t count) {
+    static uint8_t text[1024];
+    uint32_t lengths[KZ_MAX_CLIENTS + 1];
+    size_t length = 0, i;
+    for (i = 0; i < count; i++) {
+        lengths[i] = (uint32_t)strlen(traces[i]);
+        memcpy(text + length, traces[i], lengths[i]);
+        length += lengths[i];
+    }
+    return sizes_of(text, length, lengths, count);
+}
+
+static int reported(kz_sizing report, uint32_t refusal, uint32_t rows, uint32_t client,
+                    uint32_t line) {
+    return report.refusal == refusal && report.rows == rows && report.client == client &&
+           report.line == line;
+}
+
+static int all_fit(kz_sizing report, uint32_t rows) {
+    return reported(report, 0, rows, 0, 0);
+}
+
+static int line_refused(kz_sizing report, enum kz_refusal refusal, uint32_t client, uint32_t line) {
+    return reported(report, (uint32_t)refusal, 0, client, line);
+}
+
+/* Lengths that are refused before any line is. */
+static int lengths_refused(kz_sizing report) {
+    return line_refused(report, KZ_MISSPELT, 0, 0);
+}
+
+/* One client: its number of rows is the smallest table on which its trace runs. */
+static void check_sizes_of_one(void) {
+    static const struct {
+        const char *trace;
+        uint32_t rows;
+    } cases[] = {
+        {"", 0},
+        {"(create 0 8 rw)\n", 1},
+        {"(create 0 0 ro)\n", 1},
+        {"(create 0 8 rw)\n(read 1 0 8)\n(write 1 0 8)\n(drop 1)\n", 1},
+        {"(create 0 8 rw)\n(drop 1)\n(create 0 8 rw)\n(drop 2)\n", 1},
+        {"(create 0 8 rw)\n(create 0 8 rw)\n", 2}, /* full before it ends the first */
+        {"(create 0 8 rw)\n(create 8 8 rw)\n(drop 2)\n(create 8 8 rw)\n(drop 1)\n", 2},
+        {"(create 0 8 rw)\n(borrow 1 0 8 rw)\n(borrow 2 0 8 ro)\n(borrow 3 0 4 ro)\n", 4},
+        {"(create 0 8 rw)\n(borrow 1 0 8 rw)\n(write 1 0 8)\n(borrow 1 0 8 rw)\n", 2},
+    };
+    static kz_part part;
+    size_t i;
+    for (i = 0; i < sizeof cases / sizeof cases[0]; i++) {
+        const uint8_t *text = (const uint8_t *)cases[i].trace;
+        const size_t length = strlen(cases[i].trace);
+        kz_lent lent = kz_lend(&part);
+        CHECK(all_fit(sizes_of_traces(&cases[i].trace, 1), cases[i].rows));
+        memset(&part, 0, sizeof part);
+        lent.rows = cases[i].rows;
+        CHECK(kz_run(&lent, text, length).refusal == 0);
+        if (cases[i].rows == 0) continue;
+        memset(&part, 0, sizeof part);
+        lent.rows = cases[i].rows - 1;
+        CHECK(kz_run(&lent, text, length).refusal == KZ_TABLE_FULL);
+    }
+}
+
+/* How many clients the cases have, some of them with an empty trace. */
+enum { FEW = 3 };
+
+/* Lines in turn, clients that are finished passed over, names counted in each, addresses shared. */
+static void check_sizes_in_turn(void) {
+    static const struct {
+        const char *traces[FEW];
+        uint32_t rows;
+    } cases[] = {
+        {{"", "", ""}, 0},
+        {{"(create 0 8 rw)\n", "", "(create 8 8 rw)\n"}, 2},
+        {{"(create 0 8 rw)\n(write 1 0 8)\n(drop 1)\n",
+          "(create 8 8 rw)\n(write 1 8 8)\n(drop 1)\n",
+          "(create 16 8 rw)\n(write 1 16 8)\n(drop 1)\n"},
+         3},
+        /* Who goes first matters: the drop comes before the borrow, or behind it. */
+        {{"(create 0 8 rw)\n(drop 1)\n", "(create 8 8 rw)\n(borrow 1 8 8 rw)\n", ""}, 2},
+        {{"(create 8 8 rw)\n(borrow 1 8 8 rw)\n", "(create 0 8 rw)\n(drop 1)\n", ""}, 3},
+        /* The second goes on alone where the first and the third are finished. */
+        {{"(create 0 8 rw)\n",
+          "(create 8 8 rw)\n(borrow 1 8 8 rw)\n(borrow 2 8 8 rw)\n(read 3 8 8)\n(drop 2)\n",
+          "(create 16 8 rw)\n(drop 1)\n"},
+         4},
+        /* The second takes the first's memory, which the first does not use again. */
+        {{"(create 0 8 rw)\n(borrow 1 0 8 rw)\n", "(create 64 8 rw)\n(create 0 8 rw)\n",
+          "(create 72 8 rw)\n(create 80 8 rw)\n"},
+         5},
+    };
+    size_t i;
+    for (i = 0; i < sizeof cases / sizeof cases[0]; i++)
+        CHECK(all_fit(sizes_of_traces(cases[i].traces, FEW), cases[i].rows));
+}
+
+/* The first refusal in turn, with its client and its line there. */
+static void check_sizes_refused(void) {
+    static const struct {
+        const char *traces[FEW];
+        enum kz_refusal refusal;
+        uint32_t client, line;
+    } cases[] = {
+        {{"(drop 1)\n", "", ""}, KZ_UNISSUED, 1, 1},
+        {{"", "", "(drop 1)\n"}, KZ_UNISSUED, 3, 1},
+        {{"(create 0 8 rw)\n", "(read 1 0 8)\n", ""}, KZ_UNISSUED, 2, 1},
+        {{"(create 0 8 rw)\n(read 2 0 8)\n(create 8 8 rw)\n", "(create 16 8 rw)\n", ""},
+         KZ_UNISSUED, 1, 2},
+        {{"(create 0 8 rw)\n", "(create 8 8 rw)\n(read 0 8 8)\n", ""}, KZ_UNISSUED, 2, 2},
+        {{"(create 0 8 rw)\n", "(read 4294967295 8 8)\n", ""}, KZ_UNISSUED, 2, 1},
+        {{"(create 0 8 rw)\n", "(read 1 4294967295 2)\n", ""}, KZ_ILLEGAL_SPAN, 2, 1},
+        {{"(create 0 8 rw)\n(drop 1)\n(drop 1)\n", "(create 8 8 rw)\n(drop 1)\n", ""},
+         KZ_ENDED, 1, 3},
+        {{"(create 0 8 rw)\n(read 1 0 8)\n", "(create 0 8 rw)\n", ""}, KZ_ENDED, 1, 2},
+        {{"(create 0 8 rw)\n", "(create 8 8 rw)\n(read 1 0 8)\n", ""}, KZ_OUTSIDE_SPAN, 2, 2},
+        {{"(create 0 8 rw)\n(borrow 1 0 8 rw)\n(read 1 0 8)\n(write 2 0 8)\n", "", ""},
+         KZ_READ_ONLY, 1, 4},
+        /* A line is judged in its turn, so the other's first comes before this one's second. */
+        {{"(create 0 8 rw)\nno line\n", "(create 8 8 rw)\n", "(drop 2)\n"}, KZ_UNISSUED, 3, 1},
+        {{"(create 0 8 rw)\nno line\n", "(create 8 8 rw)\n(drop 2)\n", ""}, KZ_MISSPELT, 1, 2},
+        {{"", "(create 0 8 rw)\n", "(create 8 8 rw)"}, KZ_MISSPELT, 3, 1},
+    };
+    size_t i;
+    for (i = 0; i < sizeof cases / sizeof cases[0]; i++) {
+        const kz_sizing report = sizes_of_traces(cases[i].traces, FEW);
+        CHECK(line_refused(report, cases[i].refusal, cases[i].client, cases[i].line));
+    }
+}
+
+/* Lines that are read elsewhere and have other words than a client's, and such as are read nowhere. */
+static void check_sizes_of_other_lines(void) {
+    static const char *const lines[] = {
+        "(trace 2)\n",
+        "(create 1 0 8 rw)\n",
+        "(create 0 8 rw fresh)\n",
+        "(create 0 8 rw 0000000000000003)\n",
+        "(create 0 8 rw 0000000000000001)\n",
+        "(borrow 2 1 0 8 rw)\n",
+        "(borrow 1 0 8 rw raw)\n",
+        "(borrow 1 0 8 rw cell)\n",
+        "(borrow 1 0 8 rw 8000000000000001)\n",
+        "(as 1 (create 0 8 rw))\n",
+        "(as 0 (read 1 0 8))\n",
+        "(drop 1 2)\n",
+        "(mark 0)\n",
+        "(back 0)\n",
+        "\n",
+        "(drop 1)",
+        "(drop 01)\n",
+        "(drop 4294967296)\n",
+        " (drop 1)\n",
+        "(drop 1)\r\n",
+    };
+    const char *traces[FEW] = {"(create 0 8 rw)\n", "(create 8 8 rw)\n", ""};
+    char trace[64];
+    size_t i;
+    for (i = 0; i < sizeof lines / sizeof lines[0]; i++) {
+        CHECK(line_refused(sizes_of_traces(&lines[i], 1), KZ_MISSPELT, 1, 1));
+        strcpy(trace, traces[0]);
+        traces[2] = strcat(trace, lines[i]);
+        CHECK(line_refused(sizes_of_traces(traces, FEW), KZ_MISSPELT, 3, 2));
+    }
+}
+
+/* Lengths that are too many, or not those of the text. The sum is that of the numbers, not of their last
+   32 bits. */
+static void check_lengths(void) {
+    static const char two[] = "(create 0 8 rw)\n(create 8 8 rw)\n";
+    static const uint32_t wrong[][2] = {
+        {0, 0},  {16, 0}, {0, 31}, {16, 15},          {16, 17},          {32, 1},
+        {33, 0}, {0, 33}, {1, 32}, {4294967295u, 33}, {33, 4294967295u}, {4294967295u, 4294967295u}};
+    static const uint32_t halves[] = {16, 16}, whole[] = {32, 0}, inside[] = {15, 17};
+    static const uint32_t none[KZ_MAX_CLIENTS + 2] = {0};
+    static const uint32_t wrapped[] = {2147483648u, 2147483648u};
+    const uint8_t *text = (const uint8_t *)two;
+    uint32_t many[KZ_MAX_CLIENTS + 1] = {0};
+    size_t i;
+    CHECK(sizeof two - 1 == 32);
+    CHECK(all_fit(sizes_of(text, 32, halves, 2), 2));
+    CHECK(all_fit(sizes_of(text, 32, whole, 2), 2));
+    CHECK(all_fit(sizes_of(text, 32, whole, 1), 2));
+    CHECK(line_refused(sizes_of(text, 32, inside, 2), KZ_MISSPELT, 1, 1));
+    for (i = 0; i < sizeof wrong / sizeof wrong[0]; i++)
+        CHECK(lengths_refused(sizes_of(text, 32, wrong[i], 2)));
+    CHECK(lengths_refused(sizes_of(text, 32, halves, 1)));
+    CHECK(lengths_refused(sizes_of(text, 32, NULL, 0)));
+    CHECK(lengths_refused(sizes_of(text, 16, halves, 2)));
+    CHECK(lengths_refused(sizes_of(NULL, 0, wrapped, 2)));
+    CHECK(all_fit(sizes_of(NULL, 0, NULL, 0), 0));
+    CHECK(all_fit(sizes_of(NULL, 0, none, KZ_MAX_CLIENTS), 0));
+    CHECK(lengths_refused(sizes_of(NULL, 0, none, KZ_MAX_CLIENTS + 1)));
+    CHECK(lengths_refused(sizes_of(NULL, 0, none, KZ_MAX_CLIENTS + 2)));
+    /* The last of as many as there may be, and of one more. */
+    many[KZ_MAX_CLIENTS - 1] = 32;
+    CHECK(all_fit(sizes_of(text, 32, many, KZ_MAX_CLIENTS), 2));
+    CHECK(lengths_refused(sizes_of(text, 32, many, KZ_MAX_CLIENTS + 1)));
+    CHECK(lengths_refused(sizes_of(text, 31, many, KZ_MAX_CLIENTS)));
+    many[KZ_MAX_CLIENTS - 1] = 31;
+    CHECK(line_refused(sizes_of(text, 31, many, KZ_MAX_CLIENTS), KZ_MISSPELT, KZ_MAX_CLIENTS, 2));
+}
+
+/* So many creates side by side, of which the clients have one each in turn. */
+static kz_sizing sizes_of_creates(uint32_t made, uint32_t count) {
+    static char text[(KZ_MAX_ROWS + 1) * KZ_MAX_LINE];
+    uint32_t lengths[KZ_MAX_CLIENTS], client, place;
+    char *end = text;
+    for (client = 0; client < count; client++) {
+        const char *start = end;
+        for (place = client; place < made; place += count)
+            end += sprintf(end, "(create %u 8 rw)\n", (unsigned)place * 8);
+        lengths[client] = (uint32_t)(end - start);
+    }
+    return sizes_of((const uint8_t *)text, (size_t)(end - text), lengths, count);
+}
+
+/* As many rows as there may be, and one more. */
+static void check_most_rows(void) {
+    static const uint32_t counts[] = {1, 3, KZ_MAX_CLIENTS};
+    const uint32_t most = KZ_MAX_ROWS;
+    size_t i;
+    for (i = 0; i < sizeof counts / sizeof counts[0]; i++) {
+        const uint32_t count = counts[i];
+        CHECK(all_fit(sizes_of_creates(most - 1, count), most - 1));
+        CHECK(all_fit(sizes_of_creates(most, count), most));
+        CHECK(line_refused(sizes_of_creates(most + 1, count), KZ_TABLE_FULL, most % count + 1,
+                           most / count + 1));
+    }
+}
+
+/* The deepest borrow, and one deeper, by a client whose names are not the table's. */
+static void check_deepest_client(void) {
+    static char text[KZ_MAX_DEPTH * KZ_MAX_LINE + 64];
+    uint32_t lengths[2], i;
+    char *end = text + sprintf(text, "(create 64 8 rw)\n(read 1 64 8)\n");
+    const uint8_t *bytes = (const uint8_t *)text;
+    lengths[0] = (uint32_t)(end - text);
+    end += sprintf(end, "(create 0 8 rw)\n");
+    for (i = 1; i < KZ_MAX_DEPTH; i++) end += sprintf(end, "(borrow %u 0 8 rw)\n", (unsigned)i);
+    lengths[1] = (uint32_t)(end - text) - lengths[0];
+    CHECK(all_fit(sizes_of(bytes, (size_t)(end - text), lengths, 2), KZ_MAX_DEPTH + 1));
+    end += sprintf(end, "(borrow %u 0 8 rw)\n", (unsigned)i);
+    lengths[1] = (uint32_t)(end - text) - lengths[0];
+    CHECK(line_refused(sizes_of(bytes, (size_t)(end - text), lengths, 2), KZ_TOO_DEEP, 2,
+                       KZ_MAX_DEPTH + 1));
+}
+
+/* The exported function, which answers one number. */
+static void check_sizes_exported(void) {
+    static const char trace[] = "(create 0 8 rw)\n(borrow 1 0 8 rw)\n";
+    static const uint32_t length = sizeof trace - 1;
+    const uint8_t *text = (const uint8_t *)trace;
+    kz_sizing report;
+    CHECK(kz_abi_sizes(text, length, &length, 1, &report) == 2);
+    CHECK(all_fit(report, 2));
+    CHECK(kz_abi_sizes(text, length - 1, &length, 1, &report) == (uint64_t)KZ_MISSPELT << 32);
+    CHECK(lengths_refused(report));
+    CHECK(kz_abi_sizes(NULL, 0, NULL, 0, &report) == 0);
+    CHECK(all_fit(report, 0));
+}
+
 static void check_null(void) {
     static const char listing[] = "(issued 0)\n";
     const uint8_t *text = (const uint8_t *)listing;
@@ -2573,6 +2852,14 @@ int main(void) {
     check_most_columns();
     check_no_columns();
     check_columns_exported();
+    check_sizes_of_one();
+    check_sizes_in_turn();
+    check_sizes_refused();
+    check_sizes_of_other_lines();
+    check_lengths();
+    check_most_rows();
+    check_deepest_client();
+    check_sizes_exported();
     check_null();
     check_longest();
     check_states_untouched();
