@@ -1,6 +1,6 @@
-# make                the two archives and the program capcheck, all proved
+# make                the two archives and the programs capcheck and capsize, all proved
 # make library        the archives alone: libkelzoud.a and libkelzoud-events.a, in target/lib
-# make program        the program alone, in target/bin
+# make program        the programs alone, in target/bin
 # make install        into PREFIX, below DESTDIR where that is set
 # make install-built  the same, of what is built, up to date or not
 # make uninstall      takes away what was installed there
@@ -10,7 +10,7 @@
 # make clean          takes away what was built
 
 PREFIX ?= /usr/local
-VERSION := $(shell sed -n 's/^version=//p' capcheck)
+VERSION := $(shell sed -n 's/^version=//p' front.sh)
 RT ?= rt
 CARGO ?= cargo
 INSTALL ?= install
@@ -20,6 +20,8 @@ proved := target/staticlib
 libraries := target/lib
 archives := $(libraries)/libkelzoud.a $(libraries)/libkelzoud-events.a
 packages := kelzoud.pc kelzoud-events.pc
+# Each command is a script in front of a program of the same name; what the scripts share stands beside the programs.
+commands := capcheck capsize
 root := $(DESTDIR)$(PREFIX)
 
 .PHONY: all library archives program install install-built uninstall test bench stack clean
@@ -51,7 +53,7 @@ $(libraries)/libkelzoud-events.a: $(proved)/libkelzoud_events.a
 	cp $< $@
 
 program:
-	$(RT) check capcheck
+	$(RT) check $(commands)
 
 install: all
 	$(MAKE) install-built
@@ -60,15 +62,17 @@ install-built:
 	$(INSTALL) -d $(root)/include $(root)/lib/pkgconfig $(root)/bin $(root)/libexec/kelzoud
 	$(INSTALL) -m 644 include/kelzoud.h $(root)/include/
 	$(INSTALL) -m 644 $(archives) $(root)/lib/
-	$(INSTALL) -m 755 capcheck $(root)/bin/
-	$(INSTALL) -m 755 target/bin/capcheck $(root)/libexec/kelzoud/
+	$(INSTALL) -m 755 $(commands) $(root)/bin/
+	$(INSTALL) -m 755 $(addprefix target/bin/,$(commands)) $(root)/libexec/kelzoud/
+	$(INSTALL) -m 644 front.sh $(root)/libexec/kelzoud/
 	for package in $(packages); do \
 	    sed -e 's|@PREFIX@|$(PREFIX)|' -e 's|@VERSION@|$(VERSION)|' $$package.in \
 	        > $(root)/lib/pkgconfig/$$package || exit 1; \
 	done
 
 uninstall:
-	rm -f $(root)/include/kelzoud.h $(root)/bin/capcheck $(root)/libexec/kelzoud/capcheck \
+	rm -f $(root)/include/kelzoud.h $(addprefix $(root)/bin/,$(commands)) \
+	    $(addprefix $(root)/libexec/kelzoud/,$(commands) front.sh) \
 	    $(addprefix $(root)/lib/,$(notdir $(archives))) \
 	    $(addprefix $(root)/lib/pkgconfig/,$(packages))
 	if [ -d $(root)/libexec/kelzoud ]; then rmdir $(root)/libexec/kelzoud; fi
