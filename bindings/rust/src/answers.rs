@@ -21,7 +21,8 @@ pub enum Refusal {
     Misgrouped = 13,
     /// A line or listing is not in the one spelling, or a line of a sheet's text not of its form; or the
     /// holders that an event gives lack the domain that acts; or events have no
-    /// [columns](crate::Columns), or columns no events.
+    /// [columns](crate::Columns), or columns no events; or lengths of traces are too many, or not those of
+    /// the text.
     Misspelt = 2,
     /// A sheet's text gives a combination twice.
     GivenTwice = 14,
@@ -32,7 +33,8 @@ pub enum Refusal {
     /// An end is above 4,294,967,296, or of a fresh create above
     /// [`WRITTEN_ADDRESSES`](crate::WRITTEN_ADDRESSES).
     IllegalSpan = 3,
-    /// A name is 0 or above the issued number.
+    /// A name is 0 or above the issued number; of the [clients](crate::sizes()) of one table, a name that
+    /// the client was not yet given.
     Unissued = 4,
     /// A name was issued, and its capability has ended: it was dropped, or written to from outside, or
     /// its memory was handed out again, itself or an ancestor. By other sheets than the default one

@@ -14,6 +14,9 @@ pub type ShareWords = [u32; 3];
 /// `kz_counts`, word for word.
 pub type CountWords = [u32; 6];
 
+/// `kz_sizing`, word for word.
+pub type SizingWords = [u32; 4];
+
 unsafe extern "C" {
     pub fn kz_abi_apply(
         table: *mut Cap,
@@ -164,5 +167,13 @@ unsafe extern "C" {
         stored_size: usize,
         out: *mut u8,
         out_len: usize,
+    ) -> u64;
+
+    pub fn kz_abi_sizes(
+        text: *const u8,
+        text_len: usize,
+        lengths: *const u32,
+        count: usize,
+        report: *mut SizingWords,
     ) -> u64;
 }

@@ -172,7 +172,8 @@
 //! ```
 //!
 //! Many events are handed over in one call by [`apply_all`], and a log is read line by line by
-//! [`read_event`]. Who stores traces keeps them [by column](Columns), with like beside like.
+//! [`read_event`]. Who stores traces keeps them [by column](Columns), with like beside like. Who wonders how
+//! many rows a table is to have tries recorded traces by [`sizes()`].
 //!
 //! The calls are those of the C library `libkelzoud.a`, which the build script links from the
 //! directory in `KELZOUD_LIB`. They keep nothing between calls and allocate nothing.
@@ -188,6 +189,7 @@ mod ffi;
 mod lent;
 mod requests;
 mod sheets;
+mod sizes;
 mod states;
 mod values;
 
@@ -201,6 +203,7 @@ pub use domains::{Charge, Domain, Holders, HoldersIter, Limits};
 pub use lent::Lent;
 pub use requests::{Group, Line, Request, Spelling};
 pub use sheets::{Access, Effect, Origin, Sheet};
+pub use sizes::{sizes, ClientRefusal};
 pub use states::{Slot, States};
 pub use values::{Addr, Cap, Event, Kind, Name, Right, Span, Tally, Written};
 
@@ -230,6 +233,9 @@ pub const WRITTEN_ADDRESSES: u32 = 65_536;
 
 /// The most events that are put into [columns](Columns), or taken from them, in one call.
 pub const MAX_COLUMN_EVENTS: usize = 4_096;
+
+/// The most clients whose traces [`sizes()`] takes together.
+pub const MAX_CLIENTS: usize = 8;
 
 /// The most bytes of input that [`check`] runs.
 pub const MAX_INPUT: usize = 65_536;
