@@ -2,7 +2,8 @@
  * How much stack each call of the library writes: the stack below a call is painted before it, and looked
  * through afterwards. On 1,024 rows, a root and chains below it down to depth 64, all of them fresh and
  * their memory written, so that reads look at its bits; the calls for columns on as many events as they
- * take. What a call leaves unwritten of its frames does not show.
+ * take, and that for table sizes with clients that fill as many rows. What a call leaves unwritten of its
+ * frames does not show.
  */
 #include <stdio.h>
 #include <stdlib.h>
@@ -10,7 +11,7 @@
 
 #include <kelzoud.h>
 
-enum { PAINTED = 1 << 18, PAINT = 0x5b };
+enum { PAINTED = 1 << 20, PAINT = 0x5b };
 
 static kz_part part;
 static kz_part made;
@@ -182,6 +183,31 @@ static void check(void) {
     kz_check(&work, (const uint8_t *)trace, trace_len, out, sizeof out);
 }
 
+/* As many clients as there may be, which fill all rows, in chains down to the greatest depth. */
+static char clients[(KZ_MAX_ROWS + 2 * KZ_MAX_CLIENTS) * KZ_MAX_LINE];
+static uint32_t client_lengths[KZ_MAX_CLIENTS];
+static size_t clients_len;
+
+static void all_clients(void) {
+    for (int client = 0; client < KZ_MAX_CLIENTS; client++) {
+        const size_t start = clients_len;
+        for (int row = 0; row < KZ_MAX_ROWS / KZ_MAX_CLIENTS; row++) {
+            const int first = 64 * (client + KZ_MAX_CLIENTS * (row / KZ_MAX_DEPTH));
+            if (row % KZ_MAX_DEPTH == 0)
+                clients_len += (size_t)sprintf(clients + clients_len, "(create %d 64 rw)\n", first);
+            else
+                clients_len += (size_t)sprintf(clients + clients_len, "(borrow %d %d 64 rw)\n", row, first);
+        }
+        clients_len += (size_t)sprintf(clients + clients_len, "(write 1 %d 8)\n(drop 1)\n", 64 * client);
+        client_lengths[client] = (uint32_t)(clients_len - start);
+    }
+}
+
+static void sizes(void) {
+    kz_sizing report;
+    kz_sizes((const uint8_t *)clients, clients_len, client_lengths, KZ_MAX_CLIENTS, &report);
+}
+
 /* A frame that is painted and left, so that the next call stands in it. */
 static __attribute__((noinline)) void paint(void) {
     uint8_t below[PAINTED];
@@ -228,7 +254,7 @@ int main(void) {
         {"kz_mark, kz_back", states},   {"the same, limits", states_in_limits},
         {"kz_charge", charge},          {"kz_write_sheet", write_sheet},
         {"kz_read_sheet", read_sheet},  {"kz_to_columns", to_columns},
-        {"kz_from_columns", from_columns},
+        {"kz_from_columns", from_columns}, {"kz_sizes", sizes},
     };
     deep_rows();
     deep_trace();
@@ -238,6 +264,7 @@ int main(void) {
         sheet.results[place] = (uint8_t)(place % 3);
     sheet_len = kz_write_sheet(&sheet, sheet_text, sizeof sheet_text).value;
     all_kinds();
+    all_clients();
     const size_t none = measure(nothing);
     for (size_t i = 0; i < sizeof calls / sizeof calls[0]; i++)
         printf("%-18s %6zu\n", calls[i].name, measure(calls[i].call) - none);
