@@ -8,3 +8,4 @@ pub mod Turns
 pub mod Rounds
 pub mod Laid
 pub mod Words
+pub mod Examples
