@@ -9,3 +9,4 @@ pub mod Rounds
 pub mod Laid
 pub mod Words
 pub mod Examples
+pub mod Order

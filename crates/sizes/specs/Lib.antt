@@ -5,3 +5,4 @@ pub mod Peak
 pub mod Names
 pub mod Taken
 pub mod Rounds
+pub mod Order

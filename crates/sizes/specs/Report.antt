@@ -51,7 +51,7 @@ sizing text lengths = cond (fits text lengths) (reportTurns (turns text lengths)
 
 -- ---- in C, and in text
 
--- a number in 32 bits; those of a report have no more (`report-fits` of proofs/Laws/Fits)
+-- a number in 32 bits; those of a report have no more (`report-fits` of proofs/Laws/Order)
 abbrev pub word : ℕ → ℕ
 word n = min n 4294967295
 
