@@ -210,7 +210,7 @@ pub fn read_drop_line(line: &[u8]) -> Option<(u32, Vec<u32>)> {
     is_group(&names).then_some((actor, names))
 }
 
-fn span(start: &[u8], length: &[u8]) -> Option<Span> {
+pub fn span(start: &[u8], length: &[u8]) -> Option<Span> {
     Some(Span {
         start: number(start)?,
         length: number(length)?,

@@ -196,7 +196,7 @@ pub fn write_listing(rows: &[Row], issued: u32, buffer: usize) -> Result<String,
 pub const HEADER: &[u8] = b"(trace 2)\n";
 
 /// The lines of a text: each with its newline, and what stands after the last newline.
-fn lines(text: &[u8]) -> impl Iterator<Item = &[u8]> {
+pub fn lines(text: &[u8]) -> impl Iterator<Item = &[u8]> {
     text.split_inclusive(|byte| *byte == b'\n')
 }
 
