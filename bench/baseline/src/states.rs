@@ -22,8 +22,8 @@ pub(crate) fn is_slot(number: u32) -> bool {
 /// The lent memory. In the head of a slot the first word is 0 where nothing is stored, else one more than rows
 /// are kept, which follow; the second is the number of empty rows that the stored table has behind these.
 pub(crate) struct States<'a> {
-    rows: &'a mut [Cap; STORED_ROWS],
-    bytes: &'a mut [u8; STORED_BYTES],
+    rows: &'a mut [Cap],
+    bytes: &'a mut [u8],
 }
 
 /// What stands in a slot: the number of rows of a table, and those that are kept of them.
@@ -35,10 +35,16 @@ pub(crate) struct Stored<'a> {
 impl<'a> States<'a> {
     /// Nothing where it has not the size that it has to have.
     pub(crate) fn lent(rows: &'a mut [Cap], bytes: &'a mut [u8]) -> Option<States<'a>> {
-        Some(States {
-            rows: rows.try_into().ok()?,
-            bytes: bytes.try_into().ok()?,
-        })
+        let has_its_size = rows.len() == STORED_ROWS && bytes.len() == STORED_BYTES;
+        has_its_size.then_some(States { rows, bytes })
+    }
+
+    /// No memory, for events of which none marks or goes back.
+    pub(crate) fn none() -> States<'a> {
+        States {
+            rows: &mut [],
+            bytes: &mut [],
+        }
     }
 
     /// The same with nothing stored.

@@ -10,7 +10,7 @@ pub(crate) struct Reader<'a> {
 }
 
 impl<'a> Reader<'a> {
-    pub(crate) fn new(text: &'a [u8]) -> Reader<'a> {
+    pub(crate) const fn new(text: &'a [u8]) -> Reader<'a> {
         Reader { text, at: 0 }
     }
 
