@@ -7,6 +7,7 @@
 mod acting;
 mod agree;
 mod charges;
+mod clients;
 mod columns;
 mod domain_runs;
 mod domain_texts;
@@ -26,6 +27,7 @@ mod report;
 mod runs;
 mod sheet_texts;
 mod sheets;
+mod sizes;
 mod slots;
 mod spellings;
 mod state_runs;
@@ -110,6 +112,7 @@ fn main() -> ExitCode {
     states::groups(&mut report, subject);
     state_runs::groups(&mut report, subject);
     columns::groups(&mut report, subject);
+    sizes::groups(&mut report, subject);
     domains::met(&mut report);
     states::met(&mut report);
     report.met("every answer of an event was met", agree::every_answer_met);

@@ -204,7 +204,8 @@ impl<const NUMBERS: usize> Display for Counts<NUMBERS> {
             "{} cases, {} allowed",
             self.requests, self.allowed
         )?;
-        for (refused, number) in self.refused.iter().zip(self.numbers) {
+        let met = self.refused.iter().zip(self.numbers);
+        for (refused, number) in met.filter(|(refused, _)| **refused > 0) {
             write!(formatter, ", {refused} refused {number}")?;
         }
         Ok(())

@@ -5,7 +5,7 @@ pub use baseline::{
     BACK, CELL, Cap, Columns, ColumnsMut, DOMAINS, Event, FRESH, MARK, MAX_GROUP, RAW, REFERENCE,
     SHEET_PLACES, SLOTS, STORED_BYTES, STORED_ROWS, Tally, WRITTEN_BYTES,
 };
-pub use words::{AnswerWords, CountWords, DROP_ALL, ShareWords, Words};
+pub use words::{AnswerWords, CountWords, DROP_ALL, ShareWords, SizingWords, Words};
 
 #[cfg(library)]
 #[allow(unsafe_code)]
@@ -77,6 +77,9 @@ pub trait Interface {
 
     /// `kz_abi_from_columns`: columns into events, and how many entries were used.
     fn from_columns(&self, columns: Columns, events: &mut [Words], used: &mut CountWords) -> u64;
+
+    /// `kz_abi_sizes`: the fewest rows for clients whose texts stand end to end, and all of the report.
+    fn sizes(&self, text: &[u8], lengths: &[u32], report: &mut SizingWords) -> u64;
 
     /// `kz_abi_check`, whose working space are rows and bytes for states.
     fn check(

@@ -5,7 +5,7 @@ use std::ptr;
 
 use crate::{
     AnswerWords, Cap, Columns, ColumnsMut, CountWords, Interface, MAX_GROUP, Memory, SHEET_PLACES,
-    ShareWords, Tally, Words, ffi,
+    ShareWords, SizingWords, Tally, Words, ffi,
 };
 
 pub struct Library;
@@ -184,6 +184,11 @@ impl Interface for Library {
                 used,
             )
         }
+    }
+
+    fn sizes(&self, text: &[u8], lengths: &[u32], report: &mut SizingWords) -> u64 {
+        let count = lengths.len();
+        unsafe { ffi::kz_abi_sizes(text.as_ptr(), text.len(), lengths.as_ptr(), count, report) }
     }
 
     fn check(

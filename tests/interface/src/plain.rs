@@ -3,7 +3,8 @@
 use baseline::{Cap, Event, Lent, MAX_GROUP, Refusal, SHEET_PLACES, Spelling, Tally};
 
 use crate::{
-    AnswerWords, Columns, ColumnsMut, CountWords, DROP_ALL, Interface, Memory, ShareWords, Words,
+    AnswerWords, Columns, ColumnsMut, CountWords, DROP_ALL, Interface, Memory, ShareWords,
+    SizingWords, Words,
 };
 
 pub struct Baseline;
@@ -132,6 +133,15 @@ impl Interface for Baseline {
 
     fn from_columns(&self, columns: Columns, events: &mut [Words], used: &mut CountWords) -> u64 {
         counted(baseline::from_columns(columns, events), used)
+    }
+
+    fn sizes(&self, text: &[u8], lengths: &[u32], report: &mut SizingWords) -> u64 {
+        let answer = baseline::sizes(text, lengths);
+        *report = match answer {
+            Ok(rows) => [0, rows, 0, 0],
+            Err((refusal, client, line)) => [refusal as u32, 0, client, line],
+        };
+        packed(answer.map_err(|(refusal, ..)| refusal))
     }
 
     fn check(

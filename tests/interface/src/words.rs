@@ -153,3 +153,6 @@ pub type ShareWords = [u32; 3];
 
 /// How many entries of events, kinds, names, starts, lengths and rights were used, as `kz_counts` has them.
 pub type CountWords = [u32; 6];
+
+/// The refusal, the rows, the client and the line of clients on one table, as `kz_sizing` has them.
+pub type SizingWords = [u32; 4];
