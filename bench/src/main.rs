@@ -1,9 +1,10 @@
 //! Times each call of the C interface, the library beside the baseline where this was built with
 //! `KELZOUD_LIB` set: how the times grow with the rows, how they depend on the table's shape, what is
 //! gained by many events in one call, how the times grow with the written bits, what domains and limits cost,
-//! what a mark and a back cost beside a copy of what they store, and what traces by column cost.
+//! what a mark and a back cost beside a copy of what they store, what traces by column cost, and what it costs to try
+//! how many rows clients need.
 //!
-//! `bench [rows] [shapes] [many] [bits] [domains] [states] [columns]`: with words only those tables are made.
+//! `bench [rows] [shapes] [many] [bits] [domains] [states] [columns] [sizes]`: with words only those tables are made.
 
 mod batch;
 mod clock;
@@ -11,6 +12,7 @@ mod columns;
 mod print;
 mod random;
 mod shape;
+mod sizes;
 mod timing;
 mod workload;
 
@@ -232,7 +234,7 @@ fn main() {
         .chain([interface::baseline()])
         .collect();
     let wanted: Vec<String> = env::args().skip(1).collect();
-    let tables: [Table; 7] = [
+    let tables: [Table; 8] = [
         ("rows", NOTES, growth_by_rows),
         ("shapes", SHAPE_NOTES, ratios_by_shape),
         ("many", MANY_NOTES, many_events),
@@ -240,6 +242,7 @@ fn main() {
         ("domains", DOMAINS_NOTES, growth_by_domains),
         ("states", STATES_NOTES, beside_a_copy),
         ("columns", columns::NOTES, columns::growth_by_events),
+        ("sizes", sizes::NOTES, sizes::times_of_clients),
     ];
     for (name, notes, table) in tables {
         if wanted.is_empty() || wanted.iter().any(|word| word == name) {

@@ -86,6 +86,25 @@ pub fn copy_row(name: &str, live: usize, rows: usize, times: &[f64], copy: f64) 
     println!("{:>12}{:>8}", in_units(copy), ratio(times));
 }
 
+pub fn lines_heading(contenders: &Contenders) {
+    print!("{:<14}{:>6}", "clients", "lines");
+    for contender in contenders {
+        print!("{:>15}{:>8}", contender.name(), "a line");
+    }
+    let ratio = if contenders.len() > 1 { "ratio" } else { "" };
+    println!("{ratio:>8}");
+}
+
+/// A call's times, and each over so many lines.
+pub fn lines_row(name: &str, lines: usize, times: &[f64]) {
+    print!("{name:<14}{lines:>6}");
+    for time in times {
+        let each = in_units(time / lines as f64);
+        print!("{:>15}{each:>8}", in_units(*time));
+    }
+    println!("{:>8}", ratio(times));
+}
+
 /// The library's time over the baseline's, where there are both.
 fn ratio(times: &[f64]) -> String {
     match times {

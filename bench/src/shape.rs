@@ -17,7 +17,7 @@ const TREE_LENGTH: u32 = 1 << 20;
 /// How many addresses have a written bit. But for what times these bits, every shape begins behind them.
 pub const WRITABLE: u32 = 1 << 16;
 
-/// The first address behind every shape.
+/// The first address behind every shape, but for those of clients.
 pub const BESIDE: u32 = WRITABLE + 2 * TREE_LENGTH;
 
 /// A lent table and tally, and limits where they are lent.
@@ -234,6 +234,25 @@ pub fn domains(live: usize) -> Vec<Cap> {
         *row = row.held_by(u64::MAX);
     }
     table
+}
+
+/// The two trees of one of some clients, that have memory side by side. Its names are counted from 1.
+pub fn of_client(client: u32, live: usize) -> Vec<Cap> {
+    let mut table = two_trees(live);
+    for row in &mut table {
+        // A row had the name of its place, as every second name.
+        row.name = row.name / 2 + 1;
+        if row.parent != 0 {
+            row.parent = row.parent / 2 + 1;
+        }
+        row.start += client * 2 * TREE_LENGTH;
+    }
+    table
+}
+
+/// The first address behind those of so many clients.
+pub fn beside_clients(clients: u32) -> u32 {
+    WRITABLE + clients * 2 * TREE_LENGTH
 }
 
 /// Marked roots over all addresses that have a written bit.

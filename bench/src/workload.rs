@@ -56,15 +56,15 @@ pub const ROUND_ROWS: usize = 3;
 /// How many events a round has.
 pub const ROUND_EVENTS: usize = 8;
 
-/// Events that are all allowed: an object beside the shape is made, borrowed as the given kind, used and
-/// dropped, and some live row is read through. A round's create has the memory of the last round's
+/// Events that are all allowed: an object is made beside the shape, at this address, borrowed as the given kind,
+/// used and dropped, and some live row is read through. A round's create has the memory of the last round's
 /// object, which has been dropped, and so ends nothing.
-fn round(object: u32, reader: &Cap, cap_kind: u32) -> [Words; ROUND_EVENTS] {
+fn round(object: u32, start: u32, reader: &Cap, cap_kind: u32) -> [Words; ROUND_EVENTS] {
     let event = |kind, name, length| {
         Words {
             kind,
             name,
-            start: BESIDE,
+            start,
             length,
             right: READ_WRITE,
             ..Words::default()
@@ -92,21 +92,35 @@ fn round(object: u32, reader: &Cap, cap_kind: u32) -> [Words; ROUND_EVENTS] {
 
 /// Rounds one after the other, on a table with room for one, with objects borrowed as the given kind.
 pub fn rounds(lent: &Lent, cap_kind: u32) -> impl Iterator<Item = [Words; ROUND_EVENTS]> {
-    let mut random = Random::new();
     let live: Vec<Cap> = lent
         .table
         .iter()
         .copied()
         .filter(|row| row.name != 0)
         .collect();
-    let objects = (lent.tally.issued + 1..).step_by(ROUND_ROWS);
-    objects.map(move |object| round(object, &random.pick(&live), cap_kind))
+    rounds_at(BESIDE, live, lent.tally.issued, cap_kind)
+}
+
+/// The same beside these rows, with objects at this address and named behind so many names.
+pub fn rounds_at(
+    start: u32,
+    live: Vec<Cap>,
+    issued: u32,
+    cap_kind: u32,
+) -> impl Iterator<Item = [Words; ROUND_EVENTS]> {
+    let mut random = Random::new();
+    let objects = (issued + 1..).step_by(ROUND_ROWS);
+    objects.map(move |object| round(object, start, &random.pick(&live), cap_kind))
 }
 
 /// The lines of whole rounds, up to so many bytes.
 pub fn steady_text(lent: &Lent, size: usize) -> Vec<u8> {
+    text_up_to(size, rounds(lent, REFERENCE))
+}
+
+pub fn text_up_to(size: usize, rounds: impl Iterator<Item = [Words; ROUND_EVENTS]>) -> Vec<u8> {
     let mut text = Vec::with_capacity(size);
-    for round in rounds(lent, REFERENCE) {
+    for round in rounds {
         let lines = round.map(line).concat();
         if text.len() + lines.len() > size {
             break;
