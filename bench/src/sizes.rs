@@ -10,7 +10,7 @@ use crate::workload::{BORROW, CREATE, READ, WRITE, line, rounds_at, text_up_to};
 
 pub const NOTES: &str = "\
 Eight clients on one table, all by one call: 'lines' is how many they have together, and 'a line' the time
-over that. Each has 65,536 bytes of lines, all allowed: it makes two trees in memory of its own, and then
+over that. Each has up to 65,536 bytes, all lines allowed: it makes two trees in memory of its own, and then
 rounds as in a run. With 'few rows' 16 live besides those of the rounds, with 'many rows' about 1,000 in
 all. 'small' are clients of four lines: a create, a borrow, a write and a read.";
 
@@ -22,7 +22,7 @@ const BYTES: usize = 65_536;
 /// How many addresses an object has.
 const OBJECT: u32 = 64;
 
-/// How many rows each client has besides those of a round: of all, three are a round's.
+/// How many rows each client makes before its rounds, which need three more.
 const FEW: usize = 2;
 const MANY: usize = 122;
 
