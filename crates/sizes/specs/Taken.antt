@@ -1,11 +1,9 @@
 -- Card 13, "trying table sizes": the code's memory, and what all clients share.
 -- Assumes nothing.
-use Prim.Native.Nat.{ℕ, suc, max, _≤_}
+use Prim.Native.Nat.{ℕ, max}
 use mathlib.Core.Path.{_≡_}
 use mathlib.Core.List.{List, []}
-use lib.ListN.{length}
 use Rattle.model.specs.declared.Tally.{Tally}
-use Rattle.model.specs.declared.Answer.{Answer}
 use Rattle.model.specs.declared.Event.{Event}
 use Rattle.model.specs.Slots.{unstored}
 use Rattle.model.specs.Sheet6.{sheet6}

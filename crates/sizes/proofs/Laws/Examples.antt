@@ -22,7 +22,7 @@ use Rattle.text.specs.Event.{bytes, spaced, form, spell, hasSpelling, writesNam
 use Rattle.text.specs.Mask.{hex, hexFrom}
 use Rattle.text.specs.Read.{same, guess, readEvent}
 use Rattle.text.specs.Form.{form01, inForm}
-use Rattle.sizes.specs.Turns.{Turn, turn, texts, oneRound, rounds, longest, turns}
+use Rattle.sizes.specs.Turns.{Turn, texts, oneRound, rounds, longest, turns}
 use Rattle.sizes.specs.Clients.{stop, translated, refusal, outcome}
 use Rattle.sizes.specs.Clients
 use Rattle.sizes.specs.Report.{Report, rows, refused, fits, firstFrom, sizing}

@@ -4,7 +4,7 @@
 use mathlib.Core.Path.{_≡_, refl, sym, ap, _∙_}
 use mathlib.Core.Bool.{Bool, true, false, not}
 use mathlib.Core.List.{List, [], _∷_, map}
-use Prim.Native.Nat.{ℕ, zero, suc, _≤_, _<_}
+use Prim.Native.Nat.{ℕ, suc, _≤_, _<_}
 use native.Mathlib.Omega.{arith}
 use lib.Dec.{leb, ltb}
 use lib.ListN.{length, getD, replicate, length-replicate}
@@ -18,15 +18,15 @@ use Rattle.model.specs.declared.Event.the-variants.{Create, Borrow, Read, Write
 use Rattle.model.specs.Lists.{filter, all, first}
 use Rattle.model.specs.Bits.{bitAt, bitsAfter}
 use Rattle.model.specs.Limits.{refusedSheet, noRow, limitReached}
-use Rattle.model.specs.Requests.{Unlimited, Request, Single, caller, callerOf}
+use Rattle.model.specs.Requests.{Unlimited, Request, Single, caller}
 use Rattle.model.specs.Slots.{Slot, Nothing, unstored}
-use Rattle.model.specs.Table.{emptyRow, named, liveRows, lentTable, inOrder}
-use Rattle.model.specs.Refusals.{View, unfit, checks, refusals, judge, tableIn}
+use Rattle.model.specs.Table.{emptyRow, named, liveRows, lentTable}
+use Rattle.model.specs.Refusals.{unfit, checks, refusals, judge, tableIn}
 use Rattle.model.specs.Effects.{lowered, revoke, rowsWithout, rowsAfter}
 use Rattle.model.specs.Counts.{countAllowed}
 use Rattle.model.specs.Step.{State, view, initial, outcome}
 use Rattle.model.specs.Step
-use Rattle.model.proofs.Offered.{All, All-sub, SizedSlot, none-sized, listed, first-none, Named, live-named, access-named, live-lent, length-lent, next-fits, fit-all, fit-after, fit-order, is-fit, ordered, order-fresh}
+use Rattle.model.proofs.Offered.{All-sub, none-sized, listed, first-none, Named, live-named, access-named, live-lent, length-lent, next-fits, fit-all, fit-after, fit-order, is-fit, ordered, order-fresh}
 use Rattle.sizes.specs.Peak.{needs}
 
 -- an event by domain 0, without limits

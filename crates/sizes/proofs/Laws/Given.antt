@@ -1,10 +1,10 @@
 -- The names given to clients, and the list of those that may live: how a client's name is found, and what both are when a name is given.
 -- Assumes nothing.
-use mathlib.Core.Path.{_≡_, refl, sym, ap, subst, _∙_}
+use mathlib.Core.Path.{_≡_, refl, sym, ap, _∙_}
 use mathlib.Core.Logic.{_⊎_, inl, inr}
-use mathlib.Core.Bool.{Bool, true, false, cond, _&&_}
+use mathlib.Core.Bool.{Bool, true, false, cond}
 use mathlib.Core.List.{List, [], _∷_, _++_}
-use Prim.Native.Nat.{ℕ, zero, suc, _+_, _*_, _≤_, _<_}
+use Prim.Native.Nat.{ℕ, zero, suc, _+_, _≤_, _<_}
 use native.Mathlib.Omega.{arith}
 use lib.Dec.{eqb, ltb, leb}
 use lib.ListN.{length, getD, set, length-append, length-set, List·getD-append, List·getD-eq-default}
@@ -17,7 +17,7 @@ use Rattle.model.proofs.Offered.{test, clash, and-both}
 use Rattle.table.specs.Rows.{nameAt, before, Filled}
 use Rattle.table.proofs.Offered.{last, none-named, place-of}
 use Rattle.sizes.specs.Clients.{known, give}
-use Rattle.sizes.specs.Names.{Given, Counted, isGiven, keyOf, Among, Listed, Keyed, Keys, KeyFound, From, Kept, namesWith, keysWith, countsWith, usedWith}
+use Rattle.sizes.specs.Names.{Given, Counted, isGiven, keyOf, Among, Listed, Keyed, Keys, KeyFound, Kept}
 
 -- ---- a list of names
 

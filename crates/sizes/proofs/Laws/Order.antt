@@ -4,20 +4,19 @@ use mathlib.Core.Path.{_≡_, refl, sym, ap, subst, _∙_}
 use mathlib.Core.Logic.{_⊎_, inl, inr}
 use mathlib.Core.Bool.{Bool, true, false, cond}
 use mathlib.Core.List.{List, [], _∷_, _++_, map}
-use Prim.Native.Nat.{ℕ, zero, suc, _+_, _-_, _≤_, _<_, max}
+use Prim.Native.Nat.{ℕ, zero, suc, _+_, _≤_, _<_}
 use native.Mathlib.Omega.{arith}
 use lib.Dec.{eqb}
 use lib.ListN.{length, getD, take, drop, length-map, length-take}
 use lib.Seq.{take-all}
-use borrow.Author.Tests.{eqb-true, eqb-false, eq-eqb, ne-eqb}
-use Rattle.model.specs.Lists.{consIf, filter}
+use borrow.Author.Tests.{eq-eqb, ne-eqb}
+use Rattle.model.specs.Lists.{consIf}
 use Rattle.model.proofs.Offered.{All, All-append, All-map, test}
-use Rattle.text.specs.Class.{newline}
 use Rattle.text.specs.Line.{linesOf, partsOf}
 use Rattle.sizes.specs.Turns.{Turn, turn, texts, oneRound, behind, rounds, longest, turns}
 use Rattle.sizes.specs.Clients.{Shared, Stop, stop, fresh, refusal, after, outcome}
 use Rattle.sizes.specs.Report as report
-use Rattle.sizes.specs.Report.{Report, fits, allAllowed, fewest, sizing}
+use Rattle.sizes.specs.Report.{fits, allAllowed, fewest, sizing}
 use Rattle.sizes.specs.Order.{numbered, ofClient, Earlier, BeforeAll, Rises, InTurn}
 use Rattle.sizes.proofs.Laws.Turns.{lines-few}
 use Rattle.sizes.proofs.Laws.Laid.{fit-few}

@@ -26,7 +26,7 @@ use Rattle.text.specs.Form.{readForm}
 use Rattle.sizes.specs.Turns.{Turn, turns}
 use Rattle.sizes.specs.Clients.{Shared, Stop, stop, give, fresh, asked, translated, refusalOf, sharedAfter, refusal, after, outcome}
 use Rattle.sizes.specs.Report as report
-use Rattle.sizes.specs.Report.{Report, firstFrom, allAllowed, fewest, fits, reportTurns, sizing}
+use Rattle.sizes.specs.Report.{firstFrom, allAllowed, fewest, fits, reportTurns, sizing}
 use Rattle.sizes.specs.Peak.{needs, needsOf, needsAt, peak, sized}
 use Rattle.sizes.proofs.Laws.Fewer.{Same, ask, same-allowed, same-full, same-after, same-fresh}
 

@@ -14,7 +14,7 @@ use Rattle.model.specs.declared.Cap.{Cap}
 use Rattle.model.proofs.Offered.{test, clash, and-both}
 use Rattle.table.specs.Rows.{nameAt, Rise}
 use Rattle.table.proofs.Offered.{last}
-use Rattle.sizes.specs.Names.{Among, Listed, From, Kept}
+use Rattle.sizes.specs.Names.{Listed, From, Kept}
 
 -- x is one of the names of the list from i on
 pub record Ahead (names : List ℕ) (used i x : ℕ) : Type 0 where
@@ -191,7 +191,3 @@ module _ (T : List Cap) (live : ℕ) (names keys : List ℕ) (used : ℕ) (rise 
           go : (ltb k j ≡ true) ⊎ (ltb k j ≡ false) → k < j
           go (inl t) = ltb-true k j t
           go (inr f) = let a = s .ahead k (ltb-false k j f) l in absurd (omega (arith, a .from, a .inside))
-
-  -- where there is room, all stay
-  pub kept-all : length keys ≡ 2048 → Kept T live names keys used names keys used
-  kept-all e = record { listed = listed; long = e; old = λ i l. record { place = i; inside = l; name-is = refl; key-is = refl } }

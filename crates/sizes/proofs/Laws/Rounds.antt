@@ -2,16 +2,16 @@
 -- Assumes nothing.
 use mathlib.Core.Path.{_≡_, refl, sym, ap, subst, _∙_}
 use mathlib.Core.Logic.{_⊎_, inl, inr}
-use mathlib.Core.Bool.{Bool, true, false}
+use mathlib.Core.Bool.{true, false}
 use mathlib.Core.List.{List, [], _∷_, _++_, map, append-assoc}
-use Prim.Native.Nat.{ℕ, zero, suc, _+_, _-_, _≤_, _<_, max, min}
-use native.Mathlib.Nat.{sub-self, sub-zero}
+use Prim.Native.Nat.{ℕ, zero, suc, _+_, _-_, _≤_, _<_, max}
+use native.Mathlib.Nat.{sub-zero}
 use native.Mathlib.Numerals.{add-one}
 use native.Mathlib.Omega.{arith}
 use lib.Dec.{eqb}
 use lib.ListN.{length, getD, set, take, drop, length-set, length-take, length-drop}
 use lib.Seq.{getD-set-same, getD-set-other, drop-drop, length-take-le}
-use borrow.Author.Tests.{eqb-true, eqb-false, eq-eqb}
+use borrow.Author.Tests.{eqb-true, eqb-false}
 use Rattle.model.specs.declared.Name.{Name}
 use Rattle.model.specs.declared.Refusal.{Refusal}
 use Rattle.model.specs.declared.Answer.{Answer}
@@ -20,7 +20,7 @@ use Rattle.model.specs.Answers.{number, verdictOf}
 use Rattle.model.proofs.Offered.{test}
 use Rattle.table.proofs.Offered.{last, numbered}
 use Rattle.text.specs.Class.{newline}
-use Rattle.text.specs.Line.{through, nextLine, linesOf, partsOf}
+use Rattle.text.specs.Line.{through, nextLine, linesOf}
 use Rattle.text.specs.Form.{readForm}
 use Rattle.text.proofs.Offered.{parts-next, through-le, parts-end}
 use Rattle.sizes.specs.declared.turn.Standing.{Standing}
@@ -30,8 +30,8 @@ use Rattle.sizes.specs.Clients.{Shared, stop, refusal, after, sharedAfte
 use Rattle.sizes.specs.Report as report
 use Rattle.sizes.specs.Report.{Report}
 use Rattle.sizes.specs.Peak.{sized}
-use Rattle.sizes.specs.Taken.{Memory, HoldsAt, Taken, Takes}
-use Rattle.sizes.specs.Rounds.{leftAt, linesFrom, Places, Advanced, AllAdvanced, Left, Reached, Runs, turnOf, roundOf}
+use Rattle.sizes.specs.Taken.{Memory, HoldsAt, Takes}
+use Rattle.sizes.specs.Rounds.{leftAt, linesFrom, Places, Advanced, AllAdvanced, Left, Runs, turnOf, roundOf}
 use Rattle.sizes.proofs.Laws.Turns.{sized-on, sized-stop, sized-none, round-first, round-none, turn-none, turn-one, longest-behind, rounds-more, rounds-end, lines-few}
 
 -- an answer is one of the two

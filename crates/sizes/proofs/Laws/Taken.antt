@@ -2,12 +2,12 @@
 -- Assumes nothing.
 use mathlib.Core.Path.{_≡_, refl, sym, ap, subst, _∙_}
 use mathlib.Core.Logic.{_⊎_, inl, inr}
-use mathlib.Core.Bool.{Bool, true, false, cond, _&&_}
+use mathlib.Core.Bool.{Bool, true, false, _&&_}
 use mathlib.Core.List.{List, []}
-use Prim.Native.Nat.{ℕ, zero, suc, _+_, _≤_, _<_, max}
+use Prim.Native.Nat.{ℕ, suc, _≤_, _<_, max}
 use native.Mathlib.Omega.{arith}
 use lib.Dec.{eqb, leb, ltb}
-use lib.ListN.{length, getD, set}
+use lib.ListN.{length, getD}
 use borrow.Author.Tests.{eq-eqb, ne-eqb, leb-true, ltb-true, ltb-false}
 use Rattle.model.specs.declared.Cap.{Cap}
 use Rattle.model.specs.declared.Tally.{Tally}
@@ -18,7 +18,6 @@ use Rattle.model.specs.declared.Event.{Event}
 use Rattle.model.specs.declared.Event.the-variants.{Create, Borrow, Read, Write, Drop}
 use Rattle.model.specs.Lists.{any, first}
 use Rattle.model.specs.Bits.{bitAt}
-use Rattle.model.specs.Requests.{Request}
 use Rattle.model.specs.Slots.{Nothing, unstored}
 use Rattle.model.specs.Table.{named, liveRows}
 use Rattle.model.specs.Refusals.{checks, judge, tableIn}
@@ -35,12 +34,12 @@ use Rattle.table.specs.Known.{Fit}
 use Rattle.table.proofs.Offered.{lookup-place, numbered, orderly-few, orderly-issued, orderly-judge, orderly-live, orderly-rise, length-before}
 use Rattle.rules.specs.declared.Outcome.{Outcome}
 use Rattle.rules.specs.Steps.{lends, Stepped}
-use Rattle.text.specs.Result.{Result, value, refused}
+use Rattle.text.specs.Result.{value, refused}
 use Rattle.sizes.specs.declared.turn.Standing.{Standing}
 use Rattle.sizes.specs.Clients.{Shared, known, translated, give, asked, sharedAfter}
 use Rattle.sizes.specs.Names.{nameIn, renamed, Given, isGiven, keyOf, Beside, Meant, Kept, namesWith, keysWith, countsWith, usedWith, hasEnded, endedFor}
 use Rattle.sizes.specs.Peak.{needs, needsOf}
-use Rattle.sizes.specs.Taken.{Memory, memory, Holds, Went, Answered, Taken, Takes}
+use Rattle.sizes.specs.Taken.{Memory, memory, Holds, Went, Answered, Takes}
 use Rattle.sizes.proofs.Laws.Fewer.{ask, live-left, tally-left}
 use Rattle.sizes.proofs.Laws.Renamed.{translated-renamed, ended-answer, ended-refused, names-after, Makes, none, next, makes}
 use Rattle.sizes.proofs.Laws.Given.{known-inside, known-none, known-some, known-most, beside-known, missing-ended, given-new, listed-same, listed-new, keyed-below, keys-new, counted-new, keys-kept}

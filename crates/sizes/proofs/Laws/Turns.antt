@@ -1,20 +1,17 @@
 -- One run over lines: the next line of a client, a round, and the rounds that follow it.
 -- Assumes nothing.
-use mathlib.Core.Path.{_≡_, refl, sym, ap, _∙_}
-use mathlib.Core.Logic.{_⊎_, inl, inr}
+use mathlib.Core.Path.{_≡_, refl, ap}
 use mathlib.Core.Bool.{Bool, true, false, cond}
 use mathlib.Core.List.{List, [], _∷_, _++_, map}
-use Prim.Native.Nat.{ℕ, zero, suc, _+_, _-_, _≤_, _<_, max}
+use Prim.Native.Nat.{ℕ, suc, _-_, _≤_, _<_, max}
 use native.Mathlib.Omega.{arith}
 use lib.Dec.{eqb}
-use lib.ListN.{length, getD, take, drop, length-take, length-drop}
-use borrow.Author.Tests.{eq-eqb}
+use lib.ListN.{length}
 use Rattle.text.specs.Class.{newline}
-use Rattle.text.specs.Line.{partsOf, nextPart, push, linesOf}
+use Rattle.text.specs.Line.{partsOf, push, linesOf}
 use Rattle.sizes.specs.Turns.{Turn, turn, oneRound, behind, rounds, longest}
 use Rattle.sizes.specs.Clients.{Shared, stop, refusal, after}
 use Rattle.sizes.specs.Report as report
-use Rattle.sizes.specs.Report.{Report}
 use Rattle.sizes.specs.Peak.{needsAt, sized}
 
 -- ---- a run

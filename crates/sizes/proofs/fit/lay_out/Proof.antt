@@ -1,16 +1,12 @@
-use mathlib.Core.Path.{_≡_, refl, sym, ap, subst, _∙_}
-use Prim.Native.Nat.{ℕ, suc, _+_, _-_, _*_, _<_, _≤_}
-use native.Mathlib.Numerals.{add-one}
+-- `sizes::fit::lay_out` meets its contract. The invariant, `Laying`: each text that is passed begins and ends at sums of lengths.
+-- Assumes nothing.
+use Prim.Native.Nat.{_-_}
 use native.Mathlib.Omega.{arith}
-use lib.ListN.{length, getD, set, take}
-use Rattle.model.specs.Limits.{sum}
+use lib.ListN.{length}
 use Rattle.sizes.proofs.Laws.Laid.{Laying, laying-none, laying-more, laying-all}
 use borrow.Author.Needs.{needs}
 use Rattle.sizes.proofs.fit.lay_out.Statement.{statement}
 use Rattle.sizes.proofs.fit.lay_out.Tie as tie
-use Rattle.sizes.proofs.fit.lay_out.Reads as reads
-use Rattle.sizes.proofs.fit.lay_out.Lts as lts
-use Rattle.sizes.proofs.fit.wide.Reads as wide-reads
 
 abbrev Inv-loop : tie.InvT-loop
 Inv-loop lengths at₀ ends₀ place₀ k₀ at ends place k = Laying lengths at ends place k
@@ -21,35 +17,14 @@ abbrev μ-loop : tie.MeasureT-loop
 loop-holds : tie.Need-loop-holds Inv-loop μ-loop
 loop-holds c = laying-none (c .before .args .lengths .now) (c .before .args .at .now) (c .before .args .ends .now) (c .before .pre .1) (c .before .pre .2)
 
-mul-at : tie.Need-mul-at Inv-loop μ-loop
-mul-at c = search needs
-
 element-write-at : tie.Need-element-write-at Inv-loop μ-loop
 element-write-at c = omega (arith, c .before .before .before .pre .0, c .loop-test .taken)
-
-mul-wide : tie.Need-mul-wide Inv-loop μ-loop
-mul-wide c = search needs
-
-shared-slice-read-wide : tie.Need-shared-slice-read-wide Inv-loop μ-loop
-shared-slice-read-wide c = search needs
-
-wide-requires : tie.Need-wide-requires Inv-loop μ-loop
-wide-requires c κs = search needs
 
 add-place : tie.Need-add-place Inv-loop μ-loop
 add-place c = omega (arith, c .before .before .before .before .before .pre .0, c .before .before .loop-test .taken, c .before .before .before .loop .inv .small, c .wide .ensures .1)
 
-mul-ends : tie.Need-mul-ends Inv-loop μ-loop
-mul-ends c = search needs
-
 element-write-ends : tie.Need-element-write-ends Inv-loop μ-loop
 element-write-ends c = omega (arith, c .before .before .before .before .before .pre .0, c .before .before .loop-test .taken)
-
-add-k : tie.Need-add-k Inv-loop μ-loop
-add-k c = search needs
-
-loop-less : tie.Need-loop-less Inv-loop μ-loop
-loop-less c = search needs
 
 loop-again : tie.Need-loop-again Inv-loop μ-loop
 loop-again c = laying-more (c .before .before .before .before .before .args .lengths .now) (c .before .before .before .loop .at) (c .before .before .before .loop .ends) (c .before .before .before .loop .place) (c .before .before .before .loop .k) (c .before .before .before .before .before .pre .0) (c .before .before .before .loop .inv) (c .before .before .loop-test .taken) (c .wide .result) (c .wide .ensures .0) (c .wide .ensures .1)
@@ -64,15 +39,15 @@ lay-out-spec =
     Inv-loop
     μ-loop
     loop-holds
-    mul-at
+    (λ c. search needs)
     element-write-at
-    mul-wide
-    shared-slice-read-wide
-    wide-requires
+    (λ c. search needs)
+    (λ c. search needs)
+    (λ c κs. search needs)
     add-place
-    mul-ends
+    (λ c. search needs)
     element-write-ends
-    add-k
-    loop-less
+    (λ c. search needs)
+    (λ c. search needs)
     loop-again
     returns)

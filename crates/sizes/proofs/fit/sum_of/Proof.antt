@@ -1,16 +1,15 @@
-use mathlib.Core.Path.{_≡_, refl, sym, ap, _∙_}
-use Prim.Native.Nat.{ℕ, suc, _+_, _-_, _*_, _≤_}
+-- `sizes::fit::sum_of` meets its contract. The invariant: the total is the sum of the lengths that are passed.
+-- Assumes nothing.
+use mathlib.Core.Path.{_≡_, refl, ap, _∙_}
+use Prim.Native.Nat.{ℕ, _-_, _*_, _≤_}
 use native.Mathlib.Numerals.{add-one}
 use native.Mathlib.Omega.{arith}
-use lib.ListN.{length, getD, take}
+use lib.ListN.{length, take}
 use Rattle.model.specs.Limits.{sum}
 use Rattle.sizes.proofs.Laws.Laid.{sum-more, sum-all}
 use borrow.Author.Needs.{needs}
 use Rattle.sizes.proofs.fit.sum_of.Statement.{statement}
 use Rattle.sizes.proofs.fit.sum_of.Tie as tie
-use Rattle.sizes.proofs.fit.sum_of.Reads as reads
-use Rattle.sizes.proofs.fit.sum_of.Lts as lts
-use Rattle.sizes.proofs.fit.wide.Reads as wide-reads
 
 abbrev Inv-loop : tie.InvT-loop
 Inv-loop lengths total₀ k₀ total k = (k ≤ length lengths) × (total ≡ sum (take k lengths)) × (total ≤ 4294967296 * k)
@@ -21,23 +20,8 @@ abbrev μ-loop : tie.MeasureT-loop
 loop-holds : tie.Need-loop-holds Inv-loop μ-loop
 loop-holds c = (omega arith, refl, omega arith)
 
-mul-wide : tie.Need-mul-wide Inv-loop μ-loop
-mul-wide c = search needs
-
-shared-slice-read-wide : tie.Need-shared-slice-read-wide Inv-loop μ-loop
-shared-slice-read-wide c = search needs
-
-wide-requires : tie.Need-wide-requires Inv-loop μ-loop
-wide-requires c κs = search needs
-
 add-total : tie.Need-add-total Inv-loop μ-loop
 add-total c = omega (arith, c .before .before .before .before .before .pre, c .before .before .loop-test .taken, c .before .before .before .loop .inv .2, c .wide .ensures .1)
-
-add-k : tie.Need-add-k Inv-loop μ-loop
-add-k c = search needs
-
-loop-less : tie.Need-loop-less Inv-loop μ-loop
-loop-less c = search needs
 
 loop-again : tie.Need-loop-again Inv-loop μ-loop
 loop-again c = (omega (arith, c .before .before .loop-test .taken), omega (arith, c .before .before .before .loop .inv .1, c .wide .ensures .0, sum-more (c .before .before .before .before .before .args .lengths .now) (c .before .before .before .loop .k) (c .before .before .loop-test .taken), ap (λ (m : ℕ). sum (take m (c .before .before .before .before .before .args .lengths .now))) (add-one (c .before .before .before .loop .k))), omega (arith, c .before .before .before .loop .inv .2, c .wide .ensures .1))
@@ -52,11 +36,11 @@ sum-of-spec =
     Inv-loop
     μ-loop
     loop-holds
-    mul-wide
-    shared-slice-read-wide
-    wide-requires
+    (λ c. search needs)
+    (λ c. search needs)
+    (λ c κs. search needs)
     add-total
-    add-k
-    loop-less
+    (λ c. search needs)
+    (λ c. search needs)
     loop-again
     returns)

@@ -1,10 +1,9 @@
-use borrow.Author.Needs.{needs}
+-- `sizes::names::is_given` meets its contract.
+-- Assumes nothing.
 use borrow.Author.Tests.{lt-ltb}
 use native.Mathlib.Omega.{arith}
 use Rattle.sizes.proofs.names.is_given.Statement.{statement}
 use Rattle.sizes.proofs.names.is_given.Tie as tie
-use Rattle.sizes.proofs.names.is_given.Reads as reads
-use Rattle.sizes.proofs.names.is_given.Lts as lts
 
 returns : tie.Need-returns
 returns c = rw (c .if1 .taken)

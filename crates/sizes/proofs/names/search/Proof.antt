@@ -1,3 +1,5 @@
+-- `sizes::names::search` meets its contract. The invariant: the key is not among those from i on.
+-- Assumes nothing.
 use mathlib.Core.Path.{_≡_, subst}
 use mathlib.Core.Logic.{_⊎_, inl, inr}
 use mathlib.Core.Bool.{true, false}
@@ -10,8 +12,6 @@ use borrow.Author.Needs.{needs}
 use lib.ListN.{getD}
 use Rattle.sizes.proofs.names.search.Statement.{statement}
 use Rattle.sizes.proofs.names.search.Tie as tie
-use Rattle.sizes.proofs.names.search.Reads as reads
-use Rattle.sizes.proofs.names.search.Lts as lts
 
 -- what is not at i, nor behind it, is not from i on
 more : {P : ℕ → Type 0} (i used : ℕ) → 0 < i → ((k : ℕ) → i ≤ k → k < used → P k → ⊥) → (P (i - 1) → ⊥) → (k : ℕ) → i - 1 ≤ k → k < used → P k → ⊥
@@ -30,15 +30,6 @@ abbrev μ-loop : tie.MeasureT-loop
 loop-holds : tie.Need-loop-holds Inv-loop μ-loop
 loop-holds c = (omega arith, λ k l m. absurd (omega arith))
 
-sub-i : tie.Need-sub-i Inv-loop μ-loop
-sub-i c = search needs
-
-mul-if1 : tie.Need-mul-if1 Inv-loop μ-loop
-mul-if1 c = search needs
-
-element-copy-out-if1 : tie.Need-element-copy-out-if1 Inv-loop μ-loop
-element-copy-out-if1 c = search needs
-
 returns : tie.Need-returns Inv-loop μ-loop
 returns c =
     record {
@@ -46,9 +37,6 @@ returns c =
       here = λ l. c .if1 .taken;
       none = λ l. absurd (omega (arith, c .before .before .before .loop .inv .0, c .before .before .loop-test .taken));
     }
-
-loop-less : tie.Need-loop-less Inv-loop μ-loop
-loop-less c = search needs
 
 loop-again : tie.Need-loop-again Inv-loop μ-loop
 loop-again c = (omega (arith, c .before .before .before .loop .inv .0), λ k l m. more (c .before .before .before .loop .i) (c .before .before .before .before .args .used) (c .before .before .loop-test .taken) (c .before .before .before .loop .inv .1) (c .if1 .left) k l m)
@@ -63,10 +51,10 @@ search-spec =
     Inv-loop
     μ-loop
     loop-holds
-    sub-i
-    mul-if1
-    element-copy-out-if1
+    (λ c. search needs)
+    (λ c. search needs)
+    (λ c. search needs)
     returns
-    loop-less
+    (λ c. search needs)
     loop-again
     returns-2)

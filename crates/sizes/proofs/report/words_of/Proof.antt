@@ -1,29 +1,8 @@
-use mathlib.Core.Path.{_≡_, refl}
+-- `sizes::report::words_of` meets its contract.
+-- Assumes nothing.
 use borrow.Author.Needs.{needs}
 use Rattle.sizes.proofs.report.words_of.Statement.{statement}
 use Rattle.sizes.proofs.report.words_of.Tie as tie
-use Rattle.sizes.proofs.report.words_of.Reads as reads
-use Rattle.sizes.proofs.report.words_of.Lts as lts
-use Rattle.rules.proofs.answers.number_of.Reads as number-of-reads
-use Rattle.sizes.proofs.report.word_of.Reads as word-of-reads
-
-enum-known-sizing : tie.Need-enum-known-sizing
-enum-known-sizing c = search needs
-
-word-of-requires : tie.Need-word-of-requires
-word-of-requires c κs = search needs
-
-enum-known-sizing-2 : tie.Need-enum-known-sizing-2
-enum-known-sizing-2 c = search needs
-
-number-of-requires : tie.Need-number-of-requires
-number-of-requires c κs = search needs
-
-word-of-requires-2 : tie.Need-word-of-requires-2
-word-of-requires-2 c κs = search needs
-
-word-of-requires-3 : tie.Need-word-of-requires-3
-word-of-requires-3 c κs = search needs
 
 returns : tie.Need-returns
 returns c = rw (c .before .before .sizing .given .1, c .word-of .ensures)
@@ -35,11 +14,11 @@ pub words-of-spec : {M : Type 1} → statement M
 words-of-spec =
     tie.close
     (tie.spec
-    enum-known-sizing
-    word-of-requires
-    enum-known-sizing-2
-    number-of-requires
-    word-of-requires-2
-    word-of-requires-3
+    (λ c. search needs)
+    (λ c κs. search needs)
+    (λ c. search needs)
+    (λ c κs. search needs)
+    (λ c κs. search needs)
+    (λ c κs. search needs)
     returns
     returns-2)

@@ -1,5 +1,6 @@
-use mathlib.Core.Path.{_≡_, refl}
-use mathlib.Core.Bool.{true, false, false≢true}
+-- `sizes::rounds::is_left` meets its contract. The invariant: none of the clients that are passed has a line left.
+-- Assumes nothing.
+use mathlib.Core.Path.{refl}
 use Prim.Native.Nat.{ℕ, _-_, _≤_, _<_}
 use native.Mathlib.Omega.{arith}
 use borrow.Author.Count.{below-more}
@@ -8,8 +9,6 @@ use lib.ListN.{getD}
 use Rattle.model.proofs.Offered.{clash}
 use Rattle.sizes.proofs.rounds.is_left.Statement.{statement}
 use Rattle.sizes.proofs.rounds.is_left.Tie as tie
-use Rattle.sizes.proofs.rounds.is_left.Reads as reads
-use Rattle.sizes.proofs.rounds.is_left.Lts as lts
 
 abbrev Inv-loop : tie.InvT-loop
 Inv-loop at ends clients k₀ k = (k ≤ clients) × ((j : ℕ) → j < k → getD ends j 0 ≤ getD at j 0)
@@ -20,26 +19,8 @@ abbrev μ-loop : tie.MeasureT-loop
 loop-holds : tie.Need-loop-holds Inv-loop μ-loop
 loop-holds c = (omega arith, λ j l. absurd (omega arith))
 
-mul-if1 : tie.Need-mul-if1 Inv-loop μ-loop
-mul-if1 c = search needs
-
-element-copy-out-if1 : tie.Need-element-copy-out-if1 Inv-loop μ-loop
-element-copy-out-if1 c = search needs
-
-mul-if1-2 : tie.Need-mul-if1-2 Inv-loop μ-loop
-mul-if1-2 c = search needs
-
-element-copy-out-if1-2 : tie.Need-element-copy-out-if1-2 Inv-loop μ-loop
-element-copy-out-if1-2 c = search needs
-
 returns : tie.Need-returns Inv-loop μ-loop
 returns c = record { yes = λ t. (c .before .before .before .before .loop .k, (c .before .before .before .loop-test .taken, c .if1 .taken)); no = λ f. clash refl f }
-
-add-k : tie.Need-add-k Inv-loop μ-loop
-add-k c = search needs
-
-loop-less : tie.Need-loop-less Inv-loop μ-loop
-loop-less c = search needs
 
 loop-again : tie.Need-loop-again Inv-loop μ-loop
 loop-again c = (omega (arith, c .before .before .before .loop-test .taken), below-more _ _ (c .before .before .before .before .loop .inv .1) (c .if1 .left))
@@ -54,12 +35,12 @@ is-left-spec =
     Inv-loop
     μ-loop
     loop-holds
-    mul-if1
-    element-copy-out-if1
-    mul-if1-2
-    element-copy-out-if1-2
+    (λ c. search needs)
+    (λ c. search needs)
+    (λ c. search needs)
+    (λ c. search needs)
     returns
-    add-k
-    loop-less
+    (λ c. search needs)
+    (λ c. search needs)
     loop-again
     returns-2)

@@ -1,16 +1,15 @@
-use mathlib.Core.Path.{_≡_, refl, sym, ap, _∙_}
+-- `sizes::rounds::one_round` meets its contract. The invariant, `InRound`: the lines taken so far in this round, and those of the other clients, give what the whole round gives.
+-- Assumes nothing.
+use mathlib.Core.Path.{_≡_, refl, _∙_}
 use mathlib.Core.List.{[]}
-use Prim.Native.Nat.{ℕ, suc, _-_, _<_, _≤_}
+use Prim.Native.Nat.{_-_}
 use native.Mathlib.Omega.{arith}
-use lib.ListN.{getD, length}
+use lib.ListN.{length}
 use Rattle.sizes.specs.Taken.{memory}
 use Rattle.sizes.proofs.Laws.Rounds.{refused-allowed, InRound, in-round-none, in-round-more, in-round-stops, round-advanced, round-runs}
 use borrow.Author.Needs.{needs}
 use Rattle.sizes.proofs.rounds.one_round.Statement.{statement}
 use Rattle.sizes.proofs.rounds.one_round.Tie as tie
-use Rattle.sizes.proofs.rounds.one_round.Reads as reads
-use Rattle.sizes.proofs.rounds.one_round.Lts as lts
-use Rattle.sizes.proofs.rounds.take_turn.Reads as take-turn-reads
 
 abbrev Inv-loop : tie.InvT-loop
 Inv-loop text at₀ ends clients table₀ places₀ bits₀ names₀ keys₀ note₀ counts₀ now₀ client₀ at table places bits names keys note counts now client =
@@ -30,12 +29,6 @@ take-turn-requires c κs =
     let l = c .before .before .before .before .before .before .before .before .loop-test .taken in
     (record { shared = g .shared; holds = g .holds }, omega (arith, c .before .before .before .before .before .before .before .before .before .before .before .before .pre .1), so .places .long, so .places .rising (c .before .before .before .before .before .before .before .before .before .loop .client) l, so .places .inside (c .before .before .before .before .before .before .before .before .before .loop .client) l)
 
-add-client : tie.Need-add-client Inv-loop μ-loop
-add-client c = search needs
-
-enum-known-answer : tie.Need-enum-known-answer Inv-loop μ-loop
-enum-known-answer c = search needs
-
 same-length : tie.Need-same-length Inv-loop μ-loop
 same-length c = c .before .before .before .before .before .before .table .given ∙ c .before .before .before .before .before .before .before .before .before .before .before .before .before .before .before .before .before .loop .inv .1
 
@@ -51,12 +44,6 @@ returns c =
     let m = (memory (c .before .before .before .before .before .before .before .before .before .before .before .before .before .before .before .before .before .loop .table) (c .before .before .before .before .before .before .before .before .before .before .before .before .before .before .before .before .before .loop .bits) (c .before .before .before .before .before .before .before .before .before .before .before .before .before .before .before .before .before .loop .places) (c .before .before .before .before .before .before .before .before .before .before .before .before .before .before .before .before .before .loop .names) (c .before .before .before .before .before .before .before .before .before .before .before .before .before .before .before .before .before .loop .keys) (c .before .before .before .before .before .before .before .before .before .before .before .before .before .before .before .before .before .loop .counts)) in
     let m′ = (memory (done .last .1 .1 .1 .0) (done .last .1 .1 .1 .1 .1 .0) (done .last .1 .1 .1 .1 .0) (done .last .1 .1 .1 .1 .1 .1 .0) (done .last .1 .1 .1 .1 .1 .1 .1 .0) (done .last .1 .1 .1 .1 .1 .1 .1 .1 .1 .0)) in
     (λ x e. refused-allowed e refl, in-round-stops (a .text .now) (a .at .now) (a .ends .now) (a .clients) m₀ (a .from) (c .before .before .before .before .before .before .before .before .before .before .before .before .before .before .before .before .before .loop .at) m (c .before .before .before .before .before .before .before .before .before .before .before .before .before .before .before .before .before .loop .now) (c .before .before .before .before .before .before .before .before .before .before .before .before .before .before .before .before .before .loop .client) so (c .before .before .before .before .before .before .before .before .before .before .before .before .before .before .before .before .loop-test .taken) (done .last .1 .0) m′ (done .result .answer) (done .result .standing) (done .ensures .1) (c .before .answer .given .0 .0) (c .before .answer .given .1))
-
-enum-told : tie.Need-enum-told Inv-loop μ-loop
-enum-told c = search needs
-
-loop-less : tie.Need-loop-less Inv-loop μ-loop
-loop-less c = search needs
 
 loop-again : tie.Need-loop-again Inv-loop μ-loop
 loop-again c =
@@ -92,13 +79,13 @@ one-round-spec =
     μ-loop
     loop-holds
     take-turn-requires
-    add-client
-    enum-known-answer
+    (λ c. search needs)
+    (λ c. search needs)
     same-length
     same-length-2
     returns
-    enum-told
-    loop-less
+    (λ c. search needs)
+    (λ c. search needs)
     loop-again
     same-length-3
     same-length-4

@@ -1,8 +1,9 @@
-use mathlib.Core.Path.{_≡_, refl, sym, ap, subst, _∙_}
-use mathlib.Core.Bool.{Bool, true, false}
-use Prim.Native.Nat.{ℕ, suc, _-_, _<_, _≤_}
+-- `sizes::rounds::run_clients` meets its contract. The invariant, `InRounds`: the rounds that are left, from what the clients share now, give the report of all. There are as many as the longest rest has lines.
+-- Assumes nothing.
+use mathlib.Core.Path.{_≡_, refl, subst, _∙_}
+use mathlib.Core.Bool.{true}
 use native.Mathlib.Omega.{arith}
-use lib.ListN.{getD, length}
+use lib.ListN.{length}
 use Rattle.sizes.specs.Turns.{longest}
 use Rattle.sizes.specs.Taken.{memory}
 use Rattle.sizes.specs.Rounds.{linesFrom, Left}
@@ -10,10 +11,6 @@ use Rattle.sizes.proofs.Laws.Rounds.{InRounds, in-rounds-none, in-round
 use borrow.Author.Needs.{needs}
 use Rattle.sizes.proofs.rounds.run_clients.Statement.{statement}
 use Rattle.sizes.proofs.rounds.run_clients.Tie as tie
-use Rattle.sizes.proofs.rounds.run_clients.Reads as reads
-use Rattle.sizes.proofs.rounds.run_clients.Lts as lts
-use Rattle.sizes.proofs.rounds.is_left.Reads as is-left-reads
-use Rattle.sizes.proofs.rounds.one_round.Reads as one-round-reads
 
 abbrev Inv-loop : tie.InvT-loop
 Inv-loop text at₀ ends clients table₀ places₀ bits₀ names₀ keys₀ note₀ counts₀ now₀ line₀ at table places bits names keys note counts now line =
@@ -35,9 +32,6 @@ one-round-requires c κs =
     let g = so .each (c .before .before .before .before .before .before .before .before .before .before .before .before .before .before .pre .0 .shared) (c .before .before .before .before .before .before .before .before .before .before .before .before .before .before .pre .0 .holds) in
     (record { shared = g .shared; holds = g .holds }, c .before .before .before .before .before .before .before .before .before .before .before .before .before .before .pre .1, so .places)
 
-enum-known-answer : tie.Need-enum-known-answer Inv-loop μ-loop
-enum-known-answer c = search needs
-
 same-length : tie.Need-same-length Inv-loop μ-loop
 same-length c = c .before .before .before .before .before .before .table .given ∙ c .before .before .before .before .before .before .before .before .before .before .before .before .before .before .before .before .before .before .before .loop .inv .1
 
@@ -54,9 +48,6 @@ returns c =
     let done = c .before .before .before .before .before .before .before .one-round in
     let m′ = (memory (done .last .1 .1 .1 .1 .0) (done .last .1 .1 .1 .1 .1 .1 .0) (done .last .1 .1 .1 .1 .1 .0) (done .last .1 .1 .1 .1 .1 .1 .1 .0) (done .last .1 .1 .1 .1 .1 .1 .1 .1 .0) (done .last .1 .1 .1 .1 .1 .1 .1 .1 .1 .1 .0)) in
     in-rounds-stops (a .text .now) (a .at .now) (a .ends .now) (a .clients) (c .before .before .before .before .before .before .before .before .before .before .before .before .before .before .before .before .before .before .before .before .before .before .pre .1) m₀ (a .from) (c .before .before .before .before .before .before .before .before .before .before .before .before .before .before .before .before .before .before .before .loop .at) m (c .before .before .before .before .before .before .before .before .before .before .before .before .before .before .before .before .before .before .before .loop .now) (c .before .before .before .before .before .before .before .before .before .before .before .before .before .before .before .before .before .before .before .loop .line) so some (done .last .1 .0) m′ (done .result .answer) (done .result .client) (done .result .standing) (done .ensures .1) (c .before .answer .given .0 .0) (c .before .answer .given .1)
-
-enum-told : tie.Need-enum-told Inv-loop μ-loop
-enum-told c = search needs
 
 add-line : tie.Need-add-line Inv-loop μ-loop
 add-line c =
@@ -112,11 +103,11 @@ run-clients-spec =
     loop-holds
     is-left-requires
     one-round-requires
-    enum-known-answer
+    (λ c. search needs)
     same-length
     same-length-2
     returns
-    enum-told
+    (λ c. search needs)
     add-line
     loop-less
     loop-again

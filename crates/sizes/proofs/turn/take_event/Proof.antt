@@ -1,6 +1,7 @@
-use mathlib.Core.Path.{_≡_, refl, sym, ap, subst, _∙_}
-use Prim.Native.Nat.{ℕ, suc, max}
-use native.Mathlib.Omega.{arith}
+-- `sizes::turn::take_event` meets its contract: what is kept of names, with the new one, is that of what the clients share then.
+-- Assumes nothing.
+use mathlib.Core.Path.{sym, subst, _∙_}
+use Prim.Native.Nat.{ℕ, suc}
 use lib.ListN.{length, getD}
 use Rattle.table.specs.Words.{rowsIn}
 use Rattle.table.proofs.Offered.{orderly-rise}
@@ -12,14 +13,6 @@ use Rattle.sizes.proofs.Laws.Taken.{live-few, count-few, held, needed, 
 use borrow.Author.Needs.{needs}
 use Rattle.sizes.proofs.turn.take_event.Statement.{statement}
 use Rattle.sizes.proofs.turn.take_event.Tie as tie
-use Rattle.sizes.proofs.turn.take_event.Reads as reads
-use Rattle.sizes.proofs.turn.take_event.Lts as lts
-use Rattle.sizes.proofs.names.give.Reads as give-reads
-use Rattle.sizes.proofs.names.make_room.Reads as make-room-reads
-use Rattle.sizes.proofs.turn.ask.Reads as ask-reads
-use Rattle.sizes.proofs.turn.larger.Reads as larger-reads
-use Rattle.sizes.proofs.turn.need_of.Reads as need-of-reads
-use Rattle.sizes.proofs.turn.new_name.Reads as new-name-reads
 
 make-room-requires : tie.Need-make-room-requires
 make-room-requires c κs = let hold = c .before .before .before .before .before .pre .0 .holds in let a = c .before .before .before .before .before .args in (live-few hold, orderly-rise (rowsIn (a .table .now)) (length (a .table .now)) (a .from .live) (a .from .tally .issued) (hold .fit .known .orderly), hold .listed, hold .keyed .room)
@@ -27,23 +20,11 @@ make-room-requires c κs = let hold = c .before .before .before .before .before 
 need-of-requires : tie.Need-need-of-requires
 need-of-requires c κs = live-few (c .before .before .before .before .before .before .pre .0 .holds)
 
-larger-requires : tie.Need-larger-requires
-larger-requires c κs = search needs
-
 ask-requires : tie.Need-ask-requires
 ask-requires c κs = (record { shared = c .before .before .before .before .before .before .before .before .before .before .before .before .before .before .before .pre .0 .shared; holds = held-kept (c .before .before .before .before .before .before .before .before .before .before .before .before .before .before .before .pre .0 .holds) (c .before .before .before .before .before .before .before .before .before .make-room .ensures .0) }, c .before .before .before .before .before .before .before .before .before .before .before .before .before .before .before .pre .1)
 
-new-name-requires : tie.Need-new-name-requires
-new-name-requires c κs = search needs
-
 give-requires : tie.Need-give-requires
 give-requires c κs = (c .before .before .before .before .before .before .before .before .before .before .before .before .before .before .before .before .before .before .before .before .make-room .ensures .1, c .before .before .before .before .before .before .before .before .before .before .before .before .before .before .before .before .before .before .before .before .before .before .before .before .before .before .pre .1, count-few (c .before .before .before .before .before .before .before .before .before .before .before .before .before .before .before .before .before .before .before .before .before .before .before .before .before .before .pre .0 .holds) (c .before .before .before .before .before .before .before .before .before .before .before .before .before .before .before .before .before .before .before .before .before .before .before .before .before .before .args .client) (c .before .before .before .before .before .before .before .before .before .before .before .before .before .before .before .before .before .before .before .before .before .before .before .before .before .before .pre .1))
-
-same-length : tie.Need-same-length
-same-length c = search needs
-
-same-length-2 : tie.Need-same-length-2
-same-length-2 c = search needs
 
 returns : tie.Need-returns
 returns c =
@@ -76,10 +57,10 @@ take-event-spec =
     (tie.spec
     make-room-requires
     need-of-requires
-    larger-requires
+    (λ c κs. search needs)
     ask-requires
-    new-name-requires
+    (λ c κs. search needs)
     give-requires
-    same-length
-    same-length-2
+    (λ c. search needs)
+    (λ c. search needs)
     returns)

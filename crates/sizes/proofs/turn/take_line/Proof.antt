@@ -1,3 +1,5 @@
+-- `sizes::turn::take_line` meets its contract: the event that the line spells, or refusal 2.
+-- Assumes nothing.
 use mathlib.Core.Path.{_≡_, sym, ap, subst, _∙_}
 use Prim.Native.Nat.{suc}
 use Rattle.model.specs.declared.Event.{Event}
@@ -10,28 +12,6 @@ use Rattle.sizes.proofs.Laws.Taken.{taken-misspelt}
 use borrow.Author.Needs.{needs}
 use Rattle.sizes.proofs.turn.take_line.Statement.{statement}
 use Rattle.sizes.proofs.turn.take_line.Tie as tie
-use Rattle.sizes.proofs.turn.take_line.Reads as reads
-use Rattle.sizes.proofs.turn.take_line.Lts as lts
-use Rattle.sizes.proofs.turn.take_event.Reads as take-event-reads
-use Rattle.text.proofs.form.read_form.Reads as read-form-reads
-
-read-form-requires : tie.Need-read-form-requires
-read-form-requires c κs = search needs
-
-enum-known-read : tie.Need-enum-known-read
-enum-known-read c = search needs
-
-take-event-requires : tie.Need-take-event-requires
-take-event-requires c κs = search needs
-
-enum-known-read-2 : tie.Need-enum-known-read-2
-enum-known-read-2 c = search needs
-
-same-length : tie.Need-same-length
-same-length c = search needs
-
-same-length-2 : tie.Need-same-length-2
-same-length-2 c = search needs
 
 returns : tie.Need-returns
 returns c =
@@ -51,11 +31,11 @@ pub take-line-spec : {M : Type 1} → statement M
 take-line-spec =
     tie.close
     (tie.spec
-    read-form-requires
-    enum-known-read
-    take-event-requires
-    enum-known-read-2
-    same-length
-    same-length-2
+    (λ c κs. search needs)
+    (λ c. search needs)
+    (λ c κs. search needs)
+    (λ c. search needs)
+    (λ c. search needs)
+    (λ c. search needs)
     returns
     returns-2)
