@@ -25,7 +25,8 @@ use Rattle.text.specs.Form.{form01, inForm}
 use Rattle.sizes.specs.Turns.{Turn, texts, oneRound, rounds, longest, turns}
 use Rattle.sizes.specs.Clients.{stop, translated, refusal, outcome}
 use Rattle.sizes.specs.Clients
-use Rattle.sizes.specs.Report.{Report, rows, refused, fits, firstFrom, sizing}
+use Rattle.kelzoud_events.specs.Interface.{packed}
+use Rattle.sizes.specs.Report.{Report, rows, refused, fits, firstFrom, sizing, reportWords, packedReport, reportLine}
 
 -- the texts, end to end; their lengths; and the report
 record Example : Type 0 where
@@ -59,6 +60,7 @@ refusedOnes =
     ∷ for "(create 0 8 rw)\n(read 1 4294967295 2)\n" (16 ∷ 22 ∷ []) (refused (stop 3 2 1))
     ∷ for "(create 0 8 rw)\n(drop 1)\n(read 1 0 8)\n" (38 ∷ []) (refused (stop 5 1 3))
     ∷ for "(drop 0)\n" (9 ∷ []) (refused (stop 4 1 1))
+    ∷ for "(create 0 8 rw)\n(drop 0)\n" (25 ∷ []) (refused (stop 4 1 2))
     ∷ for "(create 0 8 rw)\n(create 64 8 rw)\n(read 2 64 8)\n" (16 ∷ 31 ∷ []) (refused (stop 4 2 2))
     ∷ for "(create 0 8 rw)\n(create 64 8 rw)" (16 ∷ 16 ∷ []) (refused (stop 2 2 1))
     ∷ for "(create 0 8 rw)\n(drop 2)\n(drop 1)\n" (25 ∷ 9 ∷ []) (refused (stop 4 2 1))
@@ -99,3 +101,19 @@ inTurn : map {B = ℕ × ℕ} (λ (t : Turn). (t .client, t .number)) (turns (by
     ≡ (1, 1) ∷ (3, 1) ∷ (1, 2) ∷ (3, 2) ∷ (3, 3) ∷ []
 unfolding classOf push partsOf texts oneRound rounds longest
 inTurn = refl
+
+-- a report in words, as one number and as the line that `capsize` prints: rows, at most 1,024, and a refusal, with its line's number up to what 32
+-- bits hold
+inWords : (reportWords (rows 0) ≡ 0 ∷ 0 ∷ 0 ∷ 0 ∷ [])
+    × (reportWords (rows 1024) ≡ 0 ∷ 1024 ∷ 0 ∷ 0 ∷ [])
+    × (reportWords (refused (stop 10 8 4294967295)) ≡ 10 ∷ 0 ∷ 8 ∷ 4294967295 ∷ [])
+    × (reportWords (refused (stop 2 0 0)) ≡ 2 ∷ 0 ∷ 0 ∷ 0 ∷ [])
+inWords = (refl, refl, refl, refl)
+
+inOneNumber : (packedReport (rows 1024) ≡ 1024) × (packedReport (refused (stop 10 8 3)) ≡ 42949672960)
+unfolding packed
+inOneNumber = (refl, refl)
+
+inText : (reportLine (rows 3) ≡ bytes "(rows 3)\n") × (reportLine (refused (stop 5 2 4294967295)) ≡ bytes "(refused 5 2 4294967295)\n")
+unfolding reportLine spaced decimal numeral
+inText = (refl, refl)

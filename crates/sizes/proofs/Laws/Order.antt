@@ -9,17 +9,18 @@ use native.Mathlib.Omega.{arith}
 use lib.Dec.{eqb}
 use lib.ListN.{length, getD, take, drop, length-map, length-take}
 use lib.Seq.{take-all}
-use borrow.Author.Tests.{eq-eqb, ne-eqb}
+use borrow.Author.Tests.{eqb-true, eq-eqb, ne-eqb}
 use Rattle.model.specs.Lists.{consIf}
 use Rattle.model.proofs.Offered.{All, All-append, All-map, test}
 use Rattle.text.specs.Line.{linesOf, partsOf}
 use Rattle.sizes.specs.Turns.{Turn, turn, texts, oneRound, behind, rounds, longest, turns}
 use Rattle.sizes.specs.Clients.{Shared, Stop, stop, fresh, refusal, after, outcome}
 use Rattle.sizes.specs.Report as report
-use Rattle.sizes.specs.Report.{fits, allAllowed, fewest, sizing}
+use Rattle.sizes.specs.Report.{fits, allAllowed, fewest, sizing, word, reportWords}
 use Rattle.sizes.specs.Order.{numbered, ofClient, Earlier, BeforeAll, Rises, InTurn}
 use Rattle.sizes.proofs.Laws.Turns.{lines-few}
 use Rattle.sizes.proofs.Laws.Laid.{fit-few}
+use Rattle.sizes.proofs.Laws.Peak.{peak-fits, fewest-peak}
 
 -- ---- lists
 
@@ -208,3 +209,33 @@ report-fits text lengths most s a e = go (test (fits text lengths))
         stopped (inr n) =
             let z : report.refused (outcome (fresh 1024) (turns text lengths)) ≡ report.refused s = rw (t, n) at e in
             subst (λ (r : Stop). (r .client ≤ 8) × (r .line ≤ most)) (same z) bounded
+
+-- the rows that are reported are at most 1,024
+rows-few : (text lengths : List ℕ) (n : ℕ) → sizing text lengths ≡ report.rows n → n ≤ 1024
+unfolding sizing
+rows-few text lengths n e = go (test (fits text lengths)) (test (allAllowed 1024 (turns text lengths)))
+  where
+    go : (fits text lengths ≡ true) ⊎ (fits text lengths ≡ false) → (allAllowed 1024 (turns text lengths) ≡ true) ⊎ (allAllowed 1024 (turns text lengths) ≡ false) → n ≤ 1024
+    go (inr f) b = absurd (let z : report.refused (stop 2 0 0) ≡ report.rows n = rw f at e in let o : _≡_ {A = ℕ} 0 1 = cc in omega arith)
+    go (inl t) (inr f) = absurd (let z : report.refused (outcome (fresh 1024) (turns text lengths)) ≡ report.rows n = rw (t, f) at e in let o : _≡_ {A = ℕ} 0 1 = cc in omega arith)
+    go (inl t) (inl y) =
+        let z : report.rows (fewest (turns text lengths)) ≡ report.rows n = rw (t, y) at e in
+        let same : fewest (turns text lengths) ≡ n = cc in
+        let q = eqb-true (outcome (fresh 1024) (turns text lengths) .refusal) 0 y in
+        omega (arith, same, fewest-peak (turns text lengths) q, peak-fits (turns text lengths) q)
+
+-- So its words are the numbers themselves.
+pub words-whole : (text lengths : List ℕ) → All (λ n. n ≤ 4294967295) lengths
+    → ((s : Stop) → sizing text lengths ≡ report.refused s → reportWords (report.refused s) ≡ s .refusal ∷ 0 ∷ s .client ∷ s .line ∷ [])
+    × ((n : ℕ) → sizing text lengths ≡ report.rows n → reportWords (report.rows n) ≡ 0 ∷ n ∷ 0 ∷ 0 ∷ [])
+words-whole text lengths a = (refusal-whole, rows-whole)
+  where
+    refusal-whole : (s : Stop) → sizing text lengths ≡ report.refused s → reportWords (report.refused s) ≡ s .refusal ∷ 0 ∷ s .client ∷ s .line ∷ []
+    refusal-whole s e =
+        let f = report-fits text lengths 4294967295 s a e in
+        let c : word (s .client) ≡ s .client = omega (arith, f .0) in
+        let l : word (s .line) ≡ s .line = omega (arith, f .1) in
+        λ j. s .refusal ∷ 0 ∷ c j ∷ l j ∷ []
+
+    rows-whole : (n : ℕ) → sizing text lengths ≡ report.rows n → reportWords (report.rows n) ≡ 0 ∷ n ∷ 0 ∷ 0 ∷ []
+    rows-whole n e = let r : word n ≡ n = omega (arith, rows-few text lengths n e) in λ j. 0 ∷ r j ∷ 0 ∷ 0 ∷ []
