@@ -2,6 +2,7 @@
 use model::Event;
 use model::Name;
 use table::Row;
+use table::ordered::wide;
 use table::words::row_at;
 ghost use mathlib.Core.Path.{_≡_};
 ghost use mathlib.Core.Bool.{cond, _&&_};
@@ -82,12 +83,6 @@ fn search(keys: &Entries, used: usize, key: u32) -> usize
         }
     }
     used
-}
-
-fn wide(place: u16) -> usize
-    ensures { λ r. ⌜ r ≡ place ⌝ }
-{
-    place as usize
 }
 
 // The same, where the note is tried first, and renewed where it was wrong.
