@@ -194,6 +194,7 @@ fn take_event(
     };
     Turned { answer, standing }
 }
+
 // A line of a client, in document 01's form.
 pub fn take_line(
     table: &mut [Row],
