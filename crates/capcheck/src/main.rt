@@ -1,4 +1,6 @@
 // capcheck: runs the trace on standard input, and prints its verdict and the listing of the table after it.
+#![tactic(auto)]
+
 fn main() {
     console::check_input();
 }

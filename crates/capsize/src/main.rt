@@ -1,6 +1,8 @@
 // capsize: how many rows a table needs for the clients whose traces stand in the files that are its arguments, one client in each. What is
 // printed is what `sizes::sizes_text` is proved to give of them. The files are opened here and not by the script in front, so that no
 // trace is copied, or measured before it is read.
+#![tactic(auto)]
+
 ghost use Rattle.std.specs.Prelude.{◌≤◌, ◌≡◌, length};
 ghost use Rattle.console.specs.Read.{ReadInto};
 ghost use Rattle.capsize.specs.Read.{Short};

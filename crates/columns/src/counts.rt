@@ -5,7 +5,7 @@ ghost use Rattle.columns.specs.Walk.{count_if, with_kind, used_by};
 use crate::Used;
 
 // The names, the spans and the rights: entries of a column, or the place of the next one.
-#[derive(Drop)]
+#[derive(Clone, Copy)]
 pub struct Counts {
     pub names: usize,
     pub spans: usize,
@@ -13,7 +13,7 @@ pub struct Counts {
 }
 
 // Those of a list, or that it has an event of no form or a kind that is none.
-#[derive(Drop)]
+#[derive(Clone, Copy)]
 pub enum Counted {
     All(Counts),
     Other,

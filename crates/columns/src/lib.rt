@@ -1,6 +1,8 @@
 // Card 12, "traces by column": events with a spelling in document 01's form, put into columns of like values, and back.
 //
 // An event stands in a lent list as the twelve words of the C interface. Kinds and rights are bytes, all other entries are words.
+#![tactic(auto)]
+
 ghost use Rattle.std.specs.Prelude.{◌≡◌};
 ghost use Rattle.columns.specs.Columns.{columns};
 ghost use Rattle.columns.specs.Lent.{moved_of, moved_to, stored_to, moved_from, stored_from, packed_moved, counts_after};
@@ -17,7 +19,7 @@ pub mod to;
 mod words;
 
 // How many entries were used in each list.
-#[derive(Drop)]
+#[derive(Clone, Copy)]
 pub struct Used {
     pub events: u32,
     pub kinds: u32,
@@ -28,7 +30,7 @@ pub struct Used {
 }
 
 // What either way answers: the entries used, or refusal 2 or 11.
-#[derive(Drop)]
+#[derive(Clone, Copy)]
 pub enum Moved {
     All(Used),
     Refused(Refusal),

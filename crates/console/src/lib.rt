@@ -1,12 +1,14 @@
 // Standard input and output, for the programs that take traces. No contract can say what is read or written; what `print_check` prints is
 // what `trace::check_text` is proved to give.
+#![tactic(auto)]
+
 ghost use Rattle.console.specs.Read.{ReadInto};
 
 use libc::{STDERR_FILENO, STDIN_FILENO, STDOUT_FILENO};
 use table::WIDTH;
 
 // What came of reading an input: so many bytes, or a read that failed.
-#[derive(Drop)]
+#[derive(Clone, Copy)]
 pub enum Input {
     Read(usize),
     Failed,

@@ -1,5 +1,7 @@
 // The calls of the C interface for texts, over words and bytes that are lent, and nothing else. Those for events alone are of the crate
 // `kelzoud_events`.
+#![tactic(auto)]
+
 ghost use Rattle.std.specs.Prelude.{◌≡◌, true};
 ghost use Rattle.model.specs.Requests.{Unlimited};
 ghost use Rattle.kelzoud_events.specs.Interface.{packed, request_in};

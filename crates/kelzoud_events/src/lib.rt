@@ -1,4 +1,6 @@
 // The calls of the C interface for events alone, over words that are lent, and nothing else.
+#![tactic(auto)]
+
 ghost use Rattle.std.specs.Prelude.{◌≡◌};
 ghost use Rattle.model.specs.Charge;
 ghost use Rattle.model.specs.Step;

@@ -9,7 +9,7 @@ use table::{Row, words};
 use text::{masks, numbers, pieces, read};
 
 // How many bytes of the text are left, and how many rows were stored.
-#[derive(Drop)]
+#[derive(Clone, Copy)]
 pub struct Place {
     pub left: usize,
     pub count: usize,
@@ -44,7 +44,7 @@ fn last(text: &[u8], count: usize) -> &[u8]
 }
 
 // The head of a form: its row, and how many bytes are left behind its mask of holders.
-#[derive(Drop)]
+#[derive(Clone, Copy)]
 pub struct Head {
     pub row: Cap,
     pub left: usize,

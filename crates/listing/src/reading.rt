@@ -18,7 +18,7 @@ use text::write::Written;
 use text::{classes, lines, numbers};
 
 // What reading answers: the issued number, or refusal 1, 2 or 10. `listing_answer` of specs/ gives document 01's number and values.
-#[derive(Drop)]
+#[derive(Clone, Copy)]
 pub enum ListingRead {
     Issued(u32),
     Refused(Refusal),

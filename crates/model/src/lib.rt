@@ -1,19 +1,20 @@
 // The values of document 01 as types. The definitions over them are in specs/, the theorems about those in proofs/.
 // There is no code here: the crate is what a reader has to believe, and what the code above it is proved against.
+#![tactic(auto)]
 
 // Document 01, "Values", name: 1 to 1,000,000, given out in order, never twice; 0 stands for no parent.
 // A name is never an address, so each has a type of its own.
 #[repr(C)]
-#[derive(Drop)]
+#[derive(Clone, Copy)]
 pub struct Name(pub u32);
 
 // "Values", address: 0 to 4,294,967,295.
 #[repr(C)]
-#[derive(Drop)]
+#[derive(Clone, Copy)]
 pub struct Addr(pub u32);
 
 // "Values", span: a start and a length.
-#[derive(Drop)]
+#[derive(Clone, Copy)]
 pub struct Span {
     pub start: Addr,
     pub length: u32,
@@ -24,7 +25,7 @@ pub struct Span {
 // domain and a 64-bit mask of holders", domain D being worth 2^D. In a table in order the right is 1 (`ro`) or 2 (`rw`), the kind at most 2,
 // and the maker at most 63. In C the mask is two words, so that a row is eleven words of 32 bits and no byte of it is padding.
 #[repr(C)]
-#[derive(Drop)]
+#[derive(Clone, Copy)]
 pub struct Cap {
     pub name: Name,
     pub parent: Name,
@@ -40,7 +41,7 @@ pub struct Cap {
 
 // "Values", the tally: names issued, the allowed events of each of the five kinds, and refused events.
 #[repr(C)]
-#[derive(Drop)]
+#[derive(Clone, Copy)]
 pub struct Tally {
     pub issued: u32,
     pub creates: u32,
@@ -52,7 +53,7 @@ pub struct Tally {
 }
 
 // Card 1, "names written out": the name that a create or borrow writes out for what it makes, any 32-bit number; or none.
-#[derive(Drop)]
+#[derive(Clone, Copy)]
 pub enum NewName {
     Unwritten,
     Written(Name),
@@ -61,7 +62,7 @@ pub enum NewName {
 // What a create or borrow gives to what it makes besides a span: the right; by card 6 the kind, which is 0 in a create ("Creates make
 // references"); and by card 9 whether it is `fresh`, 1, or not, 0, as in every borrow. Each may be any byte. Card 10: "a 64-bit mask of
 // holders, given by the maker at creation or borrowing and including itself".
-#[derive(Drop)]
+#[derive(Clone, Copy)]
 pub struct Terms {
     pub right: u8,
     pub kind: u8,
@@ -70,7 +71,7 @@ pub struct Terms {
 }
 
 // "Values", an event: one of five kinds, each with its own values. The names, starts and lengths may be any 32-bit numbers.
-#[derive(Drop)]
+#[derive(Clone, Copy)]
 pub enum Event {
     Create(NewName, Span, Terms),
     Borrow(NewName, Name, Span, Terms),
@@ -81,14 +82,14 @@ pub enum Event {
 
 // What works on the table, and by which domain: an event, or, card 5, that the names which are lent beside it are dropped together. An enum holds
 // no list, so the names stand beside; `work_of` of specs/Requests puts both together. The domain may be any 32-bit number.
-#[derive(Drop)]
+#[derive(Clone, Copy)]
 pub enum Work {
     Single(u32, Event),
     Group(u32),
 }
 
 // What is asked: such work; or, card 11, a mark or a back, by which domain and in which slot, each any 32-bit number.
-#[derive(Drop)]
+#[derive(Clone, Copy)]
 pub enum Asked {
     Work(Work),
     Mark(u32, u32),
@@ -96,14 +97,14 @@ pub enum Asked {
 }
 
 // "What each event does": the two kinds of access to memory.
-#[derive(Drop)]
+#[derive(Clone, Copy)]
 pub enum Access {
     Reading,
     Writing,
 }
 
 // Card 7, "conflict sheets that makers edit": "Results are `keep`, `lower`, `end`."
-#[derive(Drop)]
+#[derive(Clone, Copy)]
 pub enum Effect {
     Keep,
     Lower,
@@ -111,7 +112,7 @@ pub enum Effect {
 }
 
 // Card 7: where an access comes from, "for a user outside the holder's subtree".
-#[derive(Drop)]
+#[derive(Clone, Copy)]
 pub enum Origin {
     Cell,
     Kin,
@@ -119,20 +120,20 @@ pub enum Origin {
 }
 
 // Card 7: the 18 results of a sheet, by the kind of the holder, then by the access, then by where the access comes from.
-#[derive(Drop)]
+#[derive(Clone, Copy)]
 pub struct Results {
     pub cell: Effect,
     pub kin: Effect,
     pub stranger: Effect,
 }
 
-#[derive(Drop)]
+#[derive(Clone, Copy)]
 pub struct Conflicts {
     pub read: Results,
     pub write: Results,
 }
 
-#[derive(Drop)]
+#[derive(Clone, Copy)]
 pub struct Sheet {
     pub reference: Conflicts,
     pub raw: Conflicts,
@@ -140,7 +141,7 @@ pub struct Sheet {
 }
 
 // "Eleven ways to be turned down", and those of the cards: each is named for its condition.
-#[derive(Drop)]
+#[derive(Clone, Copy)]
 pub enum Refusal {
     // 1: table not in order, written bits of another length than 8,192 bytes, a sheet of limits that is refused, memory for other than eight
     // states, or, in a back, a stored table that is not in order, over a limit, or of another number of rows.
@@ -185,7 +186,7 @@ pub enum Refusal {
 }
 
 // The answer to an event: allowed, with the new name of a create or borrow and name 0 of the others; or refused.
-#[derive(Drop)]
+#[derive(Clone, Copy)]
 pub enum Answer {
     Allowed(Name),
     Refused(Refusal),

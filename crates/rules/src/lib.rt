@@ -1,4 +1,6 @@
 // The rules engine: one request on a lent table, its written bits and a tally, proved equal to the definitions of the crate `model`. It works in place.
+#![tactic(auto)]
+
 use model::{Answer, Tally};
 
 pub mod answers;
@@ -11,14 +13,14 @@ mod states;
 pub mod steps;
 
 // What a request leaves of the tally, and its answer.
-#[derive(Drop)]
+#[derive(Clone, Copy)]
 pub struct Outcome {
     pub tally: Tally,
     pub answer: Answer,
 }
 
 // The same, and how many rows live then.
-#[derive(Drop)]
+#[derive(Clone, Copy)]
 pub struct Progress {
     pub outcome: Outcome,
     pub live: usize,

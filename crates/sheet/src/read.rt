@@ -11,7 +11,7 @@ use table::SheetBytes;
 use text::lines;
 
 // What reading a sheet answers: it is one, or the refusal.
-#[derive(Drop)]
+#[derive(Clone, Copy)]
 pub enum SheetRead {
     Sheet,
     Refused(Refusal),

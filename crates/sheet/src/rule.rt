@@ -8,14 +8,14 @@ use crate::words::Bracket;
 use text::lines;
 
 // How often each number is listed, up to twice, and where the words behind the bracket begin.
-#[derive(Drop)]
+#[derive(Clone, Copy)]
 pub struct Found {
     pub counts: [u8; 3],
     pub at: usize,
 }
 
 // What a line says: how often each word is listed, up to twice, and the number of the result, 3 where the line is no rule.
-#[derive(Drop)]
+#[derive(Clone, Copy)]
 pub struct Counted {
     pub holders: [u8; 3],
     pub accesses: [u8; 3],

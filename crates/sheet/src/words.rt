@@ -4,7 +4,7 @@ ghost use Rattle.sheet.specs.Words.{holder_words, access_words, origin_words, re
 ghost use Rattle.sheet.specs.Reading.{word_code, words_for};
 
 // The lists that a bracket's words are taken from.
-#[derive(Drop)]
+#[derive(Clone, Copy)]
 pub enum Bracket {
     Holder,
     Access,

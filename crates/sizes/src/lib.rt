@@ -1,4 +1,6 @@
 // Card 13, "trying table sizes": the fewest rows with which simulated clients get every line allowed, found in one run.
+#![tactic(auto)]
+
 ghost use Rattle.std.specs.Prelude.{◌≡◌, ◌≤◌, length, take};
 ghost use Rattle.sizes.specs.Report.{report_of, sizing, report_words, packed_report, report_line};
 
@@ -17,7 +19,7 @@ mod turn;
 
 // What clients' texts are answered: the fewest rows, up to 1,024, with which every line is allowed; or the first refusal with 1,024 rows,
 // with its client and the line within that client's trace, both from 1, or 0 where the lengths do not fit the texts.
-#[derive(Drop)]
+#[derive(Clone, Copy)]
 pub enum Sizing {
     Rows(usize),
     Refused(Refusal, usize, usize),
@@ -72,7 +74,7 @@ pub fn sizes(text: &[u8], lengths: &[u32]) -> Sizing
 }
 
 // What `capsize` prints: its length, and an array that begins with it.
-#[derive(Drop)]
+#[derive(Clone, Copy)]
 pub struct Printed {
     pub bytes: [u8; 48],
     pub length: usize,

@@ -17,7 +17,7 @@ use table::Row;
 use text::lines::next_line;
 
 // What came of a round: its answer, the client of a refused line, from 1, and what stands after it.
-#[derive(Drop)]
+#[derive(Clone, Copy)]
 pub struct Round {
     pub answer: Answer,
     pub client: usize,

@@ -18,7 +18,7 @@ use table::sheets::card6;
 use text::form::{FormRead, read_form};
 
 // What is counted, how many rows live, how many names are in the list, and the most rows that a line has needed.
-#[derive(Drop)]
+#[derive(Clone, Copy)]
 pub struct Standing {
     pub tally: Tally,
     pub live: usize,
@@ -27,7 +27,7 @@ pub struct Standing {
 }
 
 // A line's answer, and what stands after it.
-#[derive(Drop)]
+#[derive(Clone, Copy)]
 pub struct Turned {
     pub answer: Answer,
     pub standing: Standing,

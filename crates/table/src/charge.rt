@@ -13,7 +13,7 @@ use crate::words::row_at;
 use model::{Cap, Name, Refusal};
 
 // The share of each holder and what is left over; or why there is none.
-#[derive(Drop)]
+#[derive(Clone, Copy)]
 pub enum Charged {
     Shares(u32, u32),
     Refused(Refusal),

@@ -26,7 +26,7 @@ use crate::words::row_at;
 use model::{Answer, Event, Name, NewName, Refusal, Span, Terms};
 
 // The place of a name, or why it has none.
-#[derive(Drop)]
+#[derive(Clone, Copy)]
 pub enum Place {
     At(usize),
     Not(Refusal),

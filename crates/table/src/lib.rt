@@ -1,6 +1,8 @@
 // A lent table, a row of words for each capability: its rows, where a name stands, whether the rows are in order, and whether a request is
 // allowed on them. Its functions are for the crates above. Those that ask something of their caller are internal, and none is exported
 // to C.
+#![tactic(auto)]
+
 pub mod bits;
 pub mod charge;
 pub mod find;

@@ -217,7 +217,7 @@ fn check_order(table: &[Row], k: usize, issued: u32, places: &mut [u16; 1024]) -
 }
 
 // What a look at a table finds: it is in order, and so many of its rows live; or it is not in order.
-#[derive(Drop)]
+#[derive(Clone, Copy)]
 pub enum Look {
     InOrder(usize),
     Disordered,

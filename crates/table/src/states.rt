@@ -50,7 +50,7 @@ pub fn forget(stored: &mut [Row], copies: &[u8])
 }
 
 // What is found in a slot on going back: nothing, a table that is refused, or one of which so many rows live.
-#[derive(Drop)]
+#[derive(Clone, Copy)]
 pub enum Stock {
     Empty,
     Unfit,
@@ -58,7 +58,7 @@ pub enum Stock {
 }
 
 // What a slot's head says: 0, or one more than the rows kept; and how many empty rows the table has behind them.
-#[derive(Drop)]
+#[derive(Clone, Copy)]
 struct Head {
     more: u32,
     empty: u32,

@@ -9,7 +9,7 @@ use model::{Event, NewName, Refusal, Terms};
 use table::ordered::is_right;
 
 // What a line in document 01's form reads as: the event, or refusal 2.
-#[derive(Drop)]
+#[derive(Clone, Copy)]
 pub enum FormRead {
     Event(Event),
     Refused(Refusal),

@@ -12,7 +12,7 @@ use table::groups;
 use table::masks::is_domain;
 
 // What a line reads as: the domain that acts and how many names it lists, or refusal 2.
-#[derive(Drop)]
+#[derive(Clone, Copy)]
 pub enum GroupRead {
     Count(u32, usize),
     Refused(Refusal),

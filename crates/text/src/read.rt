@@ -11,7 +11,7 @@ use model::{Addr, Event, Name, NewName, Refusal, Span, Terms};
 use table::masks::is_domain;
 
 // What a line reads as: the domain that acts and the event whose spelling it is, or refusal 2.
-#[derive(Drop)]
+#[derive(Clone, Copy)]
 pub enum EventRead {
     Event(u32, Event),
     Refused(Refusal),

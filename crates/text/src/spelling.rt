@@ -6,7 +6,7 @@ use model::NewName;
 
 // `Plain` is the spelling of document 01. `Named` is the one behind the line `(trace 2)` of card 1: a create or borrow writes the
 // new name after its word, and the other kinds are spelled alike in both.
-#[derive(Drop)]
+#[derive(Clone, Copy)]
 pub enum Spelling {
     Plain,
     Named,

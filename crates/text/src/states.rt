@@ -9,7 +9,7 @@ use model::{Asked, Refusal};
 use table::masks::is_domain;
 
 // What a line reads as: the mark or the back whose spelling it is, or refusal 2.
-#[derive(Drop)]
+#[derive(Clone, Copy)]
 pub enum StateRead {
     Asked(Asked),
     Refused(Refusal),

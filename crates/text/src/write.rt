@@ -12,7 +12,7 @@ use table::masks::is_domain;
 use table::terms::{fit_child, fit_root};
 
 // What a writer answers: the length of the text, or a refusal.
-#[derive(Drop)]
+#[derive(Clone, Copy)]
 pub enum Written {
     Length(usize),
     Refused(Refusal),

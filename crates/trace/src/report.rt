@@ -118,7 +118,7 @@ pub fn check(input: &[u8], stored: &mut [Row], copies: &mut [u8], out: &mut [u8]
 }
 
 // What `capcheck` prints: its length, and an array that begins with it.
-#[derive(Drop)]
+#[derive(Clone, Copy)]
 pub struct Printed {
     pub bytes: [u8; 60448],
     pub length: usize,

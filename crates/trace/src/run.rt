@@ -24,14 +24,14 @@ use text::states::StateRead;
 use text::{group, lines, read, states};
 
 // What a run answers: the number of lines allowed, or the refusal and its line number from 1 (0 for refusal 1 of what is lent).
-#[derive(Drop)]
+#[derive(Clone, Copy)]
 pub enum RunAnswer {
     Allowed(usize),
     Refused(Refusal, usize),
 }
 
 // What a run leaves of the tally, and its answer.
-#[derive(Drop)]
+#[derive(Clone, Copy)]
 pub struct RunOutcome {
     pub tally: Tally,
     pub answer: RunAnswer,

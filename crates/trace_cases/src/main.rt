@@ -1,5 +1,7 @@
 // Document 01's traces and examples of refusals, and those of cards 1, 7 and 9 to 11, run and printed. The file `stdout` beside src/ has what the papers
 // say of them.
+#![tactic(auto)]
+
 use libc::STDOUT_FILENO;
 use listing::reading;
 use model::Tally;
