@@ -248,12 +248,12 @@ module _ {given : ℕ → List ℕ} {names keys : List ℕ} {used issued : ℕ} 
 
 -- so are the counts
 pub counted_new : (given : ℕ → List ℕ) (counts : List ℕ) (client issued : ℕ) → client < 8 → Counted given counts → Counted (give (suc client) (suc issued) given) (set counts client (get_or counts client 0 + 1))
-counted_new given counts client issued l c = record { all_clients = length-set counts client (get_or counts client 0 + 1) ∙ c.all-clients; each = λ k m. length_given given (suc client) issued (suc k) ∙ go k m (test (eqb k client)) }
+counted_new given counts client issued l c = record { all_clients = length-set counts client (get_or counts client 0 + 1) ∙ c.all_clients; each = λ k m. length_given given (suc client) issued (suc k) ∙ go k m (test (eqb k client)) }
   where
     go : (k : ℕ) → k < 8 → (eqb k client ≡ true) ⊎ (eqb k client ≡ false) → cond (eqb (suc k) (suc client)) (length (given (suc k)) + 1) (length (given (suc k))) ≡ get_or (set counts client (get_or counts client 0 + 1)) k 0
     go k m (inl t) =
         let e = eqb-true k client t in
-        rw (eq-eqb (suc k) (suc client) (ap suc e), e) (ap (λ (n : ℕ). n + 1) (c.each client l) ∙ sym (get_or-set_same counts client (get_or counts client 0 + 1) 0 (omega (arith, c.all-clients))))
+        rw (eq-eqb (suc k) (suc client) (ap suc e), e) (ap (λ (n : ℕ). n + 1) (c.each client l) ∙ sym (get_or-set_same counts client (get_or counts client 0 + 1) 0 (omega (arith, c.all_clients))))
     go k m (inr f) =
         let n = eqb-false k client f in
         rw (ne_eqb (suc k) (suc client) (λ (e : suc k ≡ suc client). n (omega arith))) (c.each k m ∙ sym (get_or-set_other counts client k (get_or counts client 0 + 1) 0 n))

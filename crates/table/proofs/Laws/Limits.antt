@@ -54,7 +54,7 @@ counts_none T = record { all_domains = length-replicate {A = ℕ} 64 0; each = �
 
 pub counts_more : (T : List Cap) (i : ℕ) (counts : List ℕ) → Counts T i counts → (get_or T i empty_row).maker < 64
     → Counts T (i + 1) (set counts (get_or T i empty_row).maker (suc (get_or counts (get_or T i empty_row).maker 0)))
-counts_more T i counts c l = record { all_domains = length-set counts m (suc (get_or counts m 0)) ∙ c.all-domains; each = λ d b. made_more_at d b (test (eqb d m)) }
+counts_more T i counts c l = record { all_domains = length-set counts m (suc (get_or counts m 0)) ∙ c.all_domains; each = λ d b. made_more_at d b (test (eqb d m)) }
   where
     m : ℕ
     m = (get_or T i empty_row).maker
@@ -62,7 +62,7 @@ counts_more T i counts c l = record { all_domains = length-set counts m (suc (ge
     made_more_at : (d : ℕ) → d < 64 → (eqb d m ≡ true) ⊎ (eqb d m ≡ false) → get_or (set counts m (suc (get_or counts m 0))) d 0 ≡ made d (before T (i + 1))
     made_more_at d b (inl t) =
         let e : d ≡ m = eqb-true d m t in
-        rw (e, get_or-set_same counts m (suc (get_or counts m 0)) 0 (omega (arith, c.all-domains)), c.each m l) (sym (made_more T i m ∙ rw (eq-eqb m m refl)))
+        rw (e, get_or-set_same counts m (suc (get_or counts m 0)) 0 (omega (arith, c.all_domains)), c.each m l) (sym (made_more T i m ∙ rw (eq-eqb m m refl)))
     made_more_at d b (inr f) = rw (get_or-set_other counts m d (suc (get_or counts m 0)) 0 (eqb-false d m f), c.each d b) (sym (made_more T i d ∙ rw f))
 
 -- ---- a sheet against the counts

@@ -1,0 +1,18 @@
+-- `bytes_written` meets its contract: the addresses of all bytes are written if those of the bytes passed are, which `full` tells, and those of
+-- the bytes from i on.
+-- Assumes nothing.
+use mathlib.Core.Path.{◌≡◌, refl, sym, ap, ◌∙◌}
+use mathlib.Core.Bool.{◌&&◌, and-false, and-true}
+use mathlib.Core.Logic.{⊎_elim}
+use Prim.Native.Nat.{◌-◌, ◌*◌, ◌≤◌}
+use native.Mathlib.Omega.{arith}
+use borrow.Author.Tests.{not-true, not-false}
+use Rattle.model.specs.Bits.{bit_at, all_written}
+use Rattle.table.proofs.Laws.Bits.{all_byte}
+use Rattle.table.proofs.bits.bytes_written.Given as goal
+
+abbrev pub invariant-loop-i : goal.invariant-loop-i
+invariant-loop-i l = (l.i ≤ l.to) × (all_written (bit_at l.bits) (l.from * 8) ((l.to - l.from) * 8) ≡ l.full && all_written (bit_at l.bits) (l.i * 8) ((l.to - l.i) * 8))
+
+abbrev pub decreases-loop-i : goal.decreases-loop-i
+decreases-loop-i l = l.to - l.i

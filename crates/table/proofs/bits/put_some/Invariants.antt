@@ -1,0 +1,15 @@
+-- `put_some` meets its contract. The invariant: what is put from a on makes the whole.
+-- Assumes nothing.
+use mathlib.Core.Path.{◌≡◌, refl, sym, ◌∙◌}
+use Prim.Native.Nat.{◌-◌, ◌≤◌, ◌/◌}
+use native.Mathlib.Omega.{arith}
+use lib.ListN.{length, length-set}
+use Rattle.model.specs.Bits.{put_at, put_from}
+use Rattle.table.proofs.Laws.Bits.{put_first, put_none}
+use Rattle.table.proofs.bits.put_some.Given as goal
+
+abbrev pub invariant-loop-a : goal.invariant-loop-a
+invariant-loop-a l = (l.a ≤ l.to) × (length l.bits ≡ length l.initial.bits) × (put_from l.v l.a (l.to - l.a) l.bits ≡ put_from l.v l.from (l.to - l.from) l.initial.bits)
+
+abbrev pub decreases-loop-a : goal.decreases-loop-a
+decreases-loop-a l = l.to - l.a

@@ -1,0 +1,50 @@
+-- `charge_live` meets its contract.
+-- Assumes nothing.
+use mathlib.Core.Path.{◌≡◌, sym, ap, ◌∙◌, subst}
+use native.Mathlib.Omega.{arith}
+use lib.ListN.{length}
+use Rattle.model.specs.declared.Cap.{Cap}
+use Rattle.model.specs.Charge.{shares}
+use Rattle.model.specs.Table.{lookup}
+use Rattle.table.specs.declared.judge.Place.{Place}
+use Rattle.table.specs.declared.judge.Place.TheVariants.{At, Not}
+use Rattle.table.specs.Words.{rows_in}
+use Rattle.table.specs.Rows.{before, Rise}
+use Rattle.table.specs.Stands.{Lives}
+use Rattle.table.proofs.Laws.Words.{rise_fits}
+use Rattle.table.proofs.Laws.Ordered.{lookup_place}
+use Rattle.table.proofs.Laws.Judge.{orderly_few, orderly_rise}
+use Rattle.table.proofs.Laws.Charge.{charge_refused, charge_shares, some_holder}
+use borrow.Author.Rules.{rules}
+use Rattle.table.proofs.charge.charge_live.Goals as goal
+
+pub living_place-requires : goal.living_place-requires
+living_place-requires c =
+    let rise : Rise (rows_in c.args.table.now) c.args.k = orderly_rise (rows_in c.args.table.now) (length c.args.table.now) c.args.k c.args.issued c.requires in
+    (orderly_few (rows_in c.args.table.now) (length c.args.table.now) c.args.k c.args.issued c.requires, rise)
+
+pub row_at-requires : goal.row_at-requires
+row_at-requires c =
+    let rise : Rise (rows_in c.args.table.now) c.args.k = orderly_rise (rows_in c.args.table.now) (length c.args.table.now) c.args.k c.args.issued c.requires in
+    let place : Lives (rows_in c.args.table.now) c.args.k c.args.issued c.args.u (At c.in-At.q) = subst (λ (p : Place). Lives (rows_in c.args.table.now) c.args.k c.args.issued c.args.u p) c.in-At.is c.living_place.ensures in
+    omega (arith, place.1, rise_fits c.args.table.now c.args.k rise)
+
+pub shares_of-requires : goal.shares_of-requires
+shares_of-requires c =
+    let rise : Rise (rows_in c.args.table.now) c.args.k = orderly_rise (rows_in c.args.table.now) (length c.args.table.now) c.args.k c.args.issued c.requires in
+    let place : Lives (rows_in c.args.table.now) c.args.k c.args.issued c.args.u (At c.in-At.q) = subst (λ (p : Place). Lives (rows_in c.args.table.now) c.args.k c.args.issued c.args.u p) c.in-At.is c.living_place.ensures in
+    let found : lookup c.args.u.0 (before (rows_in c.args.table.now) c.args.k) ≡ c.row_at.result = let p = place in (lookup_place (rows_in c.args.table.now) c.args.k c.in-At.q c.args.u.0 rise p.1 p.2).1 ∙ sym c.row_at.ensures in
+    some_holder (rows_in c.args.table.now) (length c.args.table.now) c.args.k c.args.issued c.requires c.args.u c.row_at.result place.0 found
+
+pub returns-in-Not : goal.returns-in-Not
+returns-in-Not c =
+    let T = rows_in c.args.table.now in
+    let not : Lives T c.args.k c.args.issued c.args.u (Not c.in-Not.x) = subst (λ (p : Place). Lives T c.args.k c.args.issued c.args.u p) c.in-Not.is c.living_place.ensures in
+    sym (charge_refused T (length c.args.table.now) c.args.k c.args.issued c.requires c.args.u c.in-Not.x not)
+
+pub returns-in-At : goal.returns-in-At
+returns-in-At c =
+    let rise : Rise (rows_in c.args.table.now) c.args.k = orderly_rise (rows_in c.args.table.now) (length c.args.table.now) c.args.k c.args.issued c.requires in
+    let place : Lives (rows_in c.args.table.now) c.args.k c.args.issued c.args.u (At c.in-At.q) = subst (λ (p : Place). Lives (rows_in c.args.table.now) c.args.k c.args.issued c.args.u p) c.in-At.is c.living_place.ensures in
+    let found : lookup c.args.u.0 (before (rows_in c.args.table.now) c.args.k) ≡ c.row_at.result = let p = place in (lookup_place (rows_in c.args.table.now) c.args.k c.in-At.q c.args.u.0 rise p.1 p.2).1 ∙ sym c.row_at.ensures in
+    c.shares_of.ensures ∙ sym (charge_shares (rows_in c.args.table.now) (length c.args.table.now) c.args.k c.args.issued c.requires c.args.u c.row_at.result place.0 found)

@@ -1,0 +1,7 @@
+-- `limit_reached` meets its contract.
+-- Assumes nothing.
+use borrow.Author.Rules.{rules}
+use Rattle.table.proofs.limits.limit_reached.Goals as goal
+
+pub returns : goal.returns
+returns c = rw (c.limit_of.ensures, c.made_by.ensures)

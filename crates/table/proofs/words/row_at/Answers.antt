@@ -1,0 +1,9 @@
+-- `row_at` meets its contract: the words at a row are the row.
+-- Assumes nothing.
+use mathlib.Core.Path.{sym}
+use Rattle.table.proofs.Laws.Words.{in_at}
+use borrow.Author.Rules.{rules}
+use Rattle.table.proofs.words.row_at.Goals as goal
+
+pub returns : goal.returns
+returns c = rw c.joined.ensures (sym (in_at c.args.table.now c.args.i))
