@@ -1,0 +1,20 @@
+-- `text::numbers::put_number` meets its contract. The invariant: the digits that are left, written in front of those that stand, make the whole numeral.
+-- Assumes nothing.
+use mathlib.Core.Path.{◌≡◌, refl, sym, ap, ◌∙◌}
+use mathlib.Core.List.{List}
+use Prim.Native.Nat.{ℕ, suc, ◌+◌, ◌-◌, ◌/◌, ◌%◌, ◌≤◌, ◌<◌}
+use native.Mathlib.Omega.{arith}
+use lib.ListN.{length, set, length-set}
+use lib.Seq.{sets}
+use borrow.Author.Rules.{rules}
+use Rattle.text.specs.Decimal.{decimal}
+use Rattle.text.proofs.Laws.Digits.{digits, digits_last, length_digits, decimal_own}
+use Rattle.text.proofs.Laws.Put.{sets_last}
+use Rattle.text.proofs.numbers.put_number.Given as goal
+
+abbrev pub invariant-loop-next : goal.invariant-loop-next
+invariant-loop-next l =
+    (sets l.out l.at (digits 10 l.rest (l.next - l.at)) ≡ sets l.initial.out l.at (decimal l.n)) × (l.at ≤ l.next) × (l.next ≤ l.end) × (length l.out ≡ length l.initial.out)
+
+abbrev pub decreases-loop-next : goal.decreases-loop-next
+decreases-loop-next l = l.next - l.at

@@ -1,0 +1,14 @@
+-- `text::numbers::width` meets its contract. The invariant: the power is that of k, and none below it is above the number.
+-- Assumes nothing.
+use mathlib.Core.Path.{◌≡◌, refl}
+use Prim.Native.Nat.{max, ◌+◌, ◌-◌, ◌^◌, ◌≤◌}
+use native.Mathlib.Omega.{arith}
+use native.Mathlib.Numerals.{add-one}
+use Rattle.text.proofs.Laws.Digits.{width_is}
+use Rattle.text.proofs.numbers.width.Given as goal
+
+abbrev pub invariant-loop-k : goal.invariant-loop-k
+invariant-loop-k l = (1 ≤ l.k) × (l.k ≤ 10) × (10 ^ (l.k - 1) ≤ max 1 l.n) × (l.power ≡ 10 ^ l.k)
+
+abbrev pub decreases-loop-k : goal.decreases-loop-k
+decreases-loop-k l = 10 - l.k

@@ -1,0 +1,18 @@
+-- `text::pieces::spaced_length` meets its contract. The invariant: the total and the length of what is left make the whole length.
+-- Assumes nothing.
+use mathlib.Core.Path.{◌≡◌, ap}
+use Prim.Native.Nat.{◌+◌, ◌-◌, ◌*◌, ◌≤◌}
+use native.Mathlib.Omega.{arith}
+use lib.ListN.{length, get_or, drop}
+use borrow.Author.Rules.{rules}
+use Rattle.text.specs.Event.{spaced}
+use Rattle.text.proofs.Laws.Digits.{decimal_short}
+use Rattle.text.proofs.Laws.Put.{spaced_length, spaced_end}
+use Rattle.text.proofs.pieces.spaced_length.Given as goal
+
+abbrev pub invariant-loop-i : goal.invariant-loop-i
+invariant-loop-i l =
+    (l.total + length (spaced (drop l.i l.numbers)) ≡ length (spaced l.numbers)) × (l.total ≤ 11 * l.i) × (l.i ≤ length l.numbers)
+
+abbrev pub decreases-loop-i : goal.decreases-loop-i
+decreases-loop-i l = length l.numbers - l.i
