@@ -163,3 +163,11 @@ module _ (sheet : Sheet) (ys : List Cap) (bs : List ℕ) (t : Tally) (q : Reques
       go : (leb (length ys) 1024 ≡ true) ⊎ (leb (length ys) 1024 ≡ false) → Left
       go (inl y) = left_few (leb-true (length ys) 1024 y)
       go (inr f) = left_many (leb-false (length ys) 1024 f)
+
+-- the same, where m rows were taken apart, and as many put back
+pub left_of : (sheet : Sheet) (ys ys' : List Cap) (bs bs' : List ℕ) (t : Tally) (q : Request) (w ws zs : List (List ℕ)) (r : Outcome) (m : ℕ) → m ≡ held (length ys) → zs ≡ loaded ys w m → Requested sheet zs (length ys) bs t q ws bs' r → ys' ≡ stored ys ws m
+    → (ys' ≡ (after sheet (lends ys bs unstored t) q).memory.table) × (bs' ≡ (after sheet (lends ys bs unstored t) q).memory.bits) × (r.tally ≡ (after sheet (lends ys bs unstored t) q).tally) × (verdict_of r.answer ≡ Step.answer (lends ys bs unstored t) q)
+left_of sheet ys ys' bs bs' t q w ws zs r m few apart asked back =
+    let held_asked : Requested sheet (loaded ys w (held (length ys))) (length ys) bs t q ws bs' r = subst (λ (k : ℕ). Requested sheet (loaded ys w k) (length ys) bs t q ws bs' r) few (subst (λ (z : List (List ℕ)). Requested sheet z (length ys) bs t q ws bs' r) apart asked) in
+    let l = left sheet ys bs t q w ws bs' r held_asked in
+    (back ∙ ap (stored ys ws) few ∙ l.0, l.1, l.2, l.3)

@@ -1,0 +1,7 @@
+-- `count_refused` meets its contract.
+-- Assumes nothing.
+use borrow.Author.Rules.{rules}
+use Rattle.rules.proofs.count.count_refused.Goals as goal
+
+pub returns : goal.returns
+returns c = rw c.count_up.ensures

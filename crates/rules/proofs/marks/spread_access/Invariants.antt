@@ -1,0 +1,21 @@
+-- `spread_access` meets its contract: the first i are done.
+-- Assumes nothing.
+use mathlib.Core.Path.{◌≡◌, ap, ap₂, ◌∙◌}
+use Prim.Native.Nat.{ℕ, ◌-◌, ◌≤◌, ◌<◌, max}
+use native.Mathlib.Omega.{arith}
+use lib.Dec.{eqb}
+use lib.ListN.{get_or, replicate, length-replicate, get_or-replicate}
+use lib.Seq.{get_or-set_other}
+use Rattle.model.specs.declared.Cap.{Cap}
+use Rattle.table.proofs.Offered.{rise_fits}
+use Rattle.table.specs.Words.{rows_in}
+use Rattle.table.specs.Sheets.{sheet_in}
+use Rattle.rules.specs.Engine.{value_below, own, own_of_access, Most}
+use Rattle.rules.proofs.Laws.Marks.{Spreading, spread_start, spread_more, most_more}
+use Rattle.rules.proofs.marks.spread_access.Given as goal
+
+abbrev pub invariant-loop-i : goal.invariant-loop-i
+invariant-loop-i l = (l.i ≤ l.k) × (l.first ≤ l.i) × ((j : ℕ) → j < l.first → get_or l.marks j 0 ≡ 0) × Spreading (rows_in l.table) l.i (own_of_access (sheet_in l.sheet) (rows_in l.table) l.in_cell l.relation l.places l.a l.s) l.marks × Most l.i l.marks l.most
+
+abbrev pub decreases-loop-i : goal.decreases-loop-i
+decreases-loop-i l = l.k - l.i
