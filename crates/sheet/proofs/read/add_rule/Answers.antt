@@ -1,0 +1,37 @@
+use mathlib.Core.Path.{sym, ◌∙◌}
+use mathlib.Core.Logic.{⊎_elim}
+use Prim.Native.Nat.{◌-◌, ◌≤◌}
+use native.Mathlib.Omega.{arith}
+use borrow.Author.Rules.{rules}
+use Rattle.sheet.proofs.Laws.Adding.{Filled, filled_none, filled_set, filled_keep, seen_after, result_after, given_first, given_never, given_before, adds_all}
+use Rattle.sheet.proofs.read.add_rule.Goals as goal
+
+pub loop-p-init : goal.loop-p-init
+loop-p-init c = (omega arith, filled_none _ _ c.requires.seen-long, filled_none _ _ c.requires.results-long)
+
+pub overflow_add-before : goal.overflow_add-before
+overflow_add-before c =
+    omega (arith, c.loop-p.invariant.1.left c.loop-p.p (omega arith), c.requires.small c.loop-p.p c.loop-p-test.true, c.given_by-times.ensures)
+
+pub loop-p-preserved : goal.loop-p-preserved
+loop-p-preserved c =
+    let args = c.args in
+    let results = args.results.now in
+    let seen = args.seen.now in
+    let rule = args.rule in
+    let p = c.loop-p.p in
+    let after = result_after rule seen results in
+    let left = c.loop-p.invariant.1.left p (omega arith) in (
+      omega (arith, c.loop-p-test.true),
+      filled_set (seen_after rule seen) seen c.loop-p.seen p c.loop-p-test.true c.loop-p.invariant.1 c.up_to_2.result (c.up_to_2.ensures ∙ rw (left, c.given_by-times.ensures)),
+      ⊎_elim
+          (λ w. rw w.2 (filled_set after results c.loop-p.results p c.loop-p-test.true c.loop-p.invariant.2 rule.result (given_first rule seen results p (sym left ∙ w.0.taken) (λ e. w.1.taken (c.given_by-times.ensures ∙ e)))))
+          (λ v. ⊎_elim
+          (λ w. rw w.2 (filled_keep after results c.loop-p.results p c.loop-p-test.true c.loop-p.invariant.2 (given_never rule seen results p (sym left ∙ w.0.taken) (sym c.given_by-times.ensures ∙ w.1.left))))
+          (λ w. rw w.1 (filled_keep after results c.loop-p.results p c.loop-p-test.true c.loop-p.invariant.2 (given_before rule seen results p (λ e. w.0.left (left ∙ e)))))
+          v)
+          c.if-before-eq0.branch,
+    )
+
+pub returns : goal.returns
+returns c = adds_all _ _ _ _ _ c.loop-p.p c.loop-p-test.false c.loop-p.invariant.1 c.loop-p.invariant.2

@@ -1,0 +1,15 @@
+-- `sheet::read::add_rule` meets its contract. The invariant: up to p both lists have what the line leaves, and behind it what they had.
+-- Assumes nothing.
+use mathlib.Core.Path.{sym, ◌∙◌}
+use mathlib.Core.Logic.{⊎_elim}
+use Prim.Native.Nat.{◌-◌, ◌≤◌}
+use native.Mathlib.Omega.{arith}
+use borrow.Author.Rules.{rules}
+use Rattle.sheet.proofs.Laws.Adding.{Filled, filled_none, filled_set, filled_keep, seen_after, result_after, given_first, given_never, given_before, adds_all}
+use Rattle.sheet.proofs.read.add_rule.Given as goal
+
+abbrev pub invariant-loop-p : goal.invariant-loop-p
+invariant-loop-p l = (l.p ≤ 18) × Filled (seen_after l.rule l.initial.seen) l.initial.seen l.seen l.p × Filled (result_after l.rule l.initial.seen l.initial.results) l.initial.results l.results l.p
+
+abbrev pub decreases-loop-p : goal.decreases-loop-p
+decreases-loop-p l = 18 - l.p

@@ -1,0 +1,22 @@
+use Prim.Native.Nat.{◌≤◌, ◌-◌}
+use native.Mathlib.Omega.{arith}
+use borrow.Author.Rules.{rules}
+use lib.ListN.{get_or}
+use Rattle.text.proofs.Offered.{put_length}
+use Rattle.sheet.proofs.Laws.Writing.{line_most, Lines, lines_begin, lines_next, lines_end}
+use Rattle.sheet.proofs.write.put_rules.Goals as goal
+
+pub loop-place-init : goal.loop-place-init
+loop-place-init c = (lines_begin c.args.sheet.now c.args.out.now, omega arith)
+
+pub put_rule-at-requires : goal.put_rule-at-requires
+put_rule-at-requires c = (omega arith, omega (arith, line_most c.loop-place.place (get_or c.args.sheet.now c.loop-place.place 0), put_length c.loop-place.invariant.0.put, c.loop-place.invariant.0.most))
+
+pub loop-place-preserved : goal.loop-place-preserved
+loop-place-preserved c = (lines_next c.loop-place.invariant.0 c.put_rule-at.ensures, omega arith)
+
+pub shape_of-out : goal.shape_of-out
+shape_of-out c = put_length c.loop-place.invariant.0.put
+
+pub returns : goal.returns
+returns c = lines_end (omega arith) c.loop-place.invariant.0
