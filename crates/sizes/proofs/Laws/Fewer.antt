@@ -151,10 +151,10 @@ module _ {n m : ℕ} {h g : State} (s : Same n m h g) (e : Event) where
     passes = ap (λ (size : ℕ). first (checks_on size)) (sym s.more) ∙ sym (judge_checks g e s.fit_more) ∙ q
 
     pub same_allowed : needs (length (live_rows g.memory.table)) e ≤ n → judge (view h) (ask e) ≡ 0
-    same_allowed l = judged 0 (enough (live_rows g.memory.table) g.tally.issued _ _ m n e passes l)
+    same_allowed l = judged 0 (enough (live_rows g.memory.table) g.tally.issued (bit_at g.memory.bits) (λ k. table_in (get_or g.slots k Nothing)) m n e passes l)
 
     pub same_full : n < needs (length (live_rows g.memory.table)) e → judge (view h) (ask e) ≡ 10
-    same_full l = judged 10 (full (live_rows g.memory.table) g.tally.issued _ _ m n e passes l)
+    same_full l = judged 10 (full (live_rows g.memory.table) g.tally.issued (bit_at g.memory.bits) (λ k. table_in (get_or g.slots k Nothing)) m n e passes l)
 
     pub same_after : (sheet : Sheet) → needs (length (live_rows g.memory.table)) e ≤ n → Same n m (Step.after sheet h (ask e)) (Step.after sheet g (ask e))
     same_after sheet l =

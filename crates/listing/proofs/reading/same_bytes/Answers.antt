@@ -19,10 +19,7 @@ loop-i-init c = (omega arith, λ e k h. absurd (omega arith), λ e. refl)
 pub loop-i-preserved : goal.loop-i-preserved
 loop-i-preserved c =
     let i = c.loop-i.i in
-    ⊎_elim
-    (λ w. (omega arith, λ e. clash e w.1, λ e. absurd (w.0.taken (ap (λ (s : List ℕ). get_or s i 0) e))))
-    (λ w. (omega arith, λ e. below_more _ _ (c.loop-i.invariant.1 (sym w.1 ∙ e)) w.0.left, λ e. w.1 ∙ c.loop-i.invariant.2 e))
-    c.if-a-i.branch
+    let h = c.if-a-i in ?
 
 pub returns : goal.returns
 returns c =

@@ -7,7 +7,7 @@ use Rattle.sheet.proofs.Laws.Adding.{Filled, filled_none, filled_set, filled_kee
 use Rattle.sheet.proofs.read.add_rule.Goals as goal
 
 pub loop-p-init : goal.loop-p-init
-loop-p-init c = (omega arith, filled_none _ _ c.requires.seen-long, filled_none _ _ c.requires.results-long)
+loop-p-init c = (omega arith, filled_none _ _ c.requires.seen_long, filled_none _ _ c.requires.results_long)
 
 pub overflow_add-before : goal.overflow_add-before
 overflow_add-before c =
@@ -24,13 +24,7 @@ loop-p-preserved c =
     let left = c.loop-p.invariant.1.left p (omega arith) in (
       omega (arith, c.loop-p-test.true),
       filled_set (seen_after rule seen) seen c.loop-p.seen p c.loop-p-test.true c.loop-p.invariant.1 c.up_to_2.result (c.up_to_2.ensures ∙ rw (left, c.given_by-times.ensures)),
-      ⊎_elim
-          (λ w. rw w.2 (filled_set after results c.loop-p.results p c.loop-p-test.true c.loop-p.invariant.2 rule.result (given_first rule seen results p (sym left ∙ w.0.taken) (λ e. w.1.taken (c.given_by-times.ensures ∙ e)))))
-          (λ v. ⊎_elim
-          (λ w. rw w.2 (filled_keep after results c.loop-p.results p c.loop-p-test.true c.loop-p.invariant.2 (given_never rule seen results p (sym left ∙ w.0.taken) (sym c.given_by-times.ensures ∙ w.1.left))))
-          (λ w. rw w.1 (filled_keep after results c.loop-p.results p c.loop-p-test.true c.loop-p.invariant.2 (given_before rule seen results p (λ e. w.0.left (left ∙ e)))))
-          v)
-          c.if-before-eq0.branch,
+      (let h = c.if-before-eq0 in ?),
     )
 
 pub returns : goal.returns

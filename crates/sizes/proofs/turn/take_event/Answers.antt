@@ -43,7 +43,7 @@ returns c =
           let answered = c.ask-asked.ensures.0.each h kept in
           record {
             refusal = answered.refusal;
-            most-needed = c.larger-most.ensures ∙ needed hold a.event a.from.most c.need_of.result c.need_of.ensures;
+            most_needed = c.larger-most.ensures ∙ needed hold a.event a.from.most c.need_of.result c.need_of.ensures;
             goes = λ q. rw (gave.0, gave.1, gave.2, gave.3)
                 (subst (λ (k : ℕ). Holds (shared_after h (suc a.client) (value a.event)) (memory table bits places (names_with k names used) (keys_with k keys used (suc a.client) (get_or a.counts.now a.client 0)) (counts_with k a.counts.now a.client)) live (used_with k used) out.tally)
                 (sym c.new_name.ensures) (held kept a.client c.requires.1 c.make_room-used.ensures.1 a.event answered c.ask-asked.ensures.1 q));
