@@ -1,0 +1,13 @@
+-- `columns::kz_abi_to_columns` meets its contract.
+-- Assumes nothing.
+use mathlib.Core.Path.{ap, ◌∙◌}
+use Rattle.text.specs.Result.{Result}
+use Rattle.columns.specs.declared.Used.{Used}
+use Rattle.columns.specs.Lent.{packed_moved, counts_after}
+use borrow.Author.Rules.{rules}
+use Rattle.columns.proofs.kz_abi_to_columns.Goals as goal
+
+pub returns : goal.returns
+returns c =
+    let m = c.to_columns-moved.ensures.0 in
+    (c.to_columns-moved.ensures.1, c.answer_moved.ensures.1 ∙ ap (λ (x : Result Used). counts_after x c.args.used.now) m, c.answer_moved.ensures.0 ∙ ap packed_moved m)

@@ -1,0 +1,19 @@
+-- `read_slot` meets its contract: the words of a mark or a back, or nothing is written.
+-- Assumes nothing.
+use mathlib.Core.Path.{sym, ap, ◌∙◌}
+use Rattle.model.specs.declared.Asked.{Asked}
+use Rattle.model.specs.Requests.{Unlimited}
+use Rattle.text.specs.Result.{Result}
+use Rattle.text.specs.State.{state_answer}
+use Rattle.text.specs.Request.{state_of}
+use Rattle.kelzoud.specs.Interface.{packed_read, event_after}
+use borrow.Author.Rules.{rules}
+use Rattle.kelzoud.proofs.requests.read_slot.Goals as goal
+
+pub returns-in-Asked : goal.returns-in-Asked
+returns-in-Asked c = let e = ap state_answer (sym c.in-Asked.is) ∙ c.read_state-found.ensures in
+    (c.pack.ensures ∙ ap (λ (x : Result Asked). packed_read (state_of Unlimited x)) e, c.asked_words.ensures ∙ ap (λ (x : Result Asked). event_after (state_of Unlimited x) c.args.event.now) e)
+
+pub returns-in-Refused : goal.returns-in-Refused
+returns-in-Refused c = let e = ap state_answer (sym c.in-Refused.is) ∙ c.read_state-found.ensures in
+    (c.pack_refusal.ensures ∙ ap (λ (x : Result Asked). packed_read (state_of Unlimited x)) e, ap (λ (x : Result Asked). event_after (state_of Unlimited x) c.args.event.now) e)
