@@ -16,10 +16,6 @@ use Rattle.model.specs.Derivation.{Derivation, ancestry, in_subtree, on_ancestry
 use Rattle.model.specs.Strike.{is_end, strike, reached, reclaimed}
 use Rattle.model.specs.Table.{named, derivation}
 use Rattle.model.specs.Table
-use Rattle.model.specs.Refusals
-use Rattle.model.specs.Effects
-use Rattle.model.specs.Counts
-use Rattle.model.specs.Step
 use Rattle.model.specs.History.{Note, New, Accessed, Dropped, derived_by, derivations, user, Takes, ends, hits, lives, row_of, alive, rows}
 use Rattle.model.proofs.Lists.{All, All_map, All_zip, All_of, All_append, All_last, test, clash, and_both, or_neither, any_false, map_id}
 use Rattle.model.proofs.Ancestries.{Closed, Falling, Step, ancestry_step, ancestry_kept, falling_kept}

@@ -23,10 +23,6 @@ use Rattle.model.specs.Refusals.{not_written, refusals, judge}
 use Rattle.model.specs.Step.{State, is_allowed}
 use Rattle.model.specs.Bits.{span_written}
 use Rattle.model.specs.Limits.{refused_sheet}
-use Rattle.model.specs.Table
-use Rattle.model.specs.Refusals
-use Rattle.model.specs.Effects
-use Rattle.model.specs.Counts
 use Rattle.model.specs.Step
 use Rattle.model.specs.History.{Note, New, Accessed, Dropped, derived_by, derivations, makes, later, ends, hits, lives, writable, noted_as, covers, written, is_readable, is_holder, may_use, may_read, may_write, row_of, alive, rows, table, view}
 use Rattle.model.specs.History

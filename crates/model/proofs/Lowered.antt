@@ -26,7 +26,6 @@ use Rattle.model.specs.Refusals.{View, view_of, unfit_stored, unfit, not_a_holde
 use Rattle.model.specs.Limits.{no_row, limit_reached}
 use Rattle.model.specs.Bits.{has_bit, bit_at, span_written}
 use Rattle.model.specs.Effects.{lowered, revoke, after_access, rows_without, root, rows_after}
-use Rattle.model.specs.History
 use Rattle.model.proofs.Lists.{All, All_map, All_of, All_get_d, All_reverse, All_unfilter, test, clash, and_both, filter_map, map_cong, map_reverse, any_map, first_zero}
 use Rattle.model.proofs.Judged.{numbered, sheet_allowed, sized, eight_slots, no_slot, fit_all}
 use Rattle.model.proofs.Limits.{sheet_lower, row_lower, limit_lower}

@@ -30,7 +30,6 @@ use Rattle.model.specs.Table.{row, span, derivation, named, live_rows, lent_tabl
 use Rattle.model.specs.Refusals.{View, not_a_domain, not_a_holder, table_in, unfit_table, not_written, refusals, judge}
 use Rattle.model.specs.Effects.{root, child, revoke, after_access, in_subtrees, rows_without, rows_after, issued_after}
 use Rattle.model.specs.Table
-use Rattle.model.specs.Refusals
 use Rattle.model.specs.Effects
 use Rattle.model.specs.Counts
 use Rattle.model.specs.Step

@@ -30,10 +30,6 @@ use Rattle.model.specs.Step.{State, view}
 use Rattle.model.specs.Table.{row, empty_row, span, derivation, derivations, named, live_rows, lent_table, lookup, is_empty_row, live_rows_first, is_right, is_kind, is_mark, is_marked, is_domain, holds, terms_in_order, row_fits_parent, parent_in_order, row_in_order, rows_in_order, in_order}
 use Rattle.model.specs.Refusals.{View, table_in, unfit_table, unfit_slot, unfit, refusals, judge}
 use Rattle.model.specs.Effects.{lowered, revoke, after_access, in_subtrees, rows_without, root, child, rows_after, issued_after}
-use Rattle.model.specs.Table
-use Rattle.model.specs.Refusals
-use Rattle.model.specs.Effects
-use Rattle.model.specs.Counts
 use Rattle.model.specs.Step
 use Rattle.model.proofs.Lists.{All, All_map, All_of, All_sub, All_get_d, All_replicate, All_set, All_mapped, All_unmap, test, clash, unless, passes, and_both, or_neither, filter_reverse, filter_none, any_map, any_or, any_kept}
 use Rattle.model.specs.Limits.{made, sum, exceeds, refused_sheet, no_row, limit_reached}

@@ -26,7 +26,7 @@ use Rattle.model.specs.Values.{touches}
 use Rattle.model.specs.Derivation.{Derivation, ancestry, in_subtree, on_ancestry}
 use Rattle.model.specs.Strike.{is_lower, is_end, result_of, origin, strike, reached, struck}
 use Rattle.model.specs.Sheet6.{sheet6}
-use Rattle.model.specs.Table.{row, empty_row, span, derivation, derivations, named, live_rows, is_right, in_order}
+use Rattle.model.specs.Table.{row, empty_row, derivation, derivations, named, live_rows, is_right, in_order}
 use Rattle.model.specs.Refusals.{view_of, judge}
 use Rattle.model.specs.Effects.{lowered, revoke, after_access, rows_after}
 use Rattle.model.specs.Bits.{bits_after}

@@ -3,7 +3,6 @@
 use mathlib.Core.Path.{sym, ap, ◌∙◌}
 use Rattle.columns.specs.declared.Moved.{Moved}
 use Rattle.columns.specs.Lent.{moved_of, packed_moved, counts_after}
-use borrow.Author.Rules.{rules}
 use Rattle.columns.proofs.answer_moved.Goals as goal
 
 pub returns-in-All : goal.returns-in-All

@@ -4,7 +4,6 @@ use mathlib.Core.Path.{ap, ◌∙◌}
 use Rattle.text.specs.Result.{Result}
 use Rattle.columns.specs.declared.Used.{Used}
 use Rattle.columns.specs.Lent.{packed_moved, counts_after}
-use borrow.Author.Rules.{rules}
 use Rattle.columns.proofs.kz_abi_to_columns.Goals as goal
 
 pub returns : goal.returns

@@ -1,6 +1,5 @@
 -- `kelzoud::kz_abi_read_event` meets its contract.
 -- Assumes nothing.
-use borrow.Author.Rules.{rules}
 use Rattle.kelzoud.proofs.kz_abi_read_event.Goals as goal
 
 pub returns : goal.returns

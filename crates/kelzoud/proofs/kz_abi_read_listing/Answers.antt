@@ -2,7 +2,6 @@
 -- Assumes nothing.
 use mathlib.Core.Path.{ap, ◌∙◌}
 use Rattle.kelzoud.specs.Interface.{packed_read}
-use borrow.Author.Rules.{rules}
 use Rattle.kelzoud.proofs.kz_abi_read_listing.Goals as goal
 
 pub returns : goal.returns

@@ -3,7 +3,6 @@
 use mathlib.Core.Path.{ap, ◌∙◌}
 use Prim.Native.Nat.{ℕ}
 use Rattle.kelzoud_events.specs.Interface.{packed}
-use borrow.Author.Rules.{rules}
 use Rattle.kelzoud.proofs.kz_abi_read_sheet.Goals as goal
 
 pub returns : goal.returns

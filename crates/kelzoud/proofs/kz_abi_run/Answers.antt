@@ -3,7 +3,6 @@
 use mathlib.Core.Path.{ap, ◌∙◌}
 use Rattle.model.specs.Step.{State}
 use Rattle.kelzoud.proofs.Laws.{ran_parts}
-use borrow.Author.Rules.{rules}
 use Rattle.kelzoud.proofs.kz_abi_run.Goals as goal
 
 pub returns : goal.returns

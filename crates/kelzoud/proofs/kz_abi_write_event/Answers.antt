@@ -3,7 +3,6 @@
 use mathlib.Core.Path.{ap, ◌∙◌}
 use Rattle.text.specs.Write.{Outcome}
 use Rattle.kelzoud.specs.Interface.{packed_result}
-use borrow.Author.Rules.{rules}
 use Rattle.kelzoud.proofs.kz_abi_write_event.Goals as goal
 
 pub returns : goal.returns

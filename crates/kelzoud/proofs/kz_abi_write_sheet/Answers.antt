@@ -7,7 +7,6 @@ use Rattle.text.specs.Write.{Outcome}
 use Rattle.sheet.specs.WriteSheet.{sheet_text, write_sheet}
 use Rattle.sheet.proofs.Offered.{text_of_sheet}
 use Rattle.kelzoud.specs.Interface.{packed_result}
-use borrow.Author.Rules.{rules}
 use Rattle.kelzoud.proofs.kz_abi_write_sheet.Goals as goal
 
 pub returns : goal.returns

@@ -1,6 +1,5 @@
 -- `kelzoud_events::kz_abi_apply_all` meets its contract: the bytes are the sheet that is lent.
 -- Assumes nothing.
-use borrow.Author.Rules.{rules}
 use Rattle.kelzoud_events.proofs.kz_abi_apply_all.Goals as goal
 
 pub returns : goal.returns

@@ -2,7 +2,6 @@
 -- Assumes nothing.
 use Rattle.kelzoud_events.specs.Interface.{charge_words}
 use mathlib.Core.Path.{ap, ◌∙◌}
-use borrow.Author.Rules.{rules}
 use Rattle.kelzoud_events.proofs.kz_abi_charge.Goals as goal
 
 pub returns : goal.returns

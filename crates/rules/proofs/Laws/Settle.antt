@@ -3,13 +3,13 @@
 use mathlib.Core.Path.{◌≡◌, refl, sym, ap, subst, ◌∙◌}
 use mathlib.Core.Logic.{◌⊎◌, inl, inr}
 use mathlib.Core.Bool.{Bool, true, false, cond}
-use mathlib.Core.List.{List, ◌∷◌, ◌++◌, reverse-reverse}
-use Prim.Native.Nat.{ℕ, zero, suc, ◌+◌, ◌-◌, ◌≤◌, ◌<◌}
+use mathlib.Core.List.{List, ◌∷◌}
+use Prim.Native.Nat.{ℕ, zero, suc, ◌+◌, ◌≤◌, ◌<◌}
 use native.Mathlib.Numerals.{add-one}
 use native.Mathlib.Omega.{arith}
 use lib.Dec.{eqb, ltb}
-use lib.ListN.{length, get_or, set, take, drop, replicate, length-set, length-drop, take-append-drop, length-replicate, get_or-replicate}
-use lib.Seq.{get_or-set_same, get_or-set_other, ext_get_or, get_or-drop}
+use lib.ListN.{length, get_or, set, length-set}
+use lib.Seq.{get_or-set_same, get_or-set_other}
 use borrow.Author.Tests.{ltb-true, ltb-false, lt-ltb}
 use Rattle.model.specs.declared.Cap.{Cap}
 use Rattle.model.specs.Lists.{any}
@@ -18,7 +18,7 @@ use Rattle.model.specs.Effects.{lowered, revoke}
 use Rattle.table.specs.Rows.{name_at, parent_at, before, Filled, Found, Places}
 use Rattle.rules.specs.Engine.{mark, Marked, Downward, Stays, kept, Closes, Clears, Lowers, Settled}
 use Rattle.model.proofs.Offered.{All, test, or_neither}
-use Rattle.table.proofs.Offered.{last, before_suc, before_same, length_before, at_before, Alike, places_same, places_more, places_past, before_lent}
+use Rattle.table.proofs.Offered.{last, before_suc, before_same, at_before, Alike, places_same, places_more, places_past, before_lent}
 
 -- ---- closing up
 

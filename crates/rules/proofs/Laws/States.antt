@@ -9,7 +9,7 @@ use native.Mathlib.Nat.{zero-add, add-zero, not-suc-le-zero, le_of_suc-le-suc}
 use native.Mathlib.Numerals.{add-one}
 use native.Mathlib.Omega.{arith}
 use lib.Dec.{eqb, ltb}
-use lib.ListN.{length, get_or, set, take, drop, length-set, length-take, length-drop, get_or-append, get_or-eq_default, drop_of_length-le}
+use lib.ListN.{length, get_or, set, take, drop, length-set, length-drop, get_or-append, get_or-eq_default, drop_of_length-le}
 use lib.Seq.{paste, length-paste, length_paste_head, length-take-le, get_or-take, get_or-drop, get_or-append-add, get_or-set_same, get_or-set_other, ext_get_or}
 use borrow.Author.Tests.{eqb-true, eqb-false, ltb-true, ltb-false, lt-ltb, le-ltb, not-false}
 use Rattle.model.specs.declared.Cap.{Cap}
@@ -20,7 +20,7 @@ use Rattle.model.specs.declared.Answer.TheVariants.{Allowed, Refused}
 use Rattle.model.specs.Given.{count_from}
 use Rattle.model.specs.Slots.{Memory, Slot, Nothing, Stored, is_nothing, slot_map, stored_or}
 use Rattle.model.specs.Table.{empty_row, live_rows, lent_table, is_domain}
-use Rattle.model.specs.Requests.{Limits, Caller, Request, Mark, Back, caller, caller_of}
+use Rattle.model.specs.Requests.{Limits, Caller, Mark, Back, caller}
 use Rattle.model.specs.Limits.{sum, exceeds, refused_sheet}
 use Rattle.model.specs.Refusals.{View, view_of, table_in, disordered, unfit, unfit_table, unfit_slot, not_a_domain, not_a_slot, refusals, judge}
 use Rattle.model.specs.Counts.{count_refused}

@@ -2,7 +2,6 @@
 -- Assumes nothing.
 use mathlib.Core.Path.{ap, ◌∙◌}
 use Rattle.sizes.specs.Report.{report_words, packed_report}
-use borrow.Author.Rules.{rules}
 use Rattle.sizes.proofs.kz_abi_sizes.Goals as goal
 
 pub returns : goal.returns

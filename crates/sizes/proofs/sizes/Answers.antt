@@ -11,7 +11,6 @@ use Rattle.sizes.specs.Clients.{fresh}
 use Rattle.sizes.specs.Peak.{sized}
 use Rattle.sizes.proofs.Laws.Peak.{sizing_run, sizing_unfit}
 use Rattle.sizes.proofs.Laws.Laid.{fit_few, laid_places, lines_laid, zero_holds}
-use borrow.Author.Rules.{rules}
 use Rattle.sizes.proofs.sizes.Goals as goal
 
 pub returns-then-not-do_fit : goal.returns-then-not-do_fit

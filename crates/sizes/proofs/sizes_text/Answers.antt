@@ -5,7 +5,6 @@ use Prim.Native.Nat.{ℕ}
 use lib.ListN.{replicate, length-replicate}
 use Rattle.sizes.specs.Report.{report_line}
 use Rattle.sizes.proofs.Laws.Words.{printed}
-use borrow.Author.Rules.{rules}
 use Rattle.sizes.proofs.sizes_text.Goals as goal
 
 pub returns : goal.returns

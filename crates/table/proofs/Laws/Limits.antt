@@ -2,13 +2,12 @@
 -- Assumes nothing.
 use mathlib.Core.Path.{◌≡◌, refl, sym, ap, ◌∙◌}
 use mathlib.Core.Logic.{◌⊎◌, inl, inr}
-use mathlib.Core.Bool.{Bool, true, false, not, cond, ◌||◌}
+use mathlib.Core.Bool.{Bool, true, false, cond}
 use mathlib.Core.List.{List, [], ◌∷◌}
 use Prim.Native.Nat.{ℕ, zero, suc, ◌+◌, ◌≤◌, ◌<◌}
-use native.Mathlib.Nat.{not-suc-le-zero}
 use native.Mathlib.Numerals.{add-one}
 use native.Mathlib.Omega.{arith}
-use lib.Dec.{eqb, leb, ltb}
+use lib.Dec.{eqb, leb}
 use lib.ListN.{length, get_or, set, drop, replicate, length-set, length-replicate, drop_of_length-le}
 use lib.Seq.{drop-cons, get_or-set_same, get_or-set_other}
 use borrow.Author.Tests.{eqb-true, eqb-false, eq-eqb, ne_eqb, le-ltb, lt-ltb, ltb-true}
@@ -21,7 +20,7 @@ use Rattle.model.proofs.Offered.{test, fitting, place, length_filter}
 use Rattle.table.specs.Rows.{before, Orderly}
 use Rattle.table.specs.Limits.{limits_in, Makers, Counts, exceeds_by}
 use Rattle.table.proofs.Laws.Prefix.{before_suc, length_before}
-use Rattle.table.proofs.Laws.Judge.{orderly_row, orderly_live}
+use Rattle.table.proofs.Laws.Judge.{orderly_row}
 
 -- ---- one domain
 

@@ -5,11 +5,11 @@ use mathlib.Core.Logic.{◌⊎◌, inl, inr}
 use mathlib.Core.Bool.{Bool, true, false, not, cond, ◌&&◌, ◌||◌, or-true}
 use mathlib.Core.List.{List, [], ◌∷◌, ◌++◌, map, reverse, reverse-reverse}
 use Prim.Native.Nat.{ℕ, zero, suc, ◌+◌, ◌-◌, ◌*◌, ◌≤◌, ◌<◌}
-use native.Mathlib.Nat.{add-sub_cancel_left, not-suc-le-zero}
+use native.Mathlib.Nat.{add-sub_cancel_left}
 use native.Mathlib.Numerals.{add-one}
 use native.Mathlib.Omega.{arith}
-use lib.Dec.{eqb, leb, ltb}
-use lib.ListN.{length, get_or, set, take, drop, replicate, length-append, length-take, length-drop, length-replicate, get_or-replicate, get_or-append}
+use lib.Dec.{eqb, ltb}
+use lib.ListN.{length, get_or, set, take, drop, replicate, length-append, length-drop, length-replicate, get_or-replicate, get_or-append}
 use lib.Seq.{take-take, length-take-le, get_or-take, get_or-append-add, get_or-set_same, get_or-set_other}
 use borrow.Author.Tests.{eqb-true, eqb-false, eq-eqb, ne_eqb, le-leb, ltb-true, ltb-false}
 use Rattle.model.specs.declared.Cap.{Cap}
@@ -18,11 +18,11 @@ use Rattle.model.specs.Given.{count_from}
 use Rattle.model.specs.Slots.{Memory, Slot, Nothing, Stored, unstored}
 use Rattle.model.specs.Table.{empty_row, named, live_rows, lent_table, is_empty_row, live_rows_first, in_order}
 use Rattle.model.specs.Requests.{Limits}
-use Rattle.model.specs.Limits.{sum, exceeds, refused_sheet}
-use Rattle.model.specs.Refusals.{view_of, unfit, unfit_table, unfit_slot}
-use Rattle.model.proofs.Offered.{test, and_both, or_neither, all_append, length_lent}
+use Rattle.model.specs.Limits.{exceeds, refused_sheet}
+use Rattle.model.specs.Refusals.{view_of, unfit, unfit_slot}
+use Rattle.model.proofs.Offered.{test, and_both, all_append, length_lent}
 use Rattle.table.specs.Words.{cap_of, rows_in}
-use Rattle.table.specs.Rows.{name_at, parent_at, before, Front, Places, Orderly}
+use Rattle.table.specs.Rows.{before, Places, Orderly}
 use Rattle.table.specs.Limits.{limits_in, LimitsFor}
 use Rattle.table.specs.declared.ordered.Look.{Look}
 use Rattle.table.specs.declared.ordered.Look.TheVariants.{InOrder, Disordered}

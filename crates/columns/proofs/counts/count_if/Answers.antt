@@ -1,6 +1,5 @@
 -- `columns::counts::count_if` meets its contract.
 -- Assumes nothing.
-use borrow.Author.Rules.{rules}
 use Rattle.columns.proofs.counts.count_if.Goals as goal
 
 pub returns-then-has : goal.returns-then-has

@@ -1,6 +1,5 @@
 -- `columns::counts::with_kind` meets its contract.
 -- Assumes nothing.
-use borrow.Author.Rules.{rules}
 use Rattle.columns.proofs.counts.with_kind.Goals as goal
 
 pub returns : goal.returns

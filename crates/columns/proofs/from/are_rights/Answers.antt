@@ -1,12 +1,7 @@
-use mathlib.Core.Path.{◌≡◌, refl, ◌∙◌}
-use mathlib.Core.Bool.{◌&&◌}
-use Prim.Native.Nat.{◌-◌, ◌≤◌}
+use mathlib.Core.Path.{refl, ◌∙◌}
 use native.Mathlib.Omega.{arith}
-use lib.ListN.{length, drop}
-use Rattle.model.specs.Lists.{all}
 use Rattle.model.specs.Table.{is_right}
 use Rattle.columns.proofs.Laws.Turns.{all_more, all_found}
-use borrow.Author.Rules.{rules}
 use Rattle.columns.proofs.from.are_rights.Goals as goal
 
 pub loop-i-init : goal.loop-i-init

@@ -1,14 +1,11 @@
 -- `columns::from::are_rights` meets its contract. The invariant: what is found so far, and what is left, say what all do.
 -- Assumes nothing.
-use mathlib.Core.Path.{◌≡◌, refl, ◌∙◌}
+use mathlib.Core.Path.{◌≡◌}
 use mathlib.Core.Bool.{◌&&◌}
 use Prim.Native.Nat.{◌-◌, ◌≤◌}
-use native.Mathlib.Omega.{arith}
 use lib.ListN.{length, drop}
 use Rattle.model.specs.Lists.{all}
 use Rattle.model.specs.Table.{is_right}
-use Rattle.columns.proofs.Laws.Turns.{all_more, all_found}
-use borrow.Author.Rules.{rules}
 use Rattle.columns.proofs.from.are_rights.Given as goal
 
 abbrev pub invariant-loop-i : goal.invariant-loop-i

@@ -1,14 +1,13 @@
 use mathlib.Core.Path.{◌≡◌, refl, sym, ap, ◌∙◌}
-use mathlib.Core.Bool.{true, false, ◌&&◌}
-use Prim.Native.Nat.{◌+◌, ◌-◌, ◌≤◌}
+use mathlib.Core.Bool.{true, false}
+use Prim.Native.Nat.{◌+◌}
 use native.Mathlib.Omega.{arith}
-use lib.ListN.{length, drop, get_or}
+use lib.ListN.{drop, get_or}
 use Rattle.model.specs.Lists.{all}
 use Rattle.text.specs.Result.{value}
 use Rattle.columns.specs.Columns.{has_name, has_span, has_right}
 use Rattle.columns.specs.Walk.{is_five, count_if, with_kind, counts_of}
-use Rattle.columns.proofs.Laws.Turns.{counts, Small, small_with, all_more, all_found, plus, kinds_none, kinds_more, kinds_all}
-use borrow.Author.Rules.{rules}
+use Rattle.columns.proofs.Laws.Turns.{counts, small_with, all_more, all_found, plus, kinds_none, kinds_more, kinds_all}
 use Rattle.columns.proofs.from.count_kinds.Goals as goal
 
 pub loop-i-init : goal.loop-i-init

@@ -1,16 +1,12 @@
 -- `columns::from::count_kinds` meets its contract. The invariant: what is counted and found so far, and what is left, make up the whole.
 -- Assumes nothing.
-use mathlib.Core.Path.{◌≡◌, refl, sym, ap, ◌∙◌}
-use mathlib.Core.Bool.{true, false, ◌&&◌}
-use Prim.Native.Nat.{◌+◌, ◌-◌, ◌≤◌}
-use native.Mathlib.Omega.{arith}
-use lib.ListN.{length, drop, get_or}
+use mathlib.Core.Path.{◌≡◌}
+use mathlib.Core.Bool.{◌&&◌}
+use Prim.Native.Nat.{◌-◌, ◌≤◌}
+use lib.ListN.{length, drop}
 use Rattle.model.specs.Lists.{all}
-use Rattle.text.specs.Result.{value}
-use Rattle.columns.specs.Columns.{has_name, has_span, has_right}
-use Rattle.columns.specs.Walk.{is_five, count_if, with_kind, counts_of}
-use Rattle.columns.proofs.Laws.Turns.{counts, Small, small_with, all_more, all_found, plus, kinds_none, kinds_more, kinds_all}
-use borrow.Author.Rules.{rules}
+use Rattle.columns.specs.Walk.{is_five, counts_of}
+use Rattle.columns.proofs.Laws.Turns.{counts, Small, plus}
 use Rattle.columns.proofs.from.count_kinds.Given as goal
 
 abbrev pub invariant-loop-i : goal.invariant-loop-i

@@ -1,6 +1,5 @@
 -- `columns::from::count_short` meets its contract.
 -- Assumes nothing.
-use borrow.Author.Rules.{rules}
 use Rattle.columns.proofs.from.count_short.Goals as goal
 
 pub returns-then-has : goal.returns-then-has

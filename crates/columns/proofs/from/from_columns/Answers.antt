@@ -12,7 +12,6 @@ use Rattle.columns.specs.Columns.{columns, fits}
 use Rattle.columns.specs.Walk.{counts_of, used_by, counted_of, is_five}
 use Rattle.columns.proofs.Laws.Turns.{counted, uncounted, kinds_small}
 use Rattle.columns.proofs.Laws.From.{fits_asks, asks_fits, lengths_has, has_lengths, lengths_found, used_from, from_refused, from_short, from_all}
-use borrow.Author.Rules.{rules}
 use Rattle.columns.proofs.from.from_columns.Goals as goal
 
 pub returns-then-kinds-gt4096 : goal.returns-then-kinds-gt4096

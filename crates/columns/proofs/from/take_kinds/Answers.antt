@@ -1,17 +1,15 @@
 use mathlib.Core.Path.{◌≡◌, sym, ap, ◌∙◌}
-use mathlib.Core.Bool.{true}
 use mathlib.Core.List.{map}
-use Prim.Native.Nat.{◌+◌, ◌-◌, ◌≤◌}
+use Prim.Native.Nat.{◌+◌}
 use native.Mathlib.Omega.{arith}
-use lib.ListN.{length, drop, get_or, set}
+use lib.ListN.{drop, get_or, set}
 use Rattle.model.specs.Lists.{all}
 use Rattle.model.proofs.Offered.{and_both}
 use Rattle.columns.specs.Form.{event_words}
 use Rattle.columns.specs.Columns.{columns, event_from, events_from}
 use Rattle.columns.specs.Walk.{is_five, with_kind}
-use Rattle.columns.proofs.Laws.Turns.{Small, small_with, all_next, Storing, begin}
-use Rattle.columns.proofs.Laws.From.{events_at, turn, stored}
-use borrow.Author.Rules.{rules}
+use Rattle.columns.proofs.Laws.Turns.{small_with, all_next, begin}
+use Rattle.columns.proofs.Laws.From.{turn, stored}
 use Rattle.columns.proofs.from.take_kinds.Goals as goal
 
 pub loop-i-init : goal.loop-i-init

@@ -1,19 +1,16 @@
 -- `columns::from::take_kinds` meets its contract. The invariant: what is stored so far, and the events of what is left of the columns, make up the whole.
 -- Assumes nothing.
-use mathlib.Core.Path.{◌≡◌, sym, ap, ◌∙◌}
+use mathlib.Core.Path.{◌≡◌}
 use mathlib.Core.Bool.{true}
 use mathlib.Core.List.{map}
-use Prim.Native.Nat.{◌+◌, ◌-◌, ◌≤◌}
-use native.Mathlib.Omega.{arith}
-use lib.ListN.{length, drop, get_or, set}
+use Prim.Native.Nat.{◌-◌, ◌≤◌}
+use lib.ListN.{length, drop}
 use Rattle.model.specs.Lists.{all}
-use Rattle.model.proofs.Offered.{and_both}
 use Rattle.columns.specs.Form.{event_words}
-use Rattle.columns.specs.Columns.{columns, event_from, events_from}
-use Rattle.columns.specs.Walk.{is_five, with_kind}
-use Rattle.columns.proofs.Laws.Turns.{Small, small_with, all_next, Storing, begin}
-use Rattle.columns.proofs.Laws.From.{events_at, turn, stored}
-use borrow.Author.Rules.{rules}
+use Rattle.columns.specs.Columns.{columns, events_from}
+use Rattle.columns.specs.Walk.{is_five}
+use Rattle.columns.proofs.Laws.Turns.{Small, Storing}
+use Rattle.columns.proofs.Laws.From.{events_at}
 use Rattle.columns.proofs.from.take_kinds.Given as goal
 
 abbrev pub invariant-loop-i : goal.invariant-loop-i

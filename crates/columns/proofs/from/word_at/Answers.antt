@@ -2,7 +2,6 @@
 -- Assumes nothing.
 use mathlib.Core.Path.{sym}
 use lib.ListN.{get_or-eq_default}
-use borrow.Author.Rules.{rules}
 use Rattle.columns.proofs.from.word_at.Goals as goal
 
 pub returns-else-at-column : goal.returns-else-at-column

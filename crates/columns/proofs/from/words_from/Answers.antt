@@ -1,7 +1,6 @@
 -- `columns::from::words_from` meets its contract.
 -- Assumes nothing.
 use Rattle.columns.proofs.Laws.From.{words_from_lem}
-use borrow.Author.Rules.{rules}
 use Rattle.columns.proofs.from.words_from.Goals as goal
 
 pub returns : goal.returns

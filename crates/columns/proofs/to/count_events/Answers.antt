@@ -1,17 +1,15 @@
 use mathlib.Core.Path.{◌≡◌, refl, sym, ap, ◌∙◌}
 use mathlib.Core.Bool.{true, false}
 use mathlib.Core.List.{[]}
-use Prim.Native.Nat.{◌-◌, ◌≤◌}
 use native.Mathlib.Omega.{arith}
-use lib.ListN.{length, drop, get_or}
+use lib.ListN.{get_or}
 use borrow.Author.Tests.{not-true, not-false}
 use Rattle.model.specs.Lists.{all}
 use Rattle.text.specs.Result.{value}
 use Rattle.columns.specs.Form.{is_event}
-use Rattle.columns.specs.Walk.{with_kind, counts_of, kinds_in}
-use Rattle.columns.proofs.Laws.Turns.{Small, small_with, all_next, all_end, plus, kinds_none, kinds_more, kinds_all}
+use Rattle.columns.specs.Walk.{with_kind, kinds_in}
+use Rattle.columns.proofs.Laws.Turns.{small_with, all_next, all_end, kinds_none, kinds_more, kinds_all}
 use Rattle.columns.proofs.Laws.To.{kind_at, kinds_length}
-use borrow.Author.Rules.{rules}
 use Rattle.columns.proofs.to.count_events.Goals as goal
 
 pub loop-i-init : goal.loop-i-init

@@ -1,7 +1,6 @@
 -- `columns::to::put_below` meets its contract.
 -- Assumes nothing.
 use borrow.Author.Tests.{lt-ltb, le-ltb}
-use borrow.Author.Rules.{rules}
 use Rattle.columns.proofs.to.put_below.Goals as goal
 
 pub returns-then-at-used : goal.returns-then-at-used

@@ -1,17 +1,15 @@
-use mathlib.Core.Path.{◌≡◌, refl, sym, ◌∙◌}
-use mathlib.Core.Bool.{true}
+use mathlib.Core.Path.{refl, sym, ◌∙◌}
 use mathlib.Core.List.{[]}
-use Prim.Native.Nat.{◌+◌, ◌-◌, ◌≤◌}
+use Prim.Native.Nat.{◌+◌}
 use native.Mathlib.Omega.{arith}
-use lib.ListN.{length, drop, get_or}
+use lib.ListN.{drop, get_or}
 use Rattle.model.specs.Lists.{all}
 use Rattle.model.proofs.Offered.{and_both}
 use Rattle.columns.specs.Form.{is_event}
 use Rattle.columns.specs.Columns.{columns}
 use Rattle.columns.proofs.Laws.Words.{bytes_small}
-use Rattle.columns.proofs.Laws.Turns.{Small, small_with, all_next, inside}
-use Rattle.columns.proofs.Laws.To.{Putting, putting, columns_in, columns_next, room_each, places, turn, stored}
-use borrow.Author.Rules.{rules}
+use Rattle.columns.proofs.Laws.Turns.{small_with, all_next, inside}
+use Rattle.columns.proofs.Laws.To.{putting, columns_in, columns_next, room_each, places, turn, stored}
 use Rattle.columns.proofs.to.put_events.Goals as goal
 
 pub loop-i-init : goal.loop-i-init

@@ -1,19 +1,14 @@
 -- `columns::to::put_events` meets its contract. The invariant: of each column, what is stored so far and what is left make up the whole.
 -- Assumes nothing.
-use mathlib.Core.Path.{◌≡◌, refl, sym, ◌∙◌}
+use mathlib.Core.Path.{◌≡◌}
 use mathlib.Core.Bool.{true}
-use mathlib.Core.List.{[]}
-use Prim.Native.Nat.{◌+◌, ◌-◌, ◌≤◌}
-use native.Mathlib.Omega.{arith}
-use lib.ListN.{length, drop, get_or}
+use Prim.Native.Nat.{◌-◌, ◌≤◌}
+use lib.ListN.{length, drop}
 use Rattle.model.specs.Lists.{all}
-use Rattle.model.proofs.Offered.{and_both}
 use Rattle.columns.specs.Form.{is_event}
 use Rattle.columns.specs.Columns.{columns}
-use Rattle.columns.proofs.Laws.Words.{bytes_small}
-use Rattle.columns.proofs.Laws.Turns.{Small, small_with, all_next, inside}
-use Rattle.columns.proofs.Laws.To.{Putting, putting, columns_in, columns_next, room_each, places, turn, stored}
-use borrow.Author.Rules.{rules}
+use Rattle.columns.proofs.Laws.Turns.{Small}
+use Rattle.columns.proofs.Laws.To.{Putting, columns_in}
 use Rattle.columns.proofs.to.put_events.Given as goal
 
 abbrev pub invariant-loop-i : goal.invariant-loop-i

@@ -11,7 +11,6 @@ use Rattle.columns.specs.Columns.{columns}
 use Rattle.columns.specs.Walk.{counts_of, used_by, counted_of, kinds_in}
 use Rattle.columns.proofs.Laws.Turns.{counted, uncounted}
 use Rattle.columns.proofs.Laws.To.{read_all, read_other, read_long, room_found, used_is, words_small, to_refused, to_short, to_all}
-use borrow.Author.Rules.{rules}
 use Rattle.columns.proofs.to.to_columns.Goals as goal
 
 pub returns-then-events-gt4096 : goal.returns-then-events-gt4096

@@ -3,7 +3,6 @@
 use lib.Dec.{eqb, ltb}
 use lib.ListN.{get_or}
 use Rattle.columns.proofs.Laws.Words.{chosen}
-use borrow.Author.Rules.{rules}
 use Rattle.columns.proofs.words.holders_plain.Goals as goal
 
 pub returns : goal.returns

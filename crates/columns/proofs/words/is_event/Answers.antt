@@ -2,7 +2,6 @@
 -- Assumes nothing.
 use Rattle.columns.specs.Walk.{words_plain}
 use Rattle.columns.proofs.Laws.Words.{event_tested}
-use borrow.Author.Rules.{rules}
 use Rattle.columns.proofs.words.is_event.Goals as goal
 
 pub returns : goal.returns

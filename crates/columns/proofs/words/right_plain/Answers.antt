@@ -4,7 +4,6 @@ use lib.Dec.{eqb, ltb}
 use lib.ListN.{get_or}
 use Rattle.model.specs.Table.{is_right}
 use Rattle.columns.proofs.Laws.Words.{chosen}
-use borrow.Author.Rules.{rules}
 use Rattle.columns.proofs.words.right_plain.Goals as goal
 
 pub returns : goal.returns

@@ -4,7 +4,6 @@ use mathlib.Core.Path.{◌∙◌, sym, ap}
 use Rattle.listing.specs.declared.reading.ListingRead.{ListingRead}
 use Rattle.listing.specs.ReadInto.{listing_answer}
 use Rattle.kelzoud.specs.Interface.{packed_read}
-use borrow.Author.Rules.{rules}
 use Rattle.kelzoud.proofs.answers.packed_listing.Goals as goal
 
 pub returns-in-Issued : goal.returns-in-Issued

@@ -3,7 +3,6 @@
 use mathlib.Core.Path.{◌∙◌, sym, ap}
 use Rattle.trace.specs.declared.run.RunAnswer.{RunAnswer}
 use Rattle.kelzoud.specs.Interface.{packed_run}
-use borrow.Author.Rules.{rules}
 use Rattle.kelzoud.proofs.answers.packed_run.Goals as goal
 
 pub returns-in-Allowed : goal.returns-in-Allowed

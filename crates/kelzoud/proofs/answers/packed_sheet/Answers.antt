@@ -4,7 +4,6 @@ use mathlib.Core.Path.{◌∙◌, sym, ap}
 use Rattle.sheet.specs.declared.read.SheetRead.{SheetRead}
 use Rattle.sheet.specs.ReadSheet.{sheet_answer}
 use Rattle.kelzoud_events.specs.Interface.{packed}
-use borrow.Author.Rules.{rules}
 use Rattle.kelzoud.proofs.answers.packed_sheet.Goals as goal
 
 pub returns-in-Sheet : goal.returns-in-Sheet

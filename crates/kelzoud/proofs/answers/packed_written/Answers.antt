@@ -4,7 +4,6 @@ use mathlib.Core.Path.{◌∙◌, sym, ap}
 use Rattle.text.specs.declared.write.Written.{Written}
 use Rattle.text.specs.Write.{written_answer}
 use Rattle.kelzoud.specs.Interface.{packed_result}
-use borrow.Author.Rules.{rules}
 use Rattle.kelzoud.proofs.answers.packed_written.Goals as goal
 
 pub returns-in-Length : goal.returns-in-Length

@@ -5,7 +5,6 @@ use mathlib.Core.List.{[]}
 use Rattle.model.specs.declared.Asked.{Asked}
 use Rattle.model.specs.Requests.{Unlimited, request_of}
 use Rattle.kelzoud_events.specs.Interface.{words_of}
-use borrow.Author.Rules.{rules}
 use Rattle.kelzoud.proofs.requests.asked_words.Goals as goal
 
 pub returns-in-Work : goal.returns-in-Work

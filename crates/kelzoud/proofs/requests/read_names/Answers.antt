@@ -6,7 +6,6 @@ use Rattle.text.specs.Group.{group_answer}
 use Rattle.text.specs.State.{read_state}
 use Rattle.kelzoud_events.specs.Interface.{words_of}
 use Rattle.kelzoud.proofs.Laws.{counted, unread, state_names}
-use borrow.Author.Rules.{rules}
 use Rattle.kelzoud.proofs.requests.read_names.Goals as goal
 
 pub overflow_cast-count : goal.overflow_cast-count

@@ -8,7 +8,6 @@ use Rattle.text.specs.Result.{Result}
 use Rattle.text.specs.Read.{read_answer}
 use Rattle.text.specs.Request.{or_group}
 use Rattle.kelzoud.specs.Interface.{packed_read, event_after, group_after}
-use borrow.Author.Rules.{rules}
 use Rattle.kelzoud.proofs.requests.read_request.Goals as goal
 
 pub returns-in-Event : goal.returns-in-Event

@@ -7,7 +7,6 @@ use Rattle.text.specs.Result.{Result}
 use Rattle.text.specs.State.{state_answer}
 use Rattle.text.specs.Request.{state_of}
 use Rattle.kelzoud.specs.Interface.{packed_read, event_after}
-use borrow.Author.Rules.{rules}
 use Rattle.kelzoud.proofs.requests.read_slot.Goals as goal
 
 pub returns-in-Asked : goal.returns-in-Asked

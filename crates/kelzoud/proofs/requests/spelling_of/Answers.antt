@@ -2,7 +2,6 @@
 -- Assumes nothing.
 use mathlib.Core.Path.{◌∙◌, ap, sym}
 use Rattle.text.specs.Request.{spelling_of}
-use borrow.Author.Rules.{rules}
 use Rattle.kelzoud.proofs.requests.spelling_of.Goals as goal
 
 pub returns-in-Create : goal.returns-in-Create

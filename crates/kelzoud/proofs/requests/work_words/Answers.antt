@@ -5,7 +5,6 @@ use mathlib.Core.List.{[]}
 use Rattle.model.specs.declared.Work.{Work}
 use Rattle.model.specs.Requests.{Unlimited, work_of}
 use Rattle.kelzoud_events.specs.Interface.{words_of}
-use borrow.Author.Rules.{rules}
 use Rattle.kelzoud.proofs.requests.work_words.Goals as goal
 
 pub returns-in-Single : goal.returns-in-Single

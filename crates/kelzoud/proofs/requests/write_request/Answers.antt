@@ -4,7 +4,6 @@ use mathlib.Core.Path.{sym, ap, ◌∙◌}
 use Rattle.model.specs.declared.Asked.{Asked}
 use Rattle.model.specs.Requests.{Unlimited, request_of}
 use Rattle.text.specs.Request.{write_request}
-use borrow.Author.Rules.{rules}
 use Rattle.kelzoud.proofs.requests.write_request.Goals as goal
 
 pub returns-in-Work : goal.returns-in-Work

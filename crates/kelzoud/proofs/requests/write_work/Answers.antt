@@ -6,7 +6,6 @@ use Rattle.model.specs.Requests.{Unlimited, work_of}
 use Rattle.text.specs.declared.spelling.Spelling.{Spelling}
 use Rattle.text.specs.Write.{write_event}
 use Rattle.text.specs.Request.{write_request}
-use borrow.Author.Rules.{rules}
 use Rattle.kelzoud.proofs.requests.write_work.Goals as goal
 
 pub returns-in-Single : goal.returns-in-Single

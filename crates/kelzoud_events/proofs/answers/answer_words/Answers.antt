@@ -1,6 +1,5 @@
 -- `kelzoud_events::answers::answer_words` meets its contract: each case by its number and its value.
 -- Assumes nothing.
-use borrow.Author.Rules.{rules}
 use Rattle.kelzoud_events.proofs.answers.answer_words.Goals as goal
 
 pub returns-in-Allowed : goal.returns-in-Allowed

@@ -1,6 +1,5 @@
 -- `kelzoud_events::answers::charge_words` meets its contract.
 -- Assumes nothing.
-use borrow.Author.Rules.{rules}
 use Rattle.kelzoud_events.proofs.answers.charge_words.Goals as goal
 
 pub returns-in-Shares : goal.returns-in-Shares

@@ -1,7 +1,6 @@
 -- `kelzoud_events::answers::pack` meets its contract: the lower 32 bits hold the value.
 -- Assumes nothing.
 use Rattle.kelzoud_events.specs.Interface.{packed}
-use borrow.Author.Rules.{rules}
 use Rattle.kelzoud_events.proofs.answers.pack.Goals as goal
 
 pub returns : goal.returns

@@ -1,7 +1,6 @@
 -- `kelzoud_events::answers::pack_refusal` meets its contract.
 -- Assumes nothing.
 use Rattle.kelzoud_events.proofs.Laws.{number_small}
-use borrow.Author.Rules.{rules}
 use Rattle.kelzoud_events.proofs.answers.pack_refusal.Goals as goal
 
 pub pack-requires : goal.pack-requires

@@ -4,7 +4,6 @@ use mathlib.Core.Path.{◌∙◌, sym, ap}
 use Rattle.model.specs.declared.Answer.{Answer}
 use Rattle.model.specs.Answers.{verdict_of}
 use Rattle.kelzoud_events.specs.Interface.{packed_verdict}
-use borrow.Author.Rules.{rules}
 use Rattle.kelzoud_events.proofs.answers.packed_answer.Goals as goal
 
 pub returns-in-Allowed : goal.returns-in-Allowed

@@ -5,7 +5,6 @@ use Rattle.table.specs.Sheets.{sheet_in}
 use Rattle.table.specs.Limits.{limits_in}
 use Rattle.table.specs.Lent.{lent}
 use Rattle.kelzoud_events.proofs.Turns.{left}
-use borrow.Author.Rules.{rules}
 use Rattle.kelzoud_events.proofs.batch.apply_all.Goals as goal
 
 pub apply_first-requires : goal.apply_first-requires

@@ -12,7 +12,6 @@ use Rattle.table.specs.States.{states_in}
 use Rattle.table.specs.Lent.{tally_in, lent}
 use Rattle.table.specs.Known.{FindsAll}
 use Rattle.kelzoud_events.proofs.Turns.{ran_refused}
-use borrow.Author.Rules.{rules}
 use Rattle.kelzoud_events.proofs.batch.apply_first.Goals as goal
 
 pub take_turns-after-requires : goal.take_turns-after-requires

@@ -1,6 +1,5 @@
 -- `kelzoud_events::batch::put_answer` meets its contract.
 -- Assumes nothing.
-use borrow.Author.Rules.{rules}
 use Rattle.kelzoud_events.proofs.batch.put_answer.Goals as goal
 
 pub returns : goal.returns

@@ -1,11 +1,7 @@
 use mathlib.Core.Path.{◌≡◌, refl}
-use mathlib.Core.List.{◌++◌}
-use Prim.Native.Nat.{◌-◌, ◌≤◌}
 use native.Mathlib.Omega.{arith}
-use lib.ListN.{length, drop, replicate, length-set}
-use borrow.Author.Rules.{rules}
-use Rattle.kelzoud_events.proofs.Turns.{one, refused_more}
-use borrow.Author.Rules.{rules}
+use lib.ListN.{length-set}
+use Rattle.kelzoud_events.proofs.Turns.{refused_more}
 use Rattle.kelzoud_events.proofs.batch.refuse_all.Goals as goal
 
 pub loop-i-init : goal.loop-i-init

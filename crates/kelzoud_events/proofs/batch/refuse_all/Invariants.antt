@@ -1,13 +1,10 @@
 -- `kelzoud_events::batch::refuse_all` meets its contract.
 -- Assumes nothing.
-use mathlib.Core.Path.{◌≡◌, refl}
+use mathlib.Core.Path.{◌≡◌}
 use mathlib.Core.List.{◌++◌}
 use Prim.Native.Nat.{◌-◌, ◌≤◌}
-use native.Mathlib.Omega.{arith}
-use lib.ListN.{length, drop, replicate, length-set}
-use borrow.Author.Rules.{rules}
-use Rattle.kelzoud_events.proofs.Turns.{one, refused_more}
-use borrow.Author.Rules.{rules}
+use lib.ListN.{length, drop, replicate}
+use Rattle.kelzoud_events.proofs.Turns.{one}
 use Rattle.kelzoud_events.proofs.batch.refuse_all.Given as goal
 
 abbrev pub invariant-loop-i : goal.invariant-loop-i

@@ -1,20 +1,16 @@
 use mathlib.Core.Path.{◌≡◌, refl, sym, ap, ap₂, ◌∙◌}
 use mathlib.Core.List.{List}
-use Prim.Native.Nat.{ℕ, ◌-◌, ◌≤◌}
+use Prim.Native.Nat.{ℕ}
 use native.Mathlib.Omega.{arith}
-use lib.ListN.{length}
 use Rattle.model.specs.declared.Asked.{Asked}
 use Rattle.model.specs.Requests.{request_of}
 use Rattle.table.specs.Words.{rows_in}
 use Rattle.table.specs.Sheets.{sheet_in}
 use Rattle.table.specs.Limits.{limits_in}
 use Rattle.table.specs.States.{states_in}
-use Rattle.table.specs.Known.{FitAll}
 use Rattle.rules.specs.Steps.{lends}
 use Rattle.kelzoud_events.specs.Interface.{answer_words, request_in}
-use Rattle.kelzoud_events.specs.Batch.{Ran}
 use Rattle.kelzoud_events.proofs.Turns.{ran_none, ran_more}
-use borrow.Author.Rules.{rules}
 use Rattle.kelzoud_events.proofs.batch.take_turns.Goals as goal
 
 pub loop-i-init : goal.loop-i-init

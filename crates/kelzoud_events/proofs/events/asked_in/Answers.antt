@@ -2,7 +2,6 @@
 -- Assumes nothing.
 use Rattle.kelzoud_events.specs.Interface.{asked_in, event_in}
 use borrow.Author.Tests.{eq-eqb, ne_eqb}
-use borrow.Author.Rules.{rules}
 use Rattle.kelzoud_events.proofs.events.asked_in.Goals as goal
 
 pub returns-then-w-eq-DROP_ALL : goal.returns-then-w-eq-DROP_ALL

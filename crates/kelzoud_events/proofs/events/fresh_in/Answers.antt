@@ -1,6 +1,5 @@
 -- `fresh_in` meets its contract.
 -- Assumes nothing.
-use borrow.Author.Rules.{rules}
 use borrow.Author.Tests.{lt-ltb, le-ltb}
 use Rattle.kelzoud_events.proofs.events.fresh_in.Goals as goal
 

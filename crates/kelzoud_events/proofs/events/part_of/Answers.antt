@@ -3,7 +3,6 @@
 use native.Mathlib.Nat.{add-sub_cancel_left}
 use Rattle.kelzoud_events.specs.Interface.{part}
 use borrow.Author.Tests.{le-leb, lt-leb}
-use borrow.Author.Rules.{rules}
 use Rattle.kelzoud_events.proofs.events.part_of.Goals as goal
 
 pub returns-then-to-names : goal.returns-then-to-names

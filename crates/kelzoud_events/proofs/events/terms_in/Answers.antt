@@ -1,6 +1,5 @@
 -- `kelzoud_events::events::terms_in` meets its contract.
 -- Assumes nothing.
-use borrow.Author.Rules.{rules}
 use Rattle.kelzoud_events.proofs.events.terms_in.Goals as goal
 
 pub returns : goal.returns

@@ -1,7 +1,6 @@
 -- `kelzoud_events::events::words_of` meets its contract, case by case.
 -- Assumes nothing.
 use Rattle.kelzoud_events.specs.Interface.{words_of}
-use borrow.Author.Rules.{rules}
 use Rattle.kelzoud_events.proofs.events.words_of.Goals as goal
 
 pub returns-in-Create : goal.returns-in-Create

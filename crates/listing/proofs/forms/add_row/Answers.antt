@@ -4,7 +4,6 @@ use mathlib.Core.Path.{refl}
 use native.Mathlib.Numerals.{add-one}
 use native.Mathlib.Omega.{arith}
 use Rattle.listing.proofs.Laws.Stored.{added, added_newest}
-use borrow.Author.Rules.{rules}
 use Rattle.listing.proofs.forms.add_row.Goals as goal
 
 pub set_row-requires : goal.set_row-requires

@@ -5,7 +5,6 @@ use Prim.Native.Nat.{◌-◌}
 use native.Mathlib.Omega.{arith}
 use lib.ListN.{length, drop, length-drop, drop_of_length-le}
 use lib.Seq.{take_all, drop-length}
-use borrow.Author.Rules.{rules}
 use Rattle.listing.proofs.forms.past.Goals as goal
 
 pub returns-then-count-text : goal.returns-then-count-text

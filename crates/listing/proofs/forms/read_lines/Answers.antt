@@ -2,7 +2,6 @@ use mathlib.Core.Path.{◌≡◌, sym, ap, subst}
 use Prim.Native.Nat.{ℕ, ◌<◌}
 use native.Mathlib.Omega.{arith}
 use lib.ListN.{length}
-use borrow.Author.Rules.{rules}
 use Rattle.listing.proofs.Laws.Reading.{tail_length}
 use Rattle.listing.proofs.Laws.Roots.{Left, all_left, line_read, ended, full}
 use Rattle.listing.proofs.forms.read_lines.Goals as goal

@@ -3,7 +3,6 @@ use Prim.Native.Nat.{ℕ, suc, ◌-◌, ◌≤◌}
 use mathlib.Core.List.{List}
 use native.Mathlib.Omega.{arith}
 use lib.ListN.{length, replicate, length-replicate}
-use borrow.Author.Rules.{rules}
 use Rattle.model.specs.declared.Cap.{Cap}
 use Rattle.listing.specs.First.{first_rows}
 use Rattle.listing.proofs.Laws.First.{length_first}

@@ -1,10 +1,8 @@
 -- `listing::links::note_rows` meets its contract. The invariant: the notes are as many as they were.
 -- Assumes nothing.
-use mathlib.Core.Path.{◌≡◌, ◌∙◌}
+use mathlib.Core.Path.{◌≡◌}
 use Prim.Native.Nat.{◌-◌, ◌≤◌}
-use native.Mathlib.Omega.{arith}
-use lib.ListN.{length, length-set}
-use borrow.Author.Rules.{rules}
+use lib.ListN.{length}
 use Rattle.listing.proofs.links.note_rows.Given as goal
 
 abbrev pub invariant-loop-i : goal.invariant-loop-i

@@ -1,9 +1,5 @@
-use mathlib.Core.Path.{◌≡◌, refl, ◌∙◌}
-use Prim.Native.Nat.{◌-◌, ◌≤◌}
+use mathlib.Core.Path.{refl, ◌∙◌}
 use native.Mathlib.Omega.{arith}
-use lib.ListN.{length}
-use borrow.Author.Rules.{rules}
-use Rattle.listing.specs.First.{first_rows}
 use Rattle.listing.proofs.Laws.First.{copied_more, copied_all}
 use Rattle.listing.proofs.reading.copy_rows.Goals as goal
 

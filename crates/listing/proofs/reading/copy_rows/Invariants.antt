@@ -1,12 +1,9 @@
 -- `listing::reading::copy_rows` meets its contract. The invariant: the rows before i are copied.
 -- Assumes nothing.
-use mathlib.Core.Path.{◌≡◌, refl, ◌∙◌}
+use mathlib.Core.Path.{◌≡◌}
 use Prim.Native.Nat.{◌-◌, ◌≤◌}
-use native.Mathlib.Omega.{arith}
 use lib.ListN.{length}
-use borrow.Author.Rules.{rules}
 use Rattle.listing.specs.First.{first_rows}
-use Rattle.listing.proofs.Laws.First.{copied_more, copied_all}
 use Rattle.listing.proofs.reading.copy_rows.Given as goal
 
 abbrev pub invariant-loop-i : goal.invariant-loop-i

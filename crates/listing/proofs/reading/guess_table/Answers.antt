@@ -14,7 +14,6 @@ use Rattle.listing.specs.Sort.{sorted}
 use Rattle.listing.specs.Forms.{read_lines, guess_rows}
 use Rattle.listing.specs.Stored.{newest, Stored}
 use Rattle.listing.specs.ReadListing.{guess_table}
-use borrow.Author.Rules.{rules}
 use Rattle.listing.proofs.reading.guess_table.Goals as goal
 
 table_is : (s lines : List ℕ) (ws ws' : List (List ℕ)) (count : ℕ) → lines ≡ drop (through newline s) s → newest ws count ≡ read_lines 1024 (record { rest = lines; rows = [] })

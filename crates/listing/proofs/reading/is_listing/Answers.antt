@@ -17,7 +17,6 @@ use Rattle.listing.specs.Links.{Live}
 use Rattle.listing.specs.Listing.{listed}
 use Rattle.listing.specs.ReadListing.{is_listing}
 use Rattle.listing.proofs.Laws.Front.{order, front_live, front_listing}
-use borrow.Author.Rules.{rules}
 use Rattle.listing.proofs.reading.is_listing.Goals as goal
 
 module _ (s : List ℕ) (ws : List (List ℕ)) (issued : ℕ) where

@@ -20,7 +20,6 @@ use Rattle.listing.specs.ReadInto.{with_issued}
 use Rattle.listing.proofs.Laws.First.{rows_part}
 use Rattle.listing.proofs.Laws.Lent.{read_many, read_refused, read_given}
 use Rattle.listing.proofs.Laws.ReadListing.{stored_none, answers_2, answers_10, answers_given}
-use borrow.Author.Rules.{rules}
 use Rattle.listing.proofs.reading.read_listing.Goals as goal
 
 -- what was found of the rows that were stored

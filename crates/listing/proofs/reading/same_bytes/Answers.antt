@@ -1,8 +1,6 @@
-use mathlib.Core.Path.{◌≡◌, refl, sym, ap, ◌∙◌}
-use mathlib.Core.Bool.{true}
+use mathlib.Core.Path.{refl, sym, ap, ◌∙◌}
 use mathlib.Core.List.{List}
-use mathlib.Core.Logic.{⊎_elim}
-use Prim.Native.Nat.{ℕ, ◌-◌, ◌≤◌, ◌<◌}
+use Prim.Native.Nat.{ℕ}
 use native.Mathlib.Omega.{arith}
 use lib.ListN.{length, get_or}
 use lib.Seq.{ext_get_or}
@@ -21,8 +19,8 @@ pub loop-i-preserved : goal.loop-i-preserved
 loop-i-preserved c =
     let i = c.loop-i.i in
     elim c.if-a-i.branch [
-      then-a-i w ↦ (omega arith, λ e. clash e w.equal-is, λ e. absurd (w.if-a-i.true (ap (λ (s : List ℕ). get_or s i 0) e)))
-    | else-a-i w ↦ (omega arith, λ e. below_more _ _ (c.loop-i.invariant.1 (sym w.equal-is ∙ e)) w.if-a-i.false, λ e. w.equal-is ∙ c.loop-i.invariant.2 e)
+      | then-a-i w ↦ (omega arith, λ e. clash e w.equal-is, λ e. absurd (w.if-a-i.true (ap (λ (s : List ℕ). get_or s i 0) e)))
+      | else-a-i w ↦ (omega arith, λ e. below_more _ _ (c.loop-i.invariant.1 (sym w.equal-is ∙ e)) w.if-a-i.false, λ e. w.equal-is ∙ c.loop-i.invariant.2 e)
     ]
 
 pub returns : goal.returns

@@ -14,7 +14,6 @@ use Rattle.listing.specs.Listing.{listed}
 use Rattle.text.proofs.Offered.{wrote, wrote_none, same_is}
 use Rattle.listing.proofs.Laws.First.{length_first}
 use Rattle.listing.proofs.Laws.Fits.{listed_fits}
-use borrow.Author.Rules.{rules}
 use Rattle.listing.proofs.reading.writes_back.Goals as goal
 
 pub returns-in_default : goal.returns-in_default

@@ -3,7 +3,6 @@ use Prim.Native.Nat.{ℕ, ◌+◌, ◌-◌, ◌<◌}
 use mathlib.Core.List.{List}
 use native.Mathlib.Omega.{arith}
 use lib.ListN.{get_or, set, length-set}
-use borrow.Author.Rules.{rules}
 use Rattle.model.specs.declared.Cap.{Cap}
 use Rattle.model.specs.Table.{empty_row}
 use Rattle.table.specs.Words.{rows_in}

@@ -2,7 +2,6 @@
 -- Assumes nothing.
 use native.Mathlib.Omega.{arith}
 use Rattle.listing.proofs.Laws.Listing.{form_length_lem}
-use borrow.Author.Rules.{rules}
 use Rattle.listing.proofs.writing.form_length.Goals as goal
 
 pub returns : goal.returns

@@ -4,7 +4,6 @@ use native.Mathlib.Omega.{arith}
 use Rattle.listing.specs.First.{first_rows}
 use Rattle.listing.proofs.Laws.Live.{live_order}
 use Rattle.listing.proofs.Laws.Listing.{listed_length}
-use borrow.Author.Rules.{rules}
 use Rattle.listing.proofs.writing.listing_length.Goals as goal
 
 pub returns : goal.returns

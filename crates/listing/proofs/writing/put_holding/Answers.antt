@@ -11,7 +11,6 @@ use Rattle.text.specs.Put.{Room, Put}
 use Rattle.text.proofs.Offered.{put_length}
 use Rattle.listing.specs.Listing.{holding}
 use Rattle.listing.proofs.Laws.Writing.{Writing, begin, byte, piece, fits, one_fits, finish}
-use borrow.Author.Rules.{rules}
 use Rattle.listing.proofs.writing.put_holding.Goals as goal
 
 module _ (out : List ℕ) (at maker holders : ℕ) where

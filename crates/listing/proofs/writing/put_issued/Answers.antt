@@ -7,7 +7,6 @@ use Rattle.text.specs.Event.{bytes, spaced}
 use Rattle.text.specs.Put.{Put}
 use Rattle.listing.specs.Listing.{issued_line}
 use Rattle.listing.proofs.Laws.Writing.{Writing, begin, piece, fits, finish}
-use borrow.Author.Rules.{rules}
 use Rattle.listing.proofs.writing.put_issued.Goals as goal
 
 module _ (out : List ℕ) (issued : ℕ) {a : List ℕ} {p : ℕ} (one : Put out 0 (bytes "(issued") a p) where

@@ -9,7 +9,6 @@ use Rattle.text.specs.Put.{Put}
 use Rattle.listing.specs.Listing.{roots_from, issued_line, listed}
 use Rattle.listing.proofs.Laws.Writing.{Writing, begin, piece, fits, finish}
 use Rattle.listing.proofs.Laws.Listing.{listed_is}
-use borrow.Author.Rules.{rules}
 use Rattle.listing.proofs.writing.put_listing.Goals as goal
 
 module _ (rows : List Cap) (issued : ℕ) (out : List ℕ) where

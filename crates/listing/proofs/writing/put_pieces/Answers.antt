@@ -10,7 +10,6 @@ use Rattle.text.specs.Event.{spaced, right_word, kind_word, fresh_word}
 use Rattle.text.specs.Put.{Room, Put}
 use Rattle.listing.specs.Listing.{holding, pieces}
 use Rattle.listing.proofs.Laws.Writing.{Writing, begin, piece, fits, finish}
-use borrow.Author.Rules.{rules}
 use Rattle.listing.proofs.writing.put_pieces.Goals as goal
 
 module _ (out : List ℕ) (at : ℕ) (c : Cap) where

@@ -1,8 +1,7 @@
 use mathlib.Core.Path.{subst}
-use Prim.Native.Nat.{ℕ, ◌-◌}
+use Prim.Native.Nat.{ℕ}
 use native.Mathlib.Omega.{arith}
 use lib.ListN.{get_or}
-use borrow.Author.Rules.{rules}
 use Rattle.listing.specs.First.{first_rows}
 use Rattle.listing.proofs.Laws.First.{length_first}
 use Rattle.text.proofs.Offered.{put_length}

@@ -18,7 +18,6 @@ use Rattle.text.specs.declared.write.Written.{Written}
 use Rattle.table.proofs.Offered.{too_many}
 use Rattle.listing.proofs.Laws.Lent.{not_written}
 use Rattle.listing.proofs.Laws.Front.{front_live, front_listing}
-use borrow.Author.Rules.{rules}
 use Rattle.listing.proofs.writing.write_listing.Goals as goal
 
 module _ (ws : List (List ℕ)) (issued : ℕ) (out : List ℕ) where

@@ -4,7 +4,6 @@ use native.Mathlib.Omega.{arith}
 use Rattle.listing.specs.First.{first_rows}
 use Rattle.listing.specs.Listing.{listed}
 use Rattle.text.proofs.Offered.{writes_none, writes_put}
-use borrow.Author.Rules.{rules}
 use Rattle.listing.proofs.writing.write_rows.Goals as goal
 
 pub returns-then-out-listing_length : goal.returns-then-out-listing_length

@@ -1,6 +1,5 @@
 -- `number_of` meets its contract.
 -- Assumes nothing.
-use borrow.Author.Rules.{rules}
 use Rattle.rules.proofs.answers.number_of.Goals as goal
 
 pub returns-in-Disordered : goal.returns-in-Disordered

@@ -3,7 +3,6 @@
 use mathlib.Core.Path.{◌∙◌}
 use Rattle.model.specs.Requests.{Unlimited, caller}
 use Rattle.rules.proofs.Laws.Steps.{count_by}
-use borrow.Author.Rules.{rules}
 use Rattle.rules.proofs.count.count_allowed.Goals as goal
 
 pub returns-in-Single : goal.returns-in-Single

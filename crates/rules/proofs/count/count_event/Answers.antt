@@ -1,7 +1,6 @@
 -- `count_event` meets its contract.
 -- Assumes nothing.
 use native.Mathlib.Numerals.{add-one}
-use borrow.Author.Rules.{rules}
 use Rattle.rules.proofs.count.count_event.Goals as goal
 
 pub returns-in-Create : goal.returns-in-Create

@@ -1,6 +1,5 @@
 -- `count_refused` meets its contract.
 -- Assumes nothing.
-use borrow.Author.Rules.{rules}
 use Rattle.rules.proofs.count.count_refused.Goals as goal
 
 pub returns : goal.returns

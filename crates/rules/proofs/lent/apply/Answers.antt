@@ -1,7 +1,6 @@
 -- `apply` meets its contract.
 -- Assumes nothing.
 use mathlib.Core.Path.{◌∙◌}
-use borrow.Author.Rules.{rules}
 use Rattle.rules.proofs.lent.apply.Goals as goal
 
 pub returns : goal.returns

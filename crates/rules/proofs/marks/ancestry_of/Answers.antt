@@ -3,7 +3,7 @@ use native.Mathlib.Omega.{arith}
 use lib.ListN.{get_or}
 use Rattle.table.specs.Words.{rows_in}
 use Rattle.table.proofs.Offered.{rise_fits}
-use Rattle.rules.proofs.Laws.Marks.{Walk, walk_first, walk_step, walk_over}
+use Rattle.rules.proofs.Laws.Marks.{walk_first, walk_step, walk_over}
 use Rattle.rules.proofs.marks.ancestry_of.Goals as goal
 
 pub find-at-requires : goal.find-at-requires

@@ -1,11 +1,7 @@
 -- `ancestry_of` meets its contract: what is left of the ancestry starts at `at`, among the first `top` rows.
 -- Assumes nothing.
-use Prim.Native.Nat.{ℕ}
-use native.Mathlib.Omega.{arith}
-use lib.ListN.{get_or}
 use Rattle.table.specs.Words.{rows_in}
-use Rattle.table.proofs.Offered.{rise_fits}
-use Rattle.rules.proofs.Laws.Marks.{Walk, walk_first, walk_step, walk_over}
+use Rattle.rules.proofs.Laws.Marks.{Walk}
 use Rattle.rules.proofs.marks.ancestry_of.Given as goal
 
 abbrev pub invariant-loop-at : goal.invariant-loop-at

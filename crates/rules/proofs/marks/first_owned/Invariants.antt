@@ -2,9 +2,7 @@
 -- Assumes nothing.
 use mathlib.Core.Path.{◌≡◌}
 use Prim.Native.Nat.{ℕ, ◌-◌, ◌≤◌, ◌<◌}
-use native.Mathlib.Omega.{arith}
 use lib.ListN.{get_or}
-use Rattle.table.proofs.Offered.{extend}
 use Rattle.rules.proofs.marks.first_owned.Given as goal
 
 abbrev pub invariant-loop-i : goal.invariant-loop-i

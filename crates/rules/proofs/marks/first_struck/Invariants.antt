@@ -1,16 +1,13 @@
 -- `first_struck` meets its contract: no row in front of i is struck.
 -- Assumes nothing.
-use mathlib.Core.Path.{◌≡◌, sym, ap, ◌∙◌}
+use mathlib.Core.Path.{◌≡◌}
 use mathlib.Core.Bool.{false, not, ◌&&◌}
 use Prim.Native.Nat.{ℕ, ◌-◌, ◌≤◌, ◌<◌}
-use native.Mathlib.Omega.{arith}
 use lib.Dec.{eqb}
 use lib.ListN.{get_or}
-use Rattle.model.specs.declared.Span.{Span}
 use Rattle.model.specs.Table.{empty_row, span}
 use Rattle.model.specs.Values.{touches}
 use Rattle.table.specs.Words.{rows_in}
-use Rattle.table.proofs.Offered.{rise_fits, extend}
 use Rattle.rules.proofs.marks.first_struck.Given as goal
 
 abbrev pub invariant-loop-i : goal.invariant-loop-i

@@ -1,7 +1,6 @@
 -- `inside_mark` meets its contract.
 -- Assumes nothing.
 use native.Mathlib.Omega.{arith}
-use borrow.Author.Rules.{rules}
 use borrow.Author.Tests.{eq-eqb, ne_eqb, le-ltb, lt-ltb, le-leb, lt-leb}
 use Rattle.rules.proofs.marks.inside_mark.Goals as goal
 

@@ -1,7 +1,6 @@
 -- `is_struck` meets its contract.
 -- Assumes nothing.
 use mathlib.Core.Path.{◌≡◌, sym}
-use borrow.Author.Rules.{rules}
 use Rattle.model.specs.Values.{touches}
 use Rattle.rules.proofs.marks.is_struck.Goals as goal
 

@@ -1,6 +1,5 @@
 -- `mark_below` meets its contract.
 -- Assumes nothing.
-use borrow.Author.Rules.{rules}
 use borrow.Author.Tests.{lt-ltb, le-ltb}
 use Rattle.rules.proofs.marks.mark_below.Goals as goal
 

@@ -1,9 +1,8 @@
 use native.Mathlib.Omega.{arith}
 use mathlib.Core.Path.{◌≡◌}
-use Prim.Native.Nat.{◌+◌, ◌-◌, ◌≤◌}
-use lib.ListN.{length, drop}
+use Prim.Native.Nat.{◌+◌, ◌-◌}
+use lib.ListN.{length}
 use Rattle.table.specs.Words.{rows_in}
-use Rattle.rules.specs.Engine.{Owned}
 use Rattle.rules.proofs.Laws.Marks.{stand_rise, owned_none, owned_more}
 use Rattle.rules.proofs.marks.own_of_names.Goals as goal
 

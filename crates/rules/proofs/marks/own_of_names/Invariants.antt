@@ -1,12 +1,9 @@
 -- `own_of_names` meets its contract: from the last name to the first, those from i on are noted.
 -- Assumes nothing.
-use native.Mathlib.Omega.{arith}
-use mathlib.Core.Path.{◌≡◌}
-use Prim.Native.Nat.{◌+◌, ◌-◌, ◌≤◌}
+use Prim.Native.Nat.{◌≤◌}
 use lib.ListN.{length, drop}
 use Rattle.table.specs.Words.{rows_in}
 use Rattle.rules.specs.Engine.{Owned}
-use Rattle.rules.proofs.Laws.Marks.{stand_rise, owned_none, owned_more}
 use Rattle.rules.proofs.marks.own_of_names.Given as goal
 
 abbrev pub invariant-loop-i : goal.invariant-loop-i

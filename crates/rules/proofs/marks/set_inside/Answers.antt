@@ -1,11 +1,11 @@
 use mathlib.Core.Path.{◌≡◌, ap, ◌∙◌}
 use mathlib.Core.Bool.{cond}
-use Prim.Native.Nat.{ℕ, ◌-◌, ◌≤◌, ◌<◌}
+use Prim.Native.Nat.{ℕ}
 use native.Mathlib.Omega.{arith}
 use lib.Dec.{eqb}
 use lib.ListN.{get_or}
 use Rattle.rules.specs.Engine.{inside_of}
-use Rattle.rules.proofs.Laws.Marks.{SettingInside, inside_none, inside_more}
+use Rattle.rules.proofs.Laws.Marks.{inside_none, inside_more}
 use Rattle.rules.proofs.marks.set_inside.Goals as goal
 
 pub overflow_add-i : goal.overflow_add-i

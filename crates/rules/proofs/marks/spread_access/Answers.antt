@@ -1,5 +1,5 @@
 use mathlib.Core.Path.{◌≡◌, ap, ap₂, ◌∙◌}
-use Prim.Native.Nat.{ℕ, ◌-◌, ◌≤◌, ◌<◌, max}
+use Prim.Native.Nat.{ℕ, ◌<◌, max}
 use native.Mathlib.Omega.{arith}
 use lib.Dec.{eqb}
 use lib.ListN.{get_or, replicate, length-replicate, get_or-replicate}
@@ -8,8 +8,8 @@ use Rattle.model.specs.declared.Cap.{Cap}
 use Rattle.table.proofs.Offered.{rise_fits}
 use Rattle.table.specs.Words.{rows_in}
 use Rattle.table.specs.Sheets.{sheet_in}
-use Rattle.rules.specs.Engine.{value_below, own, own_of_access, Most}
-use Rattle.rules.proofs.Laws.Marks.{Spreading, spread_start, spread_more, most_more}
+use Rattle.rules.specs.Engine.{value_below, own, own_of_access}
+use Rattle.rules.proofs.Laws.Marks.{spread_start, spread_more, most_more}
 use Rattle.rules.proofs.marks.spread_access.Goals as goal
 
 pub loop-i-init : goal.loop-i-init

@@ -1,17 +1,12 @@
 -- `spread_access` meets its contract: the first i are done.
 -- Assumes nothing.
-use mathlib.Core.Path.{◌≡◌, ap, ap₂, ◌∙◌}
-use Prim.Native.Nat.{ℕ, ◌-◌, ◌≤◌, ◌<◌, max}
-use native.Mathlib.Omega.{arith}
-use lib.Dec.{eqb}
-use lib.ListN.{get_or, replicate, length-replicate, get_or-replicate}
-use lib.Seq.{get_or-set_other}
-use Rattle.model.specs.declared.Cap.{Cap}
-use Rattle.table.proofs.Offered.{rise_fits}
+use mathlib.Core.Path.{◌≡◌}
+use Prim.Native.Nat.{ℕ, ◌-◌, ◌≤◌, ◌<◌}
+use lib.ListN.{get_or}
 use Rattle.table.specs.Words.{rows_in}
 use Rattle.table.specs.Sheets.{sheet_in}
-use Rattle.rules.specs.Engine.{value_below, own, own_of_access, Most}
-use Rattle.rules.proofs.Laws.Marks.{Spreading, spread_start, spread_more, most_more}
+use Rattle.rules.specs.Engine.{own_of_access, Most}
+use Rattle.rules.proofs.Laws.Marks.{Spreading}
 use Rattle.rules.proofs.marks.spread_access.Given as goal
 
 abbrev pub invariant-loop-i : goal.invariant-loop-i

@@ -1,12 +1,12 @@
 use mathlib.Core.Path.{◌≡◌, ap, ◌∙◌}
 use mathlib.Core.Bool.{cond}
-use Prim.Native.Nat.{ℕ, ◌-◌, ◌≤◌, ◌<◌, max}
+use Prim.Native.Nat.{ℕ, ◌<◌, max}
 use native.Mathlib.Omega.{arith}
 use lib.Dec.{ltb}
 use lib.ListN.{get_or, replicate, length-replicate, get_or-replicate}
 use lib.Seq.{get_or-set_other}
 use Rattle.table.specs.Words.{rows_in}
-use Rattle.rules.proofs.Laws.Marks.{Spreading, spread_start, spread_more}
+use Rattle.rules.proofs.Laws.Marks.{spread_start, spread_more}
 use Rattle.rules.proofs.marks.spread_names.Goals as goal
 
 pub loop-i-init : goal.loop-i-init

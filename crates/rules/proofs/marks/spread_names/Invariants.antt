@@ -1,14 +1,10 @@
 -- `spread_names` meets its contract: the first i are done.
 -- Assumes nothing.
-use mathlib.Core.Path.{◌≡◌, ap, ◌∙◌}
-use mathlib.Core.Bool.{cond}
-use Prim.Native.Nat.{ℕ, ◌-◌, ◌≤◌, ◌<◌, max}
-use native.Mathlib.Omega.{arith}
-use lib.Dec.{ltb}
-use lib.ListN.{get_or, replicate, length-replicate, get_or-replicate}
-use lib.Seq.{get_or-set_other}
+use mathlib.Core.Path.{◌≡◌}
+use Prim.Native.Nat.{ℕ, ◌-◌, ◌≤◌, ◌<◌}
+use lib.ListN.{get_or}
 use Rattle.table.specs.Words.{rows_in}
-use Rattle.rules.proofs.Laws.Marks.{Spreading, spread_start, spread_more}
+use Rattle.rules.proofs.Laws.Marks.{Spreading}
 use Rattle.rules.proofs.marks.spread_names.Given as goal
 
 abbrev pub invariant-loop-i : goal.invariant-loop-i

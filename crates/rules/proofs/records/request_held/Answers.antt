@@ -1,7 +1,6 @@
 -- `request_held` meets its contract: a sheet is that of its bytes.
 -- Assumes nothing.
 use mathlib.Core.Path.{◌≡◌, ap, ◌∙◌}
-use borrow.Author.Rules.{rules}
 use Rattle.table.specs.Sheets.{sheet_in}
 use Rattle.table.proofs.Offered.{bytes_back}
 use Rattle.rules.proofs.records.request_held.Goals as goal

@@ -1,9 +1,7 @@
 use mathlib.Core.Path.{◌≡◌, refl, ap, ◌∙◌}
-use Prim.Native.Nat.{◌-◌, ◌≤◌}
 use native.Mathlib.Omega.{arith}
-use lib.ListN.{length, set}
+use lib.ListN.{set}
 use Rattle.table.specs.Words.{rows_in}
-use Rattle.rules.specs.Engine.{Clears}
 use Rattle.table.proofs.Offered.{length_in_lem}
 use Rattle.rules.proofs.Laws.Settle.{clears_none, clears_more}
 use Rattle.rules.proofs.settle.clear.Goals as goal

@@ -1,13 +1,10 @@
 -- `clear` meets its contract: zeros up to i.
 -- Assumes nothing.
-use mathlib.Core.Path.{◌≡◌, refl, ap, ◌∙◌}
+use mathlib.Core.Path.{◌≡◌}
 use Prim.Native.Nat.{◌-◌, ◌≤◌}
-use native.Mathlib.Omega.{arith}
-use lib.ListN.{length, set}
+use lib.ListN.{length}
 use Rattle.table.specs.Words.{rows_in}
 use Rattle.rules.specs.Engine.{Clears}
-use Rattle.table.proofs.Offered.{length_in_lem}
-use Rattle.rules.proofs.Laws.Settle.{clears_none, clears_more}
 use Rattle.rules.proofs.settle.clear.Given as goal
 
 abbrev pub invariant-loop-i : goal.invariant-loop-i

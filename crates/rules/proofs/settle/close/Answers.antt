@@ -1,10 +1,9 @@
 use mathlib.Core.Path.{◌≡◌, refl, ◌∙◌}
-use Prim.Native.Nat.{◌-◌, ◌≤◌}
 use native.Mathlib.Omega.{arith}
-use lib.ListN.{length, length-set}
+use lib.ListN.{length-set}
 use Rattle.table.specs.Words.{rows_in}
 use Rattle.table.proofs.Offered.{length_in_lem}
-use Rattle.rules.proofs.Laws.Settle.{Closing, closing_start, closing_more, Placing, placing_start, placing_more, place_fits}
+use Rattle.rules.proofs.Laws.Settle.{closing_start, closing_more, placing_start, placing_more, place_fits}
 use Rattle.rules.proofs.settle.close.Goals as goal
 
 pub loop-i-init : goal.loop-i-init

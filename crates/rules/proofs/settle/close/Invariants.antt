@@ -1,12 +1,10 @@
 -- `close` meets its contract: the first i rows have moved, and their parents' places with them.
 -- Assumes nothing.
-use mathlib.Core.Path.{◌≡◌, refl, ◌∙◌}
+use mathlib.Core.Path.{◌≡◌}
 use Prim.Native.Nat.{◌-◌, ◌≤◌}
-use native.Mathlib.Omega.{arith}
-use lib.ListN.{length, length-set}
+use lib.ListN.{length}
 use Rattle.table.specs.Words.{rows_in}
-use Rattle.table.proofs.Offered.{length_in_lem}
-use Rattle.rules.proofs.Laws.Settle.{Closing, closing_start, closing_more, Placing, placing_start, placing_more, place_fits}
+use Rattle.rules.proofs.Laws.Settle.{Closing, Placing}
 use Rattle.rules.proofs.settle.close.Given as goal
 
 abbrev pub invariant-loop-i : goal.invariant-loop-i

@@ -1,9 +1,6 @@
 use mathlib.Core.Path.{◌≡◌, refl, ◌∙◌}
-use Prim.Native.Nat.{◌-◌, ◌≤◌}
 use native.Mathlib.Omega.{arith}
-use lib.ListN.{length}
 use Rattle.table.specs.Words.{rows_in}
-use Rattle.rules.specs.Engine.{Lowers}
 use Rattle.table.proofs.Offered.{length_in_lem}
 use Rattle.rules.proofs.Laws.Settle.{lowers_start, lowers_more}
 use Rattle.rules.proofs.settle.lower.Goals as goal

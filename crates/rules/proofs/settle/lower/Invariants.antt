@@ -1,13 +1,10 @@
 -- `lower` meets its contract: the first i rows are done.
 -- Assumes nothing.
-use mathlib.Core.Path.{◌≡◌, refl, ◌∙◌}
+use mathlib.Core.Path.{◌≡◌}
 use Prim.Native.Nat.{◌-◌, ◌≤◌}
-use native.Mathlib.Omega.{arith}
 use lib.ListN.{length}
 use Rattle.table.specs.Words.{rows_in}
 use Rattle.rules.specs.Engine.{Lowers}
-use Rattle.table.proofs.Offered.{length_in_lem}
-use Rattle.rules.proofs.Laws.Settle.{lowers_start, lowers_more}
 use Rattle.rules.proofs.settle.lower.Given as goal
 
 abbrev pub invariant-loop-i : goal.invariant-loop-i

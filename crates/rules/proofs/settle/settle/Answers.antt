@@ -2,7 +2,6 @@
 -- Assumes nothing.
 use mathlib.Core.Path.{◌∙◌}
 use lib.ListN.{length}
-use borrow.Author.Rules.{rules}
 use Rattle.table.specs.Words.{rows_in}
 use Rattle.table.proofs.Offered.{length_in_lem}
 use Rattle.rules.proofs.Laws.Settle.{closed_settled}

@@ -1,13 +1,12 @@
 -- `bring` meets its contract.
 -- Assumes nothing.
-use mathlib.Core.Path.{◌≡◌, sym, ap, ◌∙◌}
+use mathlib.Core.Path.{◌≡◌, ap, ◌∙◌}
 use Prim.Native.Nat.{ℕ, ◌+◌, ◌-◌, ◌*◌}
 use native.Mathlib.Omega.{arith}
-use lib.ListN.{length, take, drop, length-drop}
+use lib.ListN.{length, drop, length-drop}
 use lib.Seq.{paste, take_all, length-take-le}
 use Rattle.table.proofs.Offered.{rows_size, bytes_size}
 use Rattle.rules.proofs.Laws.States.{brought, bits_brought}
-use borrow.Author.Rules.{rules}
 use Rattle.rules.proofs.states.bring.Goals as goal
 
 pub head_at-first-requires : goal.head_at-first-requires

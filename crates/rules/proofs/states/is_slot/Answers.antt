@@ -5,7 +5,6 @@ use mathlib.Core.Bool.{Bool, true, false, not, or-true}
 use borrow.Author.Tests.{lt-ltb}
 use Rattle.model.specs.Table.{is_domain}
 use Rattle.rules.proofs.Laws.States.{slot_low}
-use borrow.Author.Rules.{rules}
 use Rattle.rules.proofs.states.is_slot.Goals as goal
 
 twice : (b : Bool) → not (not b) ≡ b

@@ -1,7 +1,6 @@
 -- `nothing_stored` meets its contract.
 -- Assumes nothing.
 use mathlib.Core.Path.{sym, ◌∙◌}
-use borrow.Author.Rules.{rules}
 use Rattle.rules.proofs.states.nothing_stored.Goals as goal
 
 pub returns-then-is_domain : goal.returns-then-is_domain

@@ -1,16 +1,13 @@
 -- `store` meets its contract.
 -- Assumes nothing.
-use mathlib.Core.Path.{◌≡◌, sym, ap, ap₂, subst, ◌∙◌}
-use mathlib.Core.List.{List}
+use mathlib.Core.Path.{◌≡◌, ap, ◌∙◌}
 use Prim.Native.Nat.{ℕ, ◌+◌, ◌-◌, ◌*◌}
 use native.Mathlib.Omega.{arith}
 use lib.ListN.{length, set}
 use lib.Seq.{paste}
 use Rattle.table.specs.States.{head_words}
-use Rattle.rules.specs.States.{Stores}
 use Rattle.table.proofs.Offered.{rows_size, bytes_size}
 use Rattle.rules.proofs.Laws.States.{stores}
-use borrow.Author.Rules.{rules}
 use Rattle.rules.proofs.states.store.Goals as goal
 
 pub head_at-at-requires : goal.head_at-at-requires

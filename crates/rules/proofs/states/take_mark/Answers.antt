@@ -6,7 +6,6 @@ use borrow.Author.Tests.{not-true, not-false}
 use Rattle.model.specs.declared.Tally.{Tally}
 use Rattle.model.specs.Refusals.{not_a_slot}
 use Rattle.rules.proofs.Laws.States.{slot_few, marks_refused, marks_allowed}
-use borrow.Author.Rules.{rules}
 use Rattle.rules.proofs.states.take_mark.Goals as goal
 
 pub returns-then-not-is_slot : goal.returns-then-not-is_slot

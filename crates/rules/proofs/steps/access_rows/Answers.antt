@@ -1,7 +1,6 @@
 -- `access_rows` meets its contract.
 -- Assumes nothing.
 use mathlib.Core.Path.{◌≡◌, refl}
-use borrow.Author.Rules.{rules}
 use Rattle.model.specs.Effects.{after_access}
 use Rattle.table.specs.Words.{rows_in}
 use Rattle.table.specs.Sheets.{sheet_in}

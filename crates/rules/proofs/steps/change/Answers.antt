@@ -1,14 +1,12 @@
 -- `change` meets its contract.
 -- Assumes nothing.
 use mathlib.Core.Path.{subst}
-use mathlib.Core.List.{[]}
 use Rattle.model.specs.declared.Work.{Work}
 use Rattle.model.specs.declared.Work.TheVariants as work
 use Rattle.model.specs.Effects.{rows_after}
 use Rattle.table.specs.Words.{rows_in}
 use Rattle.rules.specs.Steps.{AllowedOn}
 use Rattle.rules.proofs.Laws.Steps.{ready}
-use borrow.Author.Rules.{rules}
 use Rattle.rules.proofs.steps.change.Goals as goal
 
 pub change_event-requires : goal.change_event-requires

@@ -4,7 +4,6 @@ use mathlib.Core.Path.{◌∙◌}
 use Rattle.model.specs.Bits.{bits_after}
 use Rattle.model.specs.Requests.{Unlimited, caller}
 use Rattle.rules.proofs.Laws.Steps.{bits_by}
-use borrow.Author.Rules.{rules}
 use Rattle.rules.proofs.steps.change_bits.Goals as goal
 
 pub returns-in-Single : goal.returns-in-Single

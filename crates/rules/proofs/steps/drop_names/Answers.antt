@@ -3,7 +3,6 @@
 use mathlib.Core.Path.{◌≡◌, refl}
 use mathlib.Core.Bool.{false}
 use lib.ListN.{get_or}
-use borrow.Author.Rules.{rules}
 use Rattle.model.specs.Derivation.{ancestry}
 use Rattle.model.specs.Table.{derivations}
 use Rattle.model.specs.Effects.{in_subtrees, rows_without}

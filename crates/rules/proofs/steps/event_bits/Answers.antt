@@ -1,6 +1,5 @@
 -- `event_bits` meets its contract: only a create and a write change bits.
 -- Assumes nothing.
-use borrow.Author.Rules.{rules}
 use Rattle.model.specs.Bits.{bits_after}
 use Rattle.rules.proofs.steps.event_bits.Goals as goal
 

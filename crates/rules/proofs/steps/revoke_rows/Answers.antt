@@ -3,7 +3,6 @@
 use mathlib.Core.Path.{◌∙◌}
 use native.Mathlib.Omega.{arith}
 use lib.ListN.{length}
-use borrow.Author.Rules.{rules}
 use Rattle.table.specs.Words.{rows_in}
 use Rattle.table.proofs.Offered.{length_in_lem}
 use Rattle.rules.proofs.Laws.Settle.{lowered_settled}

@@ -2,7 +2,7 @@
 -- Assumes nothing.
 use mathlib.Core.Path.{◌≡◌, subst}
 use mathlib.Core.Bool.{true}
-use Rattle.model.specs.Requests.{request_of, caller_of}
+use Rattle.model.specs.Requests.{request_of}
 use Rattle.model.specs.Refusals.{unfit, view_of}
 use Rattle.table.specs.declared.ordered.Look.{Look}
 use Rattle.table.specs.Words.{rows_in}
@@ -11,7 +11,6 @@ use Rattle.table.specs.Limits.{limits_in}
 use Rattle.table.specs.States.{states_in}
 use Rattle.table.specs.Known.{FindsAll}
 use Rattle.rules.proofs.Laws.Steps.{stepped_unfit, asked_limits}
-use borrow.Author.Rules.{rules}
 use Rattle.rules.proofs.steps.step.Goals as goal
 
 pub take-p-requires : goal.take-p-requires

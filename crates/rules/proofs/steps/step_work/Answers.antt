@@ -2,7 +2,7 @@
 -- Assumes nothing.
 use mathlib.Core.Path.{◌≡◌, subst}
 use mathlib.Core.Bool.{true}
-use Rattle.model.specs.Requests.{work_of, caller_of}
+use Rattle.model.specs.Requests.{work_of}
 use Rattle.model.specs.Refusals.{unfit, view_of}
 use Rattle.model.specs.Slots.{unstored}
 use Rattle.table.specs.declared.ordered.Look.{Look}
@@ -11,7 +11,6 @@ use Rattle.table.specs.Sheets.{sheet_in}
 use Rattle.table.specs.Limits.{limits_in}
 use Rattle.table.specs.Known.{Finds}
 use Rattle.rules.proofs.Laws.Steps.{stepped_unfit, with_limits}
-use borrow.Author.Rules.{rules}
 use Rattle.rules.proofs.steps.step_work.Goals as goal
 
 pub take_work-p-requires : goal.take_work-p-requires

@@ -1,7 +1,5 @@
 -- `take` meets its contract.
 -- Assumes nothing.
-use mathlib.Core.Path.{◌≡◌, ap}
-use Rattle.model.specs.declared.Tally.{Tally}
 use Rattle.model.specs.Requests.{Request, work_of}
 use Rattle.table.specs.Sheets.{sheet_in}
 use Rattle.table.specs.Limits.{limits_in}
@@ -9,7 +7,6 @@ use Rattle.table.specs.States.{states_in}
 use Rattle.table.proofs.Offered.{states_eight}
 use Rattle.rules.proofs.Laws.Steps.{is_work, worked_stepped}
 use Rattle.rules.proofs.Laws.States.{same_fit}
-use borrow.Author.Rules.{rules}
 use Rattle.rules.proofs.steps.take.Goals as goal
 
 pub take_work-requires : goal.take_work-requires

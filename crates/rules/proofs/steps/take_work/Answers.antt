@@ -1,9 +1,8 @@
 -- `take_work` meets its contract.
 -- Assumes nothing.
-use mathlib.Core.Path.{◌≡◌, refl, sym, subst, ◌∙◌, ap}
+use mathlib.Core.Path.{◌≡◌, refl, subst, ◌∙◌, ap}
 use mathlib.Core.Bool.{false}
 use mathlib.Core.List.{List}
-use Prim.Native.Nat.{ℕ}
 use lib.ListN.{length}
 use Rattle.model.specs.declared.Cap.{Cap}
 use Rattle.model.specs.declared.Answer.{Answer}
@@ -23,7 +22,6 @@ use Rattle.table.specs.Limits.{limits_in}
 use Rattle.model.proofs.Offered.{no_slot}
 use Rattle.table.proofs.Offered.{orderly_issued}
 use Rattle.rules.proofs.Laws.Steps.{allowed_zero, stepped_allowed, stepped_refused, orderly_after, allowed_after, with_limits, without_limits, all_fit, is_work, same_rows, same_bits, counted}
-use borrow.Author.Rules.{rules}
 use Rattle.rules.proofs.steps.take_work.Goals as goal
 
 pub judge_request-a-requires : goal.judge_request-a-requires

@@ -1,9 +1,6 @@
 use mathlib.Core.Path.{sym, ◌∙◌}
-use mathlib.Core.Logic.{⊎_elim}
-use Prim.Native.Nat.{◌-◌, ◌≤◌}
 use native.Mathlib.Omega.{arith}
-use borrow.Author.Rules.{rules}
-use Rattle.sheet.proofs.Laws.Adding.{Filled, filled_none, filled_set, filled_keep, seen_after, result_after, given_first, given_never, given_before, adds_all}
+use Rattle.sheet.proofs.Laws.Adding.{filled_none, filled_set, filled_keep, seen_after, result_after, given_first, given_never, given_before, adds_all}
 use Rattle.sheet.proofs.read.add_rule.Goals.{then-before-eq0+then-times-ne0, then-before-eq0+else-times-ne0, else-before-eq0}
 use Rattle.sheet.proofs.read.add_rule.Goals as goal
 
@@ -26,9 +23,9 @@ loop-p-preserved c =
       omega (arith, c.loop-p-test.true),
       filled_set (seen_after rule seen) seen c.loop-p.seen p c.loop-p-test.true c.loop-p.invariant.1 c.up_to_2.result (c.up_to_2.ensures ∙ rw (left, c.given_by-times.ensures)),
       elim c.if-before-eq0.branch [
-        then-before-eq0+then-times-ne0 w ↦ rw w.results-is (filled_set after results c.loop-p.results p c.loop-p-test.true c.loop-p.invariant.2 rule.result (given_first rule seen results p (sym left ∙ w.if-before-eq0.true) (λ e. w.if-times-ne0.true (c.given_by-times.ensures ∙ e))))
-      | then-before-eq0+else-times-ne0 w ↦ rw w.results-is (filled_keep after results c.loop-p.results p c.loop-p-test.true c.loop-p.invariant.2 (given_never rule seen results p (sym left ∙ w.if-before-eq0.true) (sym c.given_by-times.ensures ∙ w.if-times-ne0.false)))
-      | else-before-eq0 w ↦ rw w.results-is (filled_keep after results c.loop-p.results p c.loop-p-test.true c.loop-p.invariant.2 (given_before rule seen results p (λ e. w.if-before-eq0.false (left ∙ e))))
+        | then-before-eq0+then-times-ne0 w ↦ rw w.results-is (filled_set after results c.loop-p.results p c.loop-p-test.true c.loop-p.invariant.2 rule.result (given_first rule seen results p (sym left ∙ w.if-before-eq0.true) (λ e. w.if-times-ne0.true (c.given_by-times.ensures ∙ e))))
+        | then-before-eq0+else-times-ne0 w ↦ rw w.results-is (filled_keep after results c.loop-p.results p c.loop-p-test.true c.loop-p.invariant.2 (given_never rule seen results p (sym left ∙ w.if-before-eq0.true) (sym c.given_by-times.ensures ∙ w.if-times-ne0.false)))
+        | else-before-eq0 w ↦ rw w.results-is (filled_keep after results c.loop-p.results p c.loop-p-test.true c.loop-p.invariant.2 (given_before rule seen results p (λ e. w.if-before-eq0.false (left ∙ e))))
       ],
     )
 

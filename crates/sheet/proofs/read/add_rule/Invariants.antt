@@ -1,11 +1,7 @@
 -- `sheet::read::add_rule` meets its contract. The invariant: up to p both lists have what the line leaves, and behind it what they had.
 -- Assumes nothing.
-use mathlib.Core.Path.{sym, ◌∙◌}
-use mathlib.Core.Logic.{⊎_elim}
 use Prim.Native.Nat.{◌-◌, ◌≤◌}
-use native.Mathlib.Omega.{arith}
-use borrow.Author.Rules.{rules}
-use Rattle.sheet.proofs.Laws.Adding.{Filled, filled_none, filled_set, filled_keep, seen_after, result_after, given_first, given_never, given_before, adds_all}
+use Rattle.sheet.proofs.Laws.Adding.{Filled, seen_after, result_after}
 use Rattle.sheet.proofs.read.add_rule.Given as goal
 
 abbrev pub invariant-loop-p : goal.invariant-loop-p

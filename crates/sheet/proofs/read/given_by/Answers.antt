@@ -1,7 +1,6 @@
 -- `sheet::read::given_by` meets its contract.
 -- Assumes nothing.
 use native.Mathlib.Omega.{arith}
-use borrow.Author.Rules.{rules}
 use Rattle.sheet.proofs.Laws.Adding.{product_small}
 use Rattle.sheet.proofs.read.given_by.Goals as goal
 

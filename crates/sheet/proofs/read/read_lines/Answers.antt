@@ -1,10 +1,7 @@
-use Prim.Native.Nat.{◌-◌, ◌≤◌}
 use native.Mathlib.Omega.{arith}
-use lib.ListN.{length}
-use borrow.Author.Rules.{rules}
 use Rattle.text.specs.Class.{newline}
 use Rattle.text.proofs.Offered.{part_inside, part_longer}
-use Rattle.sheet.proofs.Laws.Adding.{Reads, reads_none, reads_all, reads_stops, reads_more}
+use Rattle.sheet.proofs.Laws.Adding.{reads_none, reads_all, reads_stops, reads_more}
 use Rattle.sheet.proofs.read.read_lines.Goals as goal
 
 pub loop-at-init : goal.loop-at-init

@@ -1,12 +1,8 @@
 -- `sheet::read::read_lines` meets its contract. The invariant: the lines up to here are rules and added up.
 -- Assumes nothing.
 use Prim.Native.Nat.{◌-◌, ◌≤◌}
-use native.Mathlib.Omega.{arith}
 use lib.ListN.{length}
-use borrow.Author.Rules.{rules}
-use Rattle.text.specs.Class.{newline}
-use Rattle.text.proofs.Offered.{part_inside, part_longer}
-use Rattle.sheet.proofs.Laws.Adding.{Reads, reads_none, reads_all, reads_stops, reads_more}
+use Rattle.sheet.proofs.Laws.Adding.{Reads}
 use Rattle.sheet.proofs.read.read_lines.Given as goal
 
 abbrev pub invariant-loop-at : goal.invariant-loop-at

@@ -1,7 +1,6 @@
 -- `sheet::read::read_sheet` meets its contract.
 -- Assumes nothing.
 use mathlib.Core.Path.{sym, ◌∙◌}
-use borrow.Author.Rules.{rules}
 use borrow.Author.Tests.{not-true, not-false}
 use Rattle.sheet.proofs.Laws.Adding.{noted_none, sheet_misspelt, sheet_twice, sheet_missing, sheet_is}
 use Rattle.sheet.proofs.read.read_sheet.Goals as goal

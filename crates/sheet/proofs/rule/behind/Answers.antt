@@ -1,6 +1,5 @@
 -- `sheet::rule::behind` meets its contract.
 -- Assumes nothing.
-use borrow.Author.Rules.{rules}
 use native.Mathlib.Omega.{arith}
 use Rattle.text.specs.Class.{space}
 use Rattle.text.proofs.Offered.{part_inside}

@@ -1,6 +1,5 @@
 -- `sheet::rule::count_one` meets its contract.
 -- Assumes nothing.
-use borrow.Author.Rules.{rules}
 use Rattle.sheet.proofs.rule.count_one.Goals as goal
 
 pub returns : goal.returns

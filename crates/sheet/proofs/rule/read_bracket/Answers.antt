@@ -1,6 +1,5 @@
 -- `sheet::rule::read_bracket` meets its contract.
 -- Assumes nothing.
-use borrow.Author.Rules.{rules}
 use Rattle.sheet.specs.Reading.{words_for}
 use Rattle.sheet.proofs.Laws.Reading.{bracket_read}
 use Rattle.sheet.proofs.rule.read_bracket.Goals as goal

@@ -1,12 +1,9 @@
-use Prim.Native.Nat.{◌-◌, ◌≤◌}
 use native.Mathlib.Omega.{arith}
-use lib.ListN.{length}
-use borrow.Author.Rules.{rules}
 use Rattle.text.specs.Class.{space}
 use Rattle.sheet.specs.Rule.{listed}
 use Rattle.sheet.specs.Reading.{words_for, words_from}
 use Rattle.text.proofs.Offered.{part_inside, part_longer}
-use Rattle.sheet.proofs.Laws.Reading.{few, Goes, goes_start, list_ends, list_other, list_closes, list_goes}
+use Rattle.sheet.proofs.Laws.Reading.{few, goes_start, list_ends, list_other, list_closes, list_goes}
 use Rattle.sheet.proofs.rule.read_list.Goals as goal
 
 pub loop-at-init : goal.loop-at-init

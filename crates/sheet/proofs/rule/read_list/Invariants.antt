@@ -1,14 +1,10 @@
 -- `sheet::rule::read_list` meets its contract. The invariant: what is counted, with what is listed from here on, is what the bracket lists.
 -- Assumes nothing.
 use Prim.Native.Nat.{◌-◌, ◌≤◌}
-use native.Mathlib.Omega.{arith}
 use lib.ListN.{length}
-use borrow.Author.Rules.{rules}
-use Rattle.text.specs.Class.{space}
 use Rattle.sheet.specs.Rule.{listed}
 use Rattle.sheet.specs.Reading.{words_for, words_from}
-use Rattle.text.proofs.Offered.{part_inside, part_longer}
-use Rattle.sheet.proofs.Laws.Reading.{few, Goes, goes_start, list_ends, list_other, list_closes, list_goes}
+use Rattle.sheet.proofs.Laws.Reading.{Goes}
 use Rattle.sheet.proofs.rule.read_list.Given as goal
 
 abbrev pub invariant-loop-at : goal.invariant-loop-at

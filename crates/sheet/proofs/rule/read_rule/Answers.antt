@@ -1,6 +1,5 @@
 -- `sheet::rule::read_rule` meets its contract.
 -- Assumes nothing.
-use borrow.Author.Rules.{rules}
 use Rattle.sheet.proofs.Laws.Reading.{rule_read}
 use Rattle.sheet.proofs.rule.read_rule.Goals as goal
 

@@ -1,6 +1,5 @@
 -- `sheet::words::access_code` meets its contract.
 -- Assumes nothing.
-use borrow.Author.Rules.{rules}
 use Rattle.sheet.specs.Words.{number_among}
 use Rattle.sheet.specs.Reading.{word_code}
 use Rattle.sheet.proofs.Laws.Reading.{passed, failed}

@@ -1,6 +1,5 @@
 -- `sheet::words::result_number` meets its contract.
 -- Assumes nothing.
-use borrow.Author.Rules.{rules}
 use Rattle.sheet.specs.Words.{number_among}
 use Rattle.sheet.proofs.Laws.Reading.{passed, failed}
 use Rattle.sheet.proofs.words.result_number.Goals as goal

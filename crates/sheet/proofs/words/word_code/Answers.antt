@@ -1,6 +1,5 @@
 -- `sheet::words::word_code` meets its contract.
 -- Assumes nothing.
-use borrow.Author.Rules.{rules}
 use Rattle.sheet.proofs.words.word_code.Goals as goal
 
 pub returns-in-Holder : goal.returns-in-Holder

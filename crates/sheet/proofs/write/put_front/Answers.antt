@@ -1,7 +1,6 @@
 -- `sheet::write::put_front` meets its contract: its pieces, one behind the other, are the front.
 -- Assumes nothing.
 use native.Mathlib.Omega.{arith}
-use borrow.Author.Rules.{rules}
 use Rattle.text.proofs.Offered.{put_two}
 use Rattle.sheet.specs.Writing.{front_at}
 use Rattle.sheet.proofs.Laws.Writing.{front_long}

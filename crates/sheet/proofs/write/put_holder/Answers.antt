@@ -2,7 +2,6 @@
 -- Assumes nothing.
 use native.Mathlib.Omega.{arith}
 use mathlib.Core.Path.{◌≡◌}
-use borrow.Author.Rules.{rules}
 use Rattle.sheet.proofs.write.put_holder.Goals as goal
 
 pub put_bytes-requires : goal.put_bytes-requires

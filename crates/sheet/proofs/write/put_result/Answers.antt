@@ -3,7 +3,6 @@
 use Prim.Native.Nat.{min}
 use native.Mathlib.Omega.{arith}
 use mathlib.Core.Path.{◌≡◌}
-use borrow.Author.Rules.{rules}
 use Rattle.sheet.proofs.write.put_result.Goals as goal
 
 pub put_bytes-requires : goal.put_bytes-requires

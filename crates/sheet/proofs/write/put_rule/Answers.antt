@@ -1,7 +1,6 @@
 -- `sheet::write::put_rule` meets its contract: its pieces, one behind the other, are the line.
 -- Assumes nothing.
 use native.Mathlib.Omega.{arith}
-use borrow.Author.Rules.{rules}
 use Rattle.text.proofs.Offered.{put_two}
 use Rattle.sheet.proofs.Laws.Writing.{line_pieces_lem, line_long}
 use Rattle.sheet.proofs.write.put_rule.Goals as goal

@@ -1,9 +1,7 @@
-use Prim.Native.Nat.{◌≤◌, ◌-◌}
 use native.Mathlib.Omega.{arith}
-use borrow.Author.Rules.{rules}
 use lib.ListN.{get_or}
 use Rattle.text.proofs.Offered.{put_length}
-use Rattle.sheet.proofs.Laws.Writing.{line_most, Lines, lines_begin, lines_next, lines_end}
+use Rattle.sheet.proofs.Laws.Writing.{line_most, lines_begin, lines_next, lines_end}
 use Rattle.sheet.proofs.write.put_rules.Goals as goal
 
 pub loop-place-init : goal.loop-place-init

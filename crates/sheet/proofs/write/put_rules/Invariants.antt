@@ -1,11 +1,7 @@
 -- `sheet::write::put_rules` meets its contract. The loop's invariant: the lines of the combinations passed stand at the first bytes.
 -- The measure is what is left of the 18. Assumes nothing.
 use Prim.Native.Nat.{◌≤◌, ◌-◌}
-use native.Mathlib.Omega.{arith}
-use borrow.Author.Rules.{rules}
-use lib.ListN.{get_or}
-use Rattle.text.proofs.Offered.{put_length}
-use Rattle.sheet.proofs.Laws.Writing.{line_most, Lines, lines_begin, lines_next, lines_end}
+use Rattle.sheet.proofs.Laws.Writing.{Lines}
 use Rattle.sheet.proofs.write.put_rules.Given as goal
 
 abbrev pub invariant-loop-place : goal.invariant-loop-place

@@ -1,6 +1,5 @@
 -- `sizes::fit::do_fit` meets its contract.
 -- Assumes nothing.
-use borrow.Author.Rules.{rules}
 use borrow.Author.Tests.{lt-leb, le-leb}
 use Rattle.sizes.specs.Report.{fits}
 use Rattle.sizes.proofs.fit.do_fit.Goals as goal

@@ -1,8 +1,5 @@
-use Prim.Native.Nat.{◌-◌}
 use native.Mathlib.Omega.{arith}
-use lib.ListN.{length}
-use Rattle.sizes.proofs.Laws.Laid.{Laying, laying_none, laying_more, laying_all}
-use borrow.Author.Rules.{rules}
+use Rattle.sizes.proofs.Laws.Laid.{laying_none, laying_more, laying_all}
 use Rattle.sizes.proofs.fit.lay_out.Goals as goal
 
 pub loop-k-init : goal.loop-k-init

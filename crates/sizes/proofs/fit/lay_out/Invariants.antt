@@ -1,10 +1,8 @@
 -- `sizes::fit::lay_out` meets its contract. The invariant, `Laying`: each text that is passed begins and ends at sums of lengths.
 -- Assumes nothing.
 use Prim.Native.Nat.{◌-◌}
-use native.Mathlib.Omega.{arith}
 use lib.ListN.{length}
-use Rattle.sizes.proofs.Laws.Laid.{Laying, laying_none, laying_more, laying_all}
-use borrow.Author.Rules.{rules}
+use Rattle.sizes.proofs.Laws.Laid.{Laying}
 use Rattle.sizes.proofs.fit.lay_out.Given as goal
 
 abbrev pub invariant-loop-k : goal.invariant-loop-k

@@ -1,11 +1,10 @@
-use mathlib.Core.Path.{◌≡◌, refl, ap, ◌∙◌}
-use Prim.Native.Nat.{ℕ, ◌-◌, ◌*◌, ◌≤◌}
+use mathlib.Core.Path.{refl, ap, ◌∙◌}
+use Prim.Native.Nat.{ℕ}
 use native.Mathlib.Numerals.{add-one}
 use native.Mathlib.Omega.{arith}
-use lib.ListN.{length, take}
+use lib.ListN.{take}
 use Rattle.model.specs.Limits.{sum}
 use Rattle.sizes.proofs.Laws.Laid.{sum_more, sum_all}
-use borrow.Author.Rules.{rules}
 use Rattle.sizes.proofs.fit.sum_of.Goals as goal
 
 pub loop-k-init : goal.loop-k-init

@@ -1,13 +1,9 @@
 -- `sizes::fit::sum_of` meets its contract. The invariant: the total is the sum of the lengths that are passed.
 -- Assumes nothing.
-use mathlib.Core.Path.{◌≡◌, refl, ap, ◌∙◌}
-use Prim.Native.Nat.{ℕ, ◌-◌, ◌*◌, ◌≤◌}
-use native.Mathlib.Numerals.{add-one}
-use native.Mathlib.Omega.{arith}
+use mathlib.Core.Path.{◌≡◌}
+use Prim.Native.Nat.{◌-◌, ◌*◌, ◌≤◌}
 use lib.ListN.{length, take}
 use Rattle.model.specs.Limits.{sum}
-use Rattle.sizes.proofs.Laws.Laid.{sum_more, sum_all}
-use borrow.Author.Rules.{rules}
 use Rattle.sizes.proofs.fit.sum_of.Given as goal
 
 abbrev pub invariant-loop-k : goal.invariant-loop-k

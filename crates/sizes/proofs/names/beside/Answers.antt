@@ -1,6 +1,5 @@
 -- `sizes::names::beside` meets its contract.
 -- Assumes nothing.
-use borrow.Author.Rules.{rules}
 use borrow.Author.Tests.{lt-ltb, le-ltb}
 use Rattle.sizes.proofs.names.beside.Goals as goal
 

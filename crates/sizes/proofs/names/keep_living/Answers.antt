@@ -1,8 +1,6 @@
-use Prim.Native.Nat.{◌-◌}
-use borrow.Author.Rules.{rules}
 use Rattle.table.specs.Words.{rows_in}
 use Rattle.table.proofs.Offered.{rise_fits}
-use Rattle.sizes.proofs.Laws.Room.{Keeping, keeping_none, keeping_more, keeping_all}
+use Rattle.sizes.proofs.Laws.Room.{keeping_none, keeping_more, keeping_all}
 use Rattle.sizes.proofs.names.keep_living.Goals as goal
 
 pub loop-i-init : goal.loop-i-init

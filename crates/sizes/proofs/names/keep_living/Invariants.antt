@@ -1,10 +1,8 @@
 -- `sizes::names::keep_living` meets its contract. The invariant, `Keeping`: of the entries that are passed those of the first j rows are kept, and the names of the later rows are ahead.
 -- Assumes nothing.
 use Prim.Native.Nat.{◌-◌}
-use borrow.Author.Rules.{rules}
 use Rattle.table.specs.Words.{rows_in}
-use Rattle.table.proofs.Offered.{rise_fits}
-use Rattle.sizes.proofs.Laws.Room.{Keeping, keeping_none, keeping_more, keeping_all}
+use Rattle.sizes.proofs.Laws.Room.{Keeping}
 use Rattle.sizes.proofs.names.keep_living.Given as goal
 
 abbrev pub invariant-loop-i : goal.invariant-loop-i

@@ -1,6 +1,5 @@
 -- `sizes::names::name_in` meets its contract.
 -- Assumes nothing.
-use borrow.Author.Rules.{rules}
 use Rattle.sizes.proofs.names.name_in.Goals as goal
 
 pub returns-in-Borrow : goal.returns-in-Borrow

@@ -1,6 +1,5 @@
 -- `sizes::names::rename` meets its contract.
 -- Assumes nothing.
-use borrow.Author.Rules.{rules}
 use Rattle.sizes.proofs.names.rename.Goals as goal
 
 pub returns-in-Create : goal.returns-in-Create

@@ -6,8 +6,6 @@ use borrow.Author.Tests.{eqb-true, eqb-false}
 use Rattle.model.proofs.Offered.{test}
 use Prim.Native.Nat.{ℕ, ◌-◌, ◌≤◌, ◌<◌}
 use native.Mathlib.Omega.{arith}
-use borrow.Author.Rules.{rules}
-use lib.ListN.{get_or}
 use Rattle.sizes.proofs.names.search.Goals as goal
 
 -- what is not at i, nor behind it, is not from i on

@@ -1,6 +1,5 @@
 -- `sizes::report::packed_report` meets its contract.
 -- Assumes nothing.
-use borrow.Author.Rules.{rules}
 use Rattle.sizes.proofs.report.packed_report.Goals as goal
 
 pub returns-in-Rows : goal.returns-in-Rows

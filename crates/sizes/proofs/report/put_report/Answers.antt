@@ -11,7 +11,6 @@ use Rattle.text.specs.Put.{Put}
 use Rattle.kelzoud_events.proofs.Laws.{number_small}
 use Rattle.sizes.specs.Report.{report_line}
 use Rattle.sizes.proofs.Laws.Words.{rows_short, refused_short}
-use borrow.Author.Rules.{rules}
 use Rattle.sizes.proofs.report.put_report.Goals as goal
 
 small : (x : Refusal) → number x < 4294967296

@@ -1,6 +1,5 @@
 -- `sizes::report::words_of` meets its contract.
 -- Assumes nothing.
-use borrow.Author.Rules.{rules}
 use Rattle.sizes.proofs.report.words_of.Goals as goal
 
 pub returns-in-Rows : goal.returns-in-Rows

@@ -1,12 +1,7 @@
 -- `sizes::rounds::is_left` meets its contract. The invariant: none of the clients that are passed has a line left.
 -- Assumes nothing.
-use mathlib.Core.Path.{refl}
 use Prim.Native.Nat.{ℕ, ◌-◌, ◌≤◌, ◌<◌}
-use native.Mathlib.Omega.{arith}
-use borrow.Author.Count.{below_more}
-use borrow.Author.Rules.{rules}
 use lib.ListN.{get_or}
-use Rattle.model.proofs.Offered.{clash}
 use Rattle.sizes.proofs.rounds.is_left.Given as goal
 
 abbrev pub invariant-loop-k : goal.invariant-loop-k

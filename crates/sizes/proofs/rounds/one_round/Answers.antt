@@ -1,11 +1,8 @@
-use mathlib.Core.Path.{◌≡◌, refl, ◌∙◌}
+use mathlib.Core.Path.{refl, ◌∙◌}
 use mathlib.Core.List.{[]}
-use Prim.Native.Nat.{◌-◌}
 use native.Mathlib.Omega.{arith}
-use lib.ListN.{length}
 use Rattle.sizes.specs.Taken.{memory}
-use Rattle.sizes.proofs.Laws.Rounds.{refused_allowed, InRound, in_round_none, in_round_more, in_round_stops, round_advanced, round_runs}
-use borrow.Author.Rules.{rules}
+use Rattle.sizes.proofs.Laws.Rounds.{refused_allowed, in_round_none, in_round_more, in_round_stops, round_advanced, round_runs}
 use Rattle.sizes.proofs.rounds.one_round.Goals as goal
 
 pub loop-client-init : goal.loop-client-init

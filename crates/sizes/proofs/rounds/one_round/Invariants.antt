@@ -1,13 +1,10 @@
 -- `sizes::rounds::one_round` meets its contract. The invariant, `InRound`: the lines taken so far in this round, and those of the other clients, give what the whole round gives.
 -- Assumes nothing.
-use mathlib.Core.Path.{◌≡◌, refl, ◌∙◌}
-use mathlib.Core.List.{[]}
+use mathlib.Core.Path.{◌≡◌}
 use Prim.Native.Nat.{◌-◌}
-use native.Mathlib.Omega.{arith}
 use lib.ListN.{length}
 use Rattle.sizes.specs.Taken.{memory}
-use Rattle.sizes.proofs.Laws.Rounds.{refused_allowed, InRound, in_round_none, in_round_more, in_round_stops, round_advanced, round_runs}
-use borrow.Author.Rules.{rules}
+use Rattle.sizes.proofs.Laws.Rounds.{InRound}
 use Rattle.sizes.proofs.rounds.one_round.Given as goal
 
 abbrev pub invariant-loop-client : goal.invariant-loop-client

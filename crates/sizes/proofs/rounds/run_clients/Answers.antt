@@ -1,12 +1,9 @@
-use mathlib.Core.Path.{◌≡◌, refl, subst, ◌∙◌}
+use mathlib.Core.Path.{refl, subst, ◌∙◌}
 use mathlib.Core.Bool.{true}
 use native.Mathlib.Omega.{arith}
-use lib.ListN.{length}
-use Rattle.sizes.specs.Turns.{longest}
 use Rattle.sizes.specs.Taken.{memory}
-use Rattle.sizes.specs.Rounds.{lines_from, Left}
-use Rattle.sizes.proofs.Laws.Rounds.{InRounds, in_rounds_none, in_rounds_stops, in_rounds_less, in_rounds_more, in_rounds_all, line_few}
-use borrow.Author.Rules.{rules}
+use Rattle.sizes.specs.Rounds.{Left}
+use Rattle.sizes.proofs.Laws.Rounds.{in_rounds_none, in_rounds_stops, in_rounds_less, in_rounds_more, in_rounds_all, line_few}
 use Rattle.sizes.proofs.rounds.run_clients.Goals as goal
 
 pub loop-at-init : goal.loop-at-init

@@ -1,14 +1,11 @@
 -- `sizes::rounds::run_clients` meets its contract. The invariant, `InRounds`: the rounds that are left, from what the clients share now, give the report of all. There are as many as the longest rest has lines.
 -- Assumes nothing.
-use mathlib.Core.Path.{◌≡◌, refl, subst, ◌∙◌}
-use mathlib.Core.Bool.{true}
-use native.Mathlib.Omega.{arith}
+use mathlib.Core.Path.{◌≡◌}
 use lib.ListN.{length}
 use Rattle.sizes.specs.Turns.{longest}
 use Rattle.sizes.specs.Taken.{memory}
-use Rattle.sizes.specs.Rounds.{lines_from, Left}
-use Rattle.sizes.proofs.Laws.Rounds.{InRounds, in_rounds_none, in_rounds_stops, in_rounds_less, in_rounds_more, in_rounds_all, line_few}
-use borrow.Author.Rules.{rules}
+use Rattle.sizes.specs.Rounds.{lines_from}
+use Rattle.sizes.proofs.Laws.Rounds.{InRounds}
 use Rattle.sizes.proofs.rounds.run_clients.Given as goal
 
 abbrev pub invariant-loop-at : goal.invariant-loop-at

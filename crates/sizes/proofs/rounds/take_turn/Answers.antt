@@ -2,7 +2,6 @@
 -- Assumes nothing.
 use Rattle.sizes.specs.Taken.{memory}
 use Rattle.sizes.proofs.Laws.Rounds.{advanced_none, none_left, advanced_one, lines_are, turn_passed, turn_runs}
-use borrow.Author.Rules.{rules}
 use Rattle.sizes.proofs.rounds.take_turn.Goals as goal
 
 pub returns-then-start-end : goal.returns-then-start-end

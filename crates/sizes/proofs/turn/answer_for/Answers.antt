@@ -2,7 +2,6 @@
 -- Assumes nothing.
 use mathlib.Core.Path.{refl, ap, ◌∙◌}
 use Prim.Native.Nat.{ℕ}
-use borrow.Author.Rules.{rules}
 use Rattle.sizes.proofs.turn.answer_for.Goals as goal
 
 pub returns-in-Allowed : goal.returns-in-Allowed

@@ -14,7 +14,6 @@ use Rattle.rules.specs.Steps.{Stepped}
 use Rattle.sizes.specs.Names.{name_in, renamed, has_ended, Meant}
 use Rattle.sizes.proofs.Laws.Fewer.{ask}
 use Rattle.sizes.proofs.Laws.Taken.{count_few, answered}
-use borrow.Author.Rules.{rules}
 use Rattle.sizes.proofs.turn.ask.Goals as goal
 
 pub meant-name-requires : goal.meant-name-requires

@@ -1,6 +1,5 @@
 -- `sizes::turn::has_ended` meets its contract.
 -- Assumes nothing.
-use borrow.Author.Rules.{rules}
 use borrow.Author.Tests.{ne_eqb}
 use Rattle.sizes.proofs.turn.has_ended.Goals as goal
 

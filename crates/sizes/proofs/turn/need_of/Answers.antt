@@ -1,7 +1,6 @@
 -- `sizes::turn::need_of` meets its contract.
 -- Assumes nothing.
 use native.Mathlib.Omega.{arith}
-use borrow.Author.Rules.{rules}
 use Rattle.sizes.proofs.turn.need_of.Goals as goal
 
 pub returns-in-Create : goal.returns-in-Create

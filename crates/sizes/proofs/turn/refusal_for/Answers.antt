@@ -1,7 +1,6 @@
 -- `sizes::turn::refusal_for` meets its contract.
 -- Assumes nothing.
 use mathlib.Core.Path.{sym, ◌∙◌}
-use borrow.Author.Rules.{rules}
 use borrow.Author.Tests.{eq-eqb, ne_eqb}
 use Rattle.sizes.proofs.turn.refusal_for.Goals as goal
 

@@ -10,7 +10,6 @@ use Rattle.sizes.specs.Clients.{shared_after}
 use Rattle.sizes.specs.Names.{names_with, keys_with, counts_with, used_with}
 use Rattle.sizes.specs.Taken.{memory, Holds}
 use Rattle.sizes.proofs.Laws.Taken.{live_few, count_few, held, needed, held_kept}
-use borrow.Author.Rules.{rules}
 use Rattle.sizes.proofs.turn.take_event.Goals as goal
 
 pub make_room-used-requires : goal.make_room-used-requires

@@ -9,7 +9,6 @@ use Rattle.text.specs.Result.{Result, value, refused}
 use Rattle.text.specs.Form.{read_form, read_form_answer}
 use Rattle.sizes.specs.Taken.{memory, Takes}
 use Rattle.sizes.proofs.Laws.Taken.{taken_misspelt}
-use borrow.Author.Rules.{rules}
 use Rattle.sizes.proofs.turn.take_line.Goals as goal
 
 pub returns-in-Event : goal.returns-in-Event

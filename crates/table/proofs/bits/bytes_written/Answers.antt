@@ -1,10 +1,8 @@
 use mathlib.Core.Path.{◌≡◌, refl, sym, ap, ◌∙◌}
 use mathlib.Core.Bool.{◌&&◌, and-false, and-true}
-use mathlib.Core.Logic.{⊎_elim}
-use Prim.Native.Nat.{◌-◌, ◌*◌, ◌≤◌}
+use Prim.Native.Nat.{◌-◌, ◌*◌}
 use native.Mathlib.Omega.{arith}
-use borrow.Author.Tests.{not-true, not-false}
-use Rattle.model.specs.Bits.{bit_at, all_written}
+use Rattle.model.specs.Bits.{all_written}
 use Rattle.table.proofs.Laws.Bits.{all_byte}
 use Rattle.table.proofs.bits.bytes_written.Goals as goal
 use Rattle.table.proofs.bits.bytes_written.Goals.{then-not-is_full, else-not-is_full}
@@ -17,8 +15,8 @@ loop-i-preserved c =
     let s = c.args in
     let whole = c.loop-i.invariant.1 ∙ ap (◌&&◌ c.loop-i.full) (all_byte s.bits.now c.loop-i.i s.to c.loop-i-test.true) in
     elim c.if-not-is_full.branch [
-      then-not-is_full w ↦ (omega arith, whole ∙ rw (sym c.is_full.ensures ∙ w.if-not-is_full.true, w.full-is) (and-false c.loop-i.full))
-    | else-not-is_full w ↦ (omega arith, whole ∙ rw (sym c.is_full.ensures ∙ w.if-not-is_full.false, w.full-is))
+      | then-not-is_full w ↦ (omega arith, whole ∙ rw (sym c.is_full.ensures ∙ w.if-not-is_full.true, w.full-is) (and-false c.loop-i.full))
+      | else-not-is_full w ↦ (omega arith, whole ∙ rw (sym c.is_full.ensures ∙ w.if-not-is_full.false, w.full-is))
     ]
 
 pub returns : goal.returns

@@ -1,14 +1,10 @@
 -- `bytes_written` meets its contract: the addresses of all bytes are written if those of the bytes passed are, which `full` tells, and those of
 -- the bytes from i on.
 -- Assumes nothing.
-use mathlib.Core.Path.{◌≡◌, refl, sym, ap, ◌∙◌}
-use mathlib.Core.Bool.{◌&&◌, and-false, and-true}
-use mathlib.Core.Logic.{⊎_elim}
+use mathlib.Core.Path.{◌≡◌}
+use mathlib.Core.Bool.{◌&&◌}
 use Prim.Native.Nat.{◌-◌, ◌*◌, ◌≤◌}
-use native.Mathlib.Omega.{arith}
-use borrow.Author.Tests.{not-true, not-false}
 use Rattle.model.specs.Bits.{bit_at, all_written}
-use Rattle.table.proofs.Laws.Bits.{all_byte}
 use Rattle.table.proofs.bits.bytes_written.Given as goal
 
 abbrev pub invariant-loop-i : goal.invariant-loop-i

@@ -1,11 +1,9 @@
 -- `put_bytes` meets its contract. The invariant: what is put from byte i on makes the whole.
 -- Assumes nothing.
-use mathlib.Core.Path.{◌≡◌, refl, sym, ◌∙◌}
+use mathlib.Core.Path.{◌≡◌}
 use Prim.Native.Nat.{◌-◌, ◌*◌, ◌≤◌}
-use native.Mathlib.Omega.{arith}
-use lib.ListN.{length, length-set}
+use lib.ListN.{length}
 use Rattle.model.specs.Bits.{put_from}
-use Rattle.table.proofs.Laws.Bits.{put_byte}
 use Rattle.table.proofs.bits.put_bytes.Given as goal
 
 abbrev pub invariant-loop-i : goal.invariant-loop-i

@@ -1,8 +1,8 @@
-use mathlib.Core.Path.{◌≡◌, refl, sym, ◌∙◌}
-use Prim.Native.Nat.{◌-◌, ◌≤◌, ◌/◌}
+use mathlib.Core.Path.{refl, sym, ◌∙◌}
+use Prim.Native.Nat.{◌/◌}
 use native.Mathlib.Omega.{arith}
-use lib.ListN.{length, length-set}
-use Rattle.model.specs.Bits.{put_at, put_from}
+use lib.ListN.{length-set}
+use Rattle.model.specs.Bits.{put_at}
 use Rattle.table.proofs.Laws.Bits.{put_first, put_none}
 use Rattle.table.proofs.bits.put_some.Goals as goal
 

@@ -1,11 +1,9 @@
 -- `put_some` meets its contract. The invariant: what is put from a on makes the whole.
 -- Assumes nothing.
-use mathlib.Core.Path.{◌≡◌, refl, sym, ◌∙◌}
-use Prim.Native.Nat.{◌-◌, ◌≤◌, ◌/◌}
-use native.Mathlib.Omega.{arith}
-use lib.ListN.{length, length-set}
-use Rattle.model.specs.Bits.{put_at, put_from}
-use Rattle.table.proofs.Laws.Bits.{put_first, put_none}
+use mathlib.Core.Path.{◌≡◌}
+use Prim.Native.Nat.{◌-◌, ◌≤◌}
+use lib.ListN.{length}
+use Rattle.model.specs.Bits.{put_from}
 use Rattle.table.proofs.bits.put_some.Given as goal
 
 abbrev pub invariant-loop-a : goal.invariant-loop-a

@@ -3,7 +3,6 @@
 use mathlib.Core.Path.{sym, ap, ◌∙◌}
 use Prim.Native.Nat.{◌+◌, ◌-◌, ◌*◌, ◌/◌}
 use native.Mathlib.Omega.{arith}
-use borrow.Author.Rules.{rules}
 use Rattle.model.specs.Bits.{put_from}
 use Rattle.table.proofs.Laws.Bits.{put_none, put_thirds}
 use Rattle.table.proofs.bits.put_span.Goals as goal

@@ -1,8 +1,7 @@
-use mathlib.Core.Path.{◌≡◌, refl, sym, ◌∙◌}
-use Prim.Native.Nat.{◌-◌, ◌≤◌}
+use mathlib.Core.Path.{refl, sym, ◌∙◌}
 use native.Mathlib.Omega.{arith}
 use borrow.Author.Tests.{not-true, not-false}
-use Rattle.model.specs.Bits.{bit_at, all_written}
+use Rattle.model.specs.Bits.{bit_at}
 use Rattle.table.proofs.Laws.Bits.{all_first, all_none}
 use Rattle.table.proofs.bits.some_written.Goals as goal
 

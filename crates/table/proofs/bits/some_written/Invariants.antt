@@ -1,11 +1,8 @@
 -- `some_written` meets its contract: the addresses from the first on are written if those from a on are.
 -- Assumes nothing.
-use mathlib.Core.Path.{◌≡◌, refl, sym, ◌∙◌}
+use mathlib.Core.Path.{◌≡◌}
 use Prim.Native.Nat.{◌-◌, ◌≤◌}
-use native.Mathlib.Omega.{arith}
-use borrow.Author.Tests.{not-true, not-false}
 use Rattle.model.specs.Bits.{bit_at, all_written}
-use Rattle.table.proofs.Laws.Bits.{all_first, all_none}
 use Rattle.table.proofs.bits.some_written.Given as goal
 
 abbrev pub invariant-loop-a : goal.invariant-loop-a

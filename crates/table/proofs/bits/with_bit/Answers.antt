@@ -3,7 +3,6 @@
 use mathlib.Core.Path.{◌≡◌, sym, ap, ◌∙◌}
 use mathlib.Core.Bool.{true, false, not}
 use native.Mathlib.Omega.{arith}
-use borrow.Author.Rules.{rules}
 use Rattle.model.specs.Bits.{has_bit}
 use Rattle.table.proofs.Laws.Bits.{beq_same, beq_other, bit_is, bit_set, bit_clear, bit_fits, shifted}
 use Rattle.table.proofs.bits.with_bit.Goals as goal

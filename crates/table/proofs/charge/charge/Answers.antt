@@ -7,7 +7,6 @@ use Rattle.table.specs.declared.ordered.Look.{Look}
 use Rattle.table.specs.Words.{rows_in}
 use Rattle.table.specs.Known.{Looks}
 use Rattle.table.proofs.Laws.Charge.{charge_disordered}
-use borrow.Author.Rules.{rules}
 use Rattle.table.proofs.charge.charge.Goals as goal
 
 pub charge_live-requires : goal.charge_live-requires

@@ -1,10 +1,8 @@
 -- `charge_live` meets its contract.
 -- Assumes nothing.
-use mathlib.Core.Path.{◌≡◌, sym, ap, ◌∙◌, subst}
+use mathlib.Core.Path.{◌≡◌, sym, ◌∙◌, subst}
 use native.Mathlib.Omega.{arith}
 use lib.ListN.{length}
-use Rattle.model.specs.declared.Cap.{Cap}
-use Rattle.model.specs.Charge.{shares}
 use Rattle.model.specs.Table.{lookup}
 use Rattle.table.specs.declared.judge.Place.{Place}
 use Rattle.table.specs.declared.judge.Place.TheVariants.{At, Not}
@@ -15,7 +13,6 @@ use Rattle.table.proofs.Laws.Words.{rise_fits}
 use Rattle.table.proofs.Laws.Ordered.{lookup_place}
 use Rattle.table.proofs.Laws.Judge.{orderly_few, orderly_rise}
 use Rattle.table.proofs.Laws.Charge.{charge_refused, charge_shares, some_holder}
-use borrow.Author.Rules.{rules}
 use Rattle.table.proofs.charge.charge_live.Goals as goal
 
 pub living_place-requires : goal.living_place-requires

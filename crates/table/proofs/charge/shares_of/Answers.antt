@@ -1,7 +1,6 @@
 -- `shares_of` meets its contract.
 -- Assumes nothing.
 use native.Mathlib.Omega.{arith}
-use borrow.Author.Rules.{rules}
 use Rattle.table.proofs.charge.shares_of.Goals as goal
 
 pub nonzero_div-result : goal.nonzero_div-result

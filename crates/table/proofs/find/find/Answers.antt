@@ -3,7 +3,7 @@ use native.Mathlib.Omega.{arith}
 use Rattle.model.specs.declared.Cap.{Cap}
 use Rattle.table.proofs.Laws.Words.{rise_fits}
 use Rattle.table.specs.Words.{rows_in}
-use Rattle.table.proofs.Laws.Find.{Halving, halving_all, halving_more, halving_none, found_at, found_empty}
+use Rattle.table.proofs.Laws.Find.{halving_all, halving_more, halving_none, found_at, found_empty}
 use Rattle.table.proofs.find.find.Goals as goal
 
 pub returns-then-k-eq0 : goal.returns-then-k-eq0

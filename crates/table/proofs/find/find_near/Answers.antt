@@ -1,7 +1,6 @@
 -- `find_near` meets its contract.
 -- Assumes nothing.
 use mathlib.Core.Path.{ap, sym, ◌∙◌}
-use borrow.Author.Rules.{rules}
 use Rattle.model.specs.declared.Cap.{Cap}
 use native.Mathlib.Omega.{arith}
 use Rattle.table.proofs.Laws.Words.{rise_fits}

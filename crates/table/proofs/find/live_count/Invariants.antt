@@ -1,14 +1,9 @@
 -- `live_count` meets its contract: no row before i has name 0.
 -- Assumes nothing.
-use mathlib.Core.Path.{◌≡◌, ap, sym, ◌∙◌}
 use Prim.Native.Nat.{ℕ, ◌-◌, ◌≤◌, ◌<◌}
-use native.Mathlib.Omega.{arith}
 use lib.ListN.{length}
-use borrow.Author.Rules.{rules}
-use Rattle.model.specs.declared.Cap.{Cap}
 use Rattle.table.specs.Words.{rows_in}
 use Rattle.table.specs.Rows.{name_at}
-use Rattle.table.proofs.Laws.Prefix.{extend, not_zero}
 use Rattle.table.proofs.find.live_count.Given as goal
 
 abbrev pub invariant-loop-i : goal.invariant-loop-i

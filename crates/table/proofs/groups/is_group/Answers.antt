@@ -1,11 +1,10 @@
 use mathlib.Core.Path.{◌≡◌, sym, ◌∙◌}
-use Prim.Native.Nat.{◌+◌, ◌-◌, ◌≤◌}
+use Prim.Native.Nat.{◌+◌, ◌-◌}
 use native.Mathlib.Omega.{arith}
-use lib.ListN.{length, get_or, drop}
-use borrow.Author.Rules.{rules}
+use lib.ListN.{length, get_or}
 use borrow.Author.Tests.{le-leb, lt-leb}
 use Rattle.table.proofs.Laws.Groups.{rises_first, rises_stop, rises_on, rises_end}
-use Rattle.model.specs.Requests.{is_group, rises_above, rises_strictly}
+use Rattle.model.specs.Requests.{is_group}
 use Rattle.table.proofs.groups.is_group.Goals as goal
 
 pub returns-then-names-lt1 : goal.returns-then-names-lt1

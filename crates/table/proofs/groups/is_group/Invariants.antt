@@ -1,13 +1,9 @@
 -- `is_group` meets its contract. The invariant: the names from i on rise above the one before them as all names rise.
 -- Assumes nothing.
-use mathlib.Core.Path.{◌≡◌, sym, ◌∙◌}
-use Prim.Native.Nat.{◌+◌, ◌-◌, ◌≤◌}
-use native.Mathlib.Omega.{arith}
+use mathlib.Core.Path.{◌≡◌}
+use Prim.Native.Nat.{◌-◌, ◌≤◌}
 use lib.ListN.{length, get_or, drop}
-use borrow.Author.Rules.{rules}
-use borrow.Author.Tests.{le-leb, lt-leb}
-use Rattle.table.proofs.Laws.Groups.{rises_first, rises_stop, rises_on, rises_end}
-use Rattle.model.specs.Requests.{is_group, rises_above, rises_strictly}
+use Rattle.model.specs.Requests.{rises_above, rises_strictly}
 use Rattle.table.proofs.groups.is_group.Given as goal
 
 abbrev pub invariant-loop-i : goal.invariant-loop-i

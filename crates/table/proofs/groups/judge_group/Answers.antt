@@ -1,11 +1,7 @@
 -- `judge_group` meets its contract.
 -- Assumes nothing.
-use mathlib.Core.Path.{◌≡◌, sym, ◌∙◌}
-use mathlib.Core.Bool.{true, false}
+use mathlib.Core.Path.{sym, ◌∙◌}
 use borrow.Author.Tests.{not-true, not-false, ltb-true}
-use Rattle.model.specs.Requests.{is_group}
-use Rattle.model.specs.Table.{is_domain}
-use borrow.Author.Rules.{rules}
 use Rattle.table.proofs.groups.judge_group.Goals as goal
 
 pub returns-then-not-is_group : goal.returns-then-not-is_group

@@ -1,12 +1,8 @@
-use mathlib.Core.Path.{◌≡◌, sym, subst, ◌∙◌}
-use Prim.Native.Nat.{◌-◌, ◌≤◌}
+use mathlib.Core.Path.{sym, subst, ◌∙◌}
 use native.Mathlib.Omega.{arith}
-use lib.ListN.{length, get_or, drop}
-use borrow.Author.Rules.{rules}
+use lib.ListN.{get_or}
 use Rattle.model.specs.declared.Name.{Name}
-use Rattle.model.specs.Lists.{first}
 use Rattle.model.specs.Answers.{number}
-use Rattle.model.specs.Refusals.{standings}
 use Rattle.table.specs.declared.judge.Place.{Place}
 use Rattle.table.specs.declared.judge.Place.TheVariants.{At, Not}
 use Rattle.table.specs.Words.{rows_in}

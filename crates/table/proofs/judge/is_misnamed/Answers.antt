@@ -1,7 +1,6 @@
 -- `is_misnamed` meets its contract.
 -- Assumes nothing.
 use native.Mathlib.Numerals.{add-one}
-use borrow.Author.Rules.{rules}
 use Rattle.table.proofs.judge.is_misnamed.Goals as goal
 
 pub returns-in-Written : goal.returns-in-Written

@@ -1,7 +1,6 @@
 -- `is_misplaced` meets its contract.
 -- Assumes nothing.
 use mathlib.Core.Path.{◌≡◌, sym}
-use borrow.Author.Rules.{rules}
 use borrow.Author.Tests.{eq-eqb, ne_eqb, not-true, not-false}
 use Rattle.model.specs.Values.{legal}
 use Rattle.table.proofs.judge.is_misplaced.Goals as goal

@@ -9,7 +9,6 @@ use Rattle.table.specs.Words.{rows_in}
 use Rattle.table.specs.Rows.{Rise}
 use Rattle.table.specs.Limits.{limits_in}
 use Rattle.table.proofs.Laws.Judge.{orderly_issued, orderly_few, orderly_rise, answered}
-use borrow.Author.Rules.{rules}
 use Rattle.table.proofs.judge.judge.Goals as goal
 
 pub judge_create-requires : goal.judge_create-requires

@@ -2,10 +2,9 @@
 -- Assumes nothing.
 use mathlib.Core.Path.{◌≡◌, sym, ◌∙◌}
 use mathlib.Core.Bool.{true, false}
-use borrow.Author.Tests.{not-true, not-false, ltb-true}
+use borrow.Author.Tests.{not-true, not-false}
 use Rattle.model.specs.Refusals.{unfit_child}
 use Rattle.table.proofs.Laws.Judge.{child_domain}
-use borrow.Author.Rules.{rules}
 use Rattle.table.proofs.judge.judge_borrow.Goals as goal
 
 pub returns-then-not-fit_child : goal.returns-then-not-fit_child

@@ -15,7 +15,6 @@ use Rattle.table.specs.Stands.{Serves}
 use Rattle.table.specs.Limits.{limits_in}
 use Rattle.table.proofs.Laws.Ordered.{lookup_place}
 use Rattle.table.proofs.Laws.Judge.{numbered, borrow_not, borrow_deep, borrow_room}
-use borrow.Author.Rules.{rules}
 use Rattle.table.proofs.judge.judge_child.Goals as goal
 
 pub usable_place-requires : goal.usable_place-requires

@@ -4,7 +4,6 @@ use mathlib.Core.Path.{◌≡◌, sym, ◌∙◌}
 use mathlib.Core.Bool.{true, false}
 use borrow.Author.Tests.{not-true, not-false}
 use Rattle.model.specs.Refusals.{unfit_root, misplaced}
-use borrow.Author.Rules.{rules}
 use Rattle.table.proofs.judge.judge_create.Goals as goal
 
 pub returns-then-not-fit_root : goal.returns-then-not-fit_root

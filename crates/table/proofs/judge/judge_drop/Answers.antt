@@ -8,7 +8,6 @@ use Rattle.model.specs.Refusals.{standing}
 use Rattle.table.specs.Words.{rows_in}
 use Rattle.table.specs.Rows.{before}
 use Rattle.table.proofs.Laws.Judge.{passed}
-use borrow.Author.Rules.{rules}
 use Rattle.table.proofs.judge.judge_drop.Goals as goal
 
 pub returns-then-not-is_domain : goal.returns-then-not-is_domain

@@ -4,7 +4,6 @@ use mathlib.Core.Path.{◌≡◌, sym, ◌∙◌}
 use mathlib.Core.Bool.{true, false}
 use borrow.Author.Tests.{not-true, not-false, ltb-true}
 use Rattle.model.specs.Table.{is_domain}
-use borrow.Author.Rules.{rules}
 use Rattle.table.proofs.judge.judge_read.Goals as goal
 
 pub returns-then-not-is_domain : goal.returns-then-not-is_domain

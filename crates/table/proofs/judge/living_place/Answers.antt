@@ -1,6 +1,5 @@
 -- `living_place` meets its contract.
 -- Assumes nothing.
-use borrow.Author.Rules.{rules}
 use borrow.Author.Tests.{ne_eqb, lt-ltb, le-ltb}
 use Rattle.table.specs.Words.{rows_in}
 use Rattle.table.proofs.Laws.Ordered.{lookup_place}

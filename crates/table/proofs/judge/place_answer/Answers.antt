@@ -1,6 +1,5 @@
 -- `place_answer` meets its contract.
 -- Assumes nothing.
-use borrow.Author.Rules.{rules}
 use Rattle.table.proofs.judge.place_answer.Goals as goal
 
 pub returns-in-At : goal.returns-in-At

@@ -1,9 +1,7 @@
 -- `place_of` meets its contract.
 -- Assumes nothing.
-use mathlib.Core.Path.{◌≡◌, sym, ap, ◌∙◌, subst}
+use mathlib.Core.Path.{◌≡◌, sym, ◌∙◌, subst}
 use native.Mathlib.Omega.{arith}
-use Rattle.model.specs.declared.Cap.{Cap}
-use Rattle.model.specs.Bits.{has_bit}
 use Rattle.model.specs.Table.{lookup}
 use Rattle.table.specs.declared.judge.Place.{Place}
 use Rattle.table.specs.declared.judge.Place.TheVariants.{At, Not}
@@ -13,7 +11,6 @@ use Rattle.table.specs.Stands.{Lives}
 use Rattle.table.proofs.Laws.Words.{rise_fits}
 use Rattle.table.proofs.Laws.Ordered.{lookup_place}
 use Rattle.table.proofs.Laws.Judge.{stand_not, stand_unheld, stand}
-use borrow.Author.Rules.{rules}
 use Rattle.table.proofs.judge.place_of.Goals as goal
 
 pub living_place-requires : goal.living_place-requires

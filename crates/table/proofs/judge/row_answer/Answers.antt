@@ -1,6 +1,6 @@
 -- `row_answer` meets its contract.
 -- Assumes nothing.
-use mathlib.Core.Path.{◌≡◌, sym, ap, ◌∙◌}
+use mathlib.Core.Path.{sym}
 use native.Mathlib.Numerals.{add-one}
 use lib.ListN.{length}
 use borrow.Author.Tests.{le-leb, lt-leb}
@@ -8,7 +8,6 @@ use Rattle.table.specs.Words.{rows_in}
 use Rattle.table.specs.Rows.{before}
 use Rattle.table.proofs.Laws.Prefix.{length_before}
 use Rattle.table.proofs.Laws.Limits.{unlimited_row, limited_row}
-use borrow.Author.Rules.{rules}
 use Rattle.table.proofs.judge.row_answer.Goals as goal
 
 pub returns-then-table-k : goal.returns-then-table-k

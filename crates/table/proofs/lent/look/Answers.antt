@@ -3,15 +3,12 @@
 use mathlib.Core.Path.{◌≡◌, sym, ◌∙◌, subst}
 use mathlib.Core.Bool.{true, false, or-true}
 use borrow.Author.Tests.{ne_eqb, not-true, not-false}
-use lib.ListN.{length}
 use Rattle.model.specs.Table.{in_order}
 use Rattle.model.specs.Limits.{refused_sheet}
 use Rattle.table.specs.declared.ordered.Look.{Look}
-use Rattle.table.specs.declared.ordered.Look.TheVariants.{InOrder, Disordered}
 use Rattle.table.specs.Words.{rows_in}
 use Rattle.table.specs.Known.{Known, Looks}
 use Rattle.table.specs.Limits.{limits_in}
-use borrow.Author.Rules.{rules}
 use Rattle.table.proofs.lent.look.Goals as goal
 
 pub returns-then-bits-ne8192 : goal.returns-then-bits-ne8192

@@ -1,17 +1,9 @@
 -- `look_all` meets its contract.
 -- Assumes nothing.
-use mathlib.Core.Path.{sym, ◌∙◌, subst}
-use lib.ListN.{length}
+use mathlib.Core.Path.{sym, ◌∙◌}
 use borrow.Author.Tests.{not-true, not-false}
-use Rattle.model.specs.Refusals.{unfit, view_of}
-use Rattle.table.specs.declared.ordered.Look.{Look}
-use Rattle.table.specs.declared.ordered.Look.TheVariants.{InOrder, Disordered}
-use Rattle.table.specs.Known.{Finds, FindsAll}
 use Rattle.table.specs.Limits.{limits_in}
-use Rattle.table.specs.States.{states_in}
-use Rattle.table.specs.Words.{rows_in}
 use Rattle.table.proofs.Laws.States.{states_unfit, found_all}
-use borrow.Author.Rules.{rules}
 use Rattle.table.proofs.lent.look_all.Goals as goal
 
 pub returns-then-not-is_memory : goal.returns-then-not-is_memory

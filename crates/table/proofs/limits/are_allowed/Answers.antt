@@ -1,12 +1,11 @@
 -- `are_allowed` meets its contract.
 -- Assumes nothing.
-use mathlib.Core.Path.{◌≡◌, sym, ap, ◌∙◌}
+use mathlib.Core.Path.{sym, ap, ◌∙◌}
 use mathlib.Core.Bool.{not}
 use native.Mathlib.Omega.{arith}
 use Rattle.table.specs.Words.{rows_in}
 use Rattle.table.proofs.Laws.Words.{length_in_lem}
 use Rattle.table.proofs.Laws.Limits.{none_refused, length_refused, sum_refused, exceeded_refused}
-use borrow.Author.Rules.{rules}
 use Rattle.table.proofs.limits.are_allowed.Goals as goal
 
 pub returns-then-limits-eq0 : goal.returns-then-limits-eq0

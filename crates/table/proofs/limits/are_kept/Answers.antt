@@ -1,6 +1,6 @@
 -- `are_kept` meets its contract.
 -- Assumes nothing.
-use mathlib.Core.Path.{◌≡◌, sym, ap, ◌∙◌}
+use mathlib.Core.Path.{sym, ap, ◌∙◌}
 use mathlib.Core.Bool.{not}
 use native.Mathlib.Nat.{zero-add}
 use lib.ListN.{length}
@@ -9,7 +9,6 @@ use Rattle.model.specs.Table.{live_rows}
 use Rattle.table.specs.Words.{rows_in}
 use Rattle.table.proofs.Laws.Judge.{orderly_few, orderly_live}
 use Rattle.table.proofs.Laws.Limits.{orderly_makers, counts_none, exceeds_counts, exceeds_none}
-use borrow.Author.Rules.{rules}
 use Rattle.table.proofs.limits.are_kept.Goals as goal
 
 pub returns-then-limits-eq0 : goal.returns-then-limits-eq0

@@ -1,7 +1,6 @@
 -- `count_maker` meets its contract.
 -- Assumes nothing.
 use native.Mathlib.Numerals.{add-one}
-use borrow.Author.Rules.{rules}
 use Rattle.table.proofs.limits.count_maker.Goals as goal
 
 pub returns : goal.returns

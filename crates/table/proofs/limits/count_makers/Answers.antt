@@ -1,5 +1,5 @@
 use mathlib.Core.Path.{◌≡◌, sym, ap, ◌∙◌, subst}
-use Prim.Native.Nat.{ℕ, suc, ◌+◌, ◌-◌, ◌≤◌, ◌<◌}
+use Prim.Native.Nat.{ℕ, suc, ◌+◌, ◌<◌}
 use mathlib.Core.List.{List}
 use native.Mathlib.Omega.{arith}
 use lib.ListN.{get_or, set}
@@ -8,7 +8,6 @@ use Rattle.model.specs.Table.{empty_row}
 use Rattle.table.specs.Words.{rows_in}
 use Rattle.table.specs.Limits.{Counts}
 use Rattle.table.proofs.Laws.Limits.{counts_more, made_few}
-use borrow.Author.Rules.{rules}
 use Rattle.table.proofs.limits.count_makers.Goals as goal
 
 pub loop-i-init : goal.loop-i-init

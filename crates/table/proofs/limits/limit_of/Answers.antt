@@ -2,7 +2,6 @@
 -- Assumes nothing.
 use mathlib.Core.Path.{sym}
 use lib.ListN.{get_or-eq_default}
-use borrow.Author.Rules.{rules}
 use Rattle.table.proofs.limits.limit_of.Goals as goal
 
 pub returns-else-i-limits : goal.returns-else-i-limits

@@ -1,6 +1,5 @@
 -- `limit_reached` meets its contract.
 -- Assumes nothing.
-use borrow.Author.Rules.{rules}
 use Rattle.table.proofs.limits.limit_reached.Goals as goal
 
 pub returns : goal.returns

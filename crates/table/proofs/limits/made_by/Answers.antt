@@ -1,15 +1,13 @@
 use mathlib.Core.Path.{◌≡◌, refl, sym, ap, ◌∙◌}
 use mathlib.Core.Bool.{cond}
-use Prim.Native.Nat.{ℕ, suc, ◌-◌, ◌≤◌}
+use Prim.Native.Nat.{ℕ, suc}
 use native.Mathlib.Omega.{arith}
 use lib.Dec.{eqb}
-use lib.ListN.{length}
 use Rattle.model.specs.declared.Cap.{Cap}
 use Rattle.model.specs.Limits.{made}
 use Rattle.table.specs.Words.{rows_in}
 use Rattle.table.specs.Rows.{before}
 use Rattle.table.proofs.Laws.Limits.{made_more, made_few}
-use borrow.Author.Rules.{rules}
 use Rattle.table.proofs.limits.made_by.Goals as goal
 
 pub loop-i-init : goal.loop-i-init

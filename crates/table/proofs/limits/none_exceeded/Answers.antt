@@ -1,11 +1,7 @@
-use mathlib.Core.Path.{◌≡◌, refl, sym, ap, ◌∙◌}
+use mathlib.Core.Path.{refl, sym, ap, ◌∙◌}
 use mathlib.Core.Bool.{not}
-use Prim.Native.Nat.{◌-◌, ◌≤◌}
 use native.Mathlib.Omega.{arith}
-use lib.ListN.{length, drop}
-use Rattle.table.specs.Limits.{exceeds_by}
 use Rattle.table.proofs.Laws.Limits.{exceeds_stop, exceeds_on, exceeds_end}
-use borrow.Author.Rules.{rules}
 use Rattle.table.proofs.limits.none_exceeded.Goals as goal
 
 pub loop-d-init : goal.loop-d-init

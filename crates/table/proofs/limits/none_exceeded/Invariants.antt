@@ -1,13 +1,9 @@
 -- `none_exceeded` meets its contract. The invariant: the sheet is exceeded if its limits from d on are.
 -- Assumes nothing.
-use mathlib.Core.Path.{◌≡◌, refl, sym, ap, ◌∙◌}
-use mathlib.Core.Bool.{not}
+use mathlib.Core.Path.{◌≡◌}
 use Prim.Native.Nat.{◌-◌, ◌≤◌}
-use native.Mathlib.Omega.{arith}
-use lib.ListN.{length, drop}
+use lib.ListN.{drop}
 use Rattle.table.specs.Limits.{exceeds_by}
-use Rattle.table.proofs.Laws.Limits.{exceeds_stop, exceeds_on, exceeds_end}
-use borrow.Author.Rules.{rules}
 use Rattle.table.proofs.limits.none_exceeded.Given as goal
 
 abbrev pub invariant-loop-d : goal.invariant-loop-d

@@ -1,11 +1,7 @@
-use mathlib.Core.Path.{◌≡◌}
-use Prim.Native.Nat.{◌+◌, ◌-◌, ◌*◌, ◌≤◌}
 use native.Mathlib.Nat.{zero-add}
 use native.Mathlib.Omega.{arith}
-use lib.ListN.{length, drop}
 use Rattle.model.specs.Limits.{sum}
 use Rattle.table.proofs.Laws.Limits.{sum_on, sum_end}
-use borrow.Author.Rules.{rules}
 use Rattle.table.proofs.limits.sum_of.Goals as goal
 
 pub loop-d-init : goal.loop-d-init

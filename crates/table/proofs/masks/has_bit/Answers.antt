@@ -2,7 +2,6 @@
 -- Assumes nothing.
 use mathlib.Core.Path.{refl}
 use Rattle.model.specs.Bits.{has_bit}
-use borrow.Author.Rules.{rules}
 use Rattle.table.proofs.masks.has_bit.Goals as goal
 
 pub returns : goal.returns

@@ -1,7 +1,6 @@
 -- `in_order` meets its contract.
 -- Assumes nothing.
 use mathlib.Core.Path.{sym, subst}
-use borrow.Author.Rules.{rules}
 use Rattle.table.specs.declared.ordered.Look.{Look}
 use Rattle.table.specs.Known.{Looks}
 use Rattle.table.proofs.ordered.in_order.Goals as goal

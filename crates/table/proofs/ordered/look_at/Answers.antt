@@ -1,7 +1,6 @@
 -- `look_at` meets its contract.
 -- Assumes nothing.
 use mathlib.Core.Path.{sym, ◌∙◌}
-use borrow.Author.Rules.{rules}
 use Rattle.table.proofs.Laws.Words.{length_in_lem}
 use Rattle.table.proofs.Laws.Ordered.{too_many}
 use Rattle.table.proofs.ordered.look_at.Goals as goal

@@ -1,10 +1,6 @@
-use mathlib.Core.Path.{◌≡◌, refl, ap, sym, ◌∙◌}
-use Prim.Native.Nat.{◌-◌, ◌≤◌}
+use mathlib.Core.Path.{refl, ap, sym, ◌∙◌}
 use native.Mathlib.Omega.{arith}
-use lib.ListN.{length, drop}
-use borrow.Author.Rules.{rules}
 use borrow.Author.Tests.{not-true, not-false}
-use Rattle.model.specs.Lists.{all}
 use Rattle.model.specs.Table.{is_empty_row}
 use Rattle.table.specs.Words.{rows_in}
 use Rattle.table.proofs.Laws.Words.{length_in_lem}

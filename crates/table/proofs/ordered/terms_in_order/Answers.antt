@@ -1,9 +1,8 @@
 -- `terms_in_order` meets its contract.
 -- Assumes nothing.
-use mathlib.Core.Path.{◌≡◌, sym, ◌∙◌}
+use mathlib.Core.Path.{sym, ◌∙◌}
 use borrow.Author.Tests.{not-true, not-false, ltb-true}
 use Rattle.model.specs.Table.{terms_in_order}
-use borrow.Author.Rules.{rules}
 use Rattle.table.proofs.ordered.terms_in_order.Goals as goal
 
 pub returns-then-not-is_domain : goal.returns-then-not-is_domain

@@ -6,7 +6,6 @@ use Rattle.model.specs.Requests.{Group, caller}
 use Rattle.table.specs.Words.{rows_in}
 use Rattle.table.specs.Limits.{limits_in}
 use Rattle.table.proofs.Laws.Judge.{orderly_few, orderly_rise, answered}
-use borrow.Author.Rules.{rules}
 use Rattle.table.proofs.requests.judge_request.Goals as goal
 
 pub judge_group-requires : goal.judge_group-requires

@@ -2,7 +2,6 @@
 -- Assumes nothing.
 use mathlib.Core.Path.{sym}
 use native.Mathlib.Omega.{arith}
-use borrow.Author.Rules.{rules}
 use Rattle.table.proofs.Laws.Sheets.{value_within, value_past}
 use Rattle.table.proofs.sheets.byte_at.Goals as goal
 

@@ -5,7 +5,6 @@ use mathlib.Core.List.{List}
 use Prim.Native.Nat.{ℕ}
 use native.Mathlib.Omega.{arith}
 use lib.ListN.{length, replicate}
-use borrow.Author.Rules.{rules}
 use Rattle.table.specs.Sheets.{with_conflicts, bytes_of}
 use Rattle.table.proofs.Laws.Sheets.{conflicts_long}
 use Rattle.table.proofs.sheets.bytes_of.Goals as goal

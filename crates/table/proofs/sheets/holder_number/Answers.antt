@@ -1,7 +1,6 @@
 -- `table::sheets::holder_number` meets its contract: a kind above 1 is a cell's.
 -- Assumes nothing.
 use native.Mathlib.Omega.{arith}
-use borrow.Author.Rules.{rules}
 use Rattle.table.proofs.Laws.Sheets.{holder_other}
 use Rattle.table.proofs.sheets.holder_number.Goals as goal
 

@@ -3,7 +3,6 @@
 use mathlib.Core.Path.{◌∙◌}
 use native.Mathlib.Omega.{arith}
 use lib.ListN.{get_or}
-use borrow.Author.Rules.{rules}
 use Rattle.table.proofs.Laws.Sheets.{weight_at, weight_small, weight_other}
 use Rattle.table.proofs.sheets.result_at.Goals as goal
 

@@ -5,7 +5,6 @@ use mathlib.Core.List.{List}
 use Prim.Native.Nat.{ℕ, ◌+◌}
 use native.Mathlib.Omega.{arith}
 use lib.ListN.{length}
-use borrow.Author.Rules.{rules}
 use Rattle.table.specs.Sheets.{with_results}
 use Rattle.table.proofs.Laws.Sheets.{results_long}
 use Rattle.table.proofs.sheets.set_conflicts.Goals as goal

@@ -1,6 +1,5 @@
 -- `table::sheets::set_results` meets its contract: three results, one behind the other.
 -- Assumes nothing.
-use borrow.Author.Rules.{rules}
 use Rattle.table.proofs.sheets.set_results.Goals as goal
 
 pub returns : goal.returns

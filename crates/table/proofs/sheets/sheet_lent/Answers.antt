@@ -1,8 +1,6 @@
 use mathlib.Core.Path.{ap, subst, ◌∙◌}
-use Prim.Native.Nat.{◌-◌, ◌≤◌}
 use native.Mathlib.Omega.{arith}
 use lib.ListN.{length}
-use borrow.Author.Rules.{rules}
 use Rattle.table.specs.Sheets.{sheet_in}
 use Rattle.table.proofs.Laws.Sheets.{Taking, taking_more, taken_all, taken_none}
 use Rattle.table.proofs.sheets.sheet_lent.Goals as goal

@@ -1,6 +1,5 @@
 -- `do_touch` meets its contract.
 -- Assumes nothing.
-use borrow.Author.Rules.{rules}
 use Rattle.table.proofs.spans.do_touch.Goals as goal
 
 pub returns : goal.returns

@@ -1,7 +1,6 @@
 -- `is_inside` meets its contract.
 -- Assumes nothing.
 use borrow.Author.Tests.{le-leb, lt-leb}
-use borrow.Author.Rules.{rules}
 use Rattle.table.proofs.spans.is_inside.Goals as goal
 
 pub returns-then-t-s : goal.returns-then-t-s

@@ -1,6 +1,5 @@
 -- `is_legal` meets its contract.
 -- Assumes nothing.
-use borrow.Author.Rules.{rules}
 use Rattle.table.proofs.spans.is_legal.Goals as goal
 
 pub returns : goal.returns

@@ -1,12 +1,10 @@
 use mathlib.Core.Path.{◌≡◌, refl, sym, ap, ◌∙◌}
-use mathlib.Core.List.{List, []}
-use Prim.Native.Nat.{ℕ, ◌+◌, ◌-◌, ◌*◌, ◌≤◌, ◌<◌}
+use Prim.Native.Nat.{ℕ, ◌*◌}
 use native.Mathlib.Nat.{not-suc-le-zero}
 use native.Mathlib.Omega.{arith}
-use lib.ListN.{length, get_or, set, replicate}
+use lib.ListN.{set, replicate}
 use borrow.Author.Tests.{not-true, not-false}
 use Rattle.table.proofs.Laws.States.{rows_size, forgotten, none_forgotten, nothing_more}
-use borrow.Author.Rules.{rules}
 use Rattle.table.proofs.states.forget.Goals as goal
 
 pub returns-then-not-is_memory : goal.returns-then-not-is_memory

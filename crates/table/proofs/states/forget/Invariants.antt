@@ -1,14 +1,9 @@
 -- `forget` meets its contract: the heads of the slots before are zeros.
 -- Assumes nothing.
-use mathlib.Core.Path.{◌≡◌, refl, sym, ap, ◌∙◌}
-use mathlib.Core.List.{List, []}
-use Prim.Native.Nat.{ℕ, ◌+◌, ◌-◌, ◌*◌, ◌≤◌, ◌<◌}
-use native.Mathlib.Nat.{not-suc-le-zero}
-use native.Mathlib.Omega.{arith}
-use lib.ListN.{length, get_or, set, replicate}
-use borrow.Author.Tests.{not-true, not-false}
-use Rattle.table.proofs.Laws.States.{rows_size, forgotten, none_forgotten, nothing_more}
-use borrow.Author.Rules.{rules}
+use mathlib.Core.Path.{◌≡◌}
+use mathlib.Core.List.{[]}
+use Prim.Native.Nat.{ℕ, ◌-◌, ◌*◌, ◌≤◌, ◌<◌}
+use lib.ListN.{length, get_or, replicate}
 use Rattle.table.proofs.states.forget.Given as goal
 
 abbrev pub invariant-loop-slot : goal.invariant-loop-slot

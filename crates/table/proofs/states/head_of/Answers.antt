@@ -3,7 +3,6 @@
 use mathlib.Core.Path.{ap}
 use mathlib.Core.List.{[]}
 use lib.ListN.{get_or}
-use borrow.Author.Rules.{rules}
 use Rattle.table.proofs.states.head_of.Goals as goal
 
 pub returns : goal.returns

@@ -2,7 +2,6 @@
 -- Assumes nothing.
 use borrow.Author.Tests.{eq-eqb, ne_eqb}
 use Rattle.table.specs.States.{is_memory}
-use borrow.Author.Rules.{rules}
 use Rattle.table.proofs.states.is_memory.Goals as goal
 
 pub returns-then-stored-ne8200 : goal.returns-then-stored-ne8200

@@ -1,10 +1,10 @@
 -- `look_back` meets its contract: what the rows kept are decides what the table is.
 -- Assumes nothing.
 use mathlib.Core.Path.{◌≡◌, sym, ap, subst, ◌∙◌}
-use mathlib.Core.Bool.{true, false, not, ◌||◌}
+use mathlib.Core.Bool.{false, not, ◌||◌}
 use Prim.Native.Nat.{◌+◌, ◌*◌, ◌≤◌}
 use native.Mathlib.Omega.{arith}
-use lib.ListN.{length, take, drop}
+use lib.ListN.{take, drop}
 use borrow.Author.Tests.{eqb-true, not-true, not-false}
 use Rattle.model.specs.Table.{live_rows, in_order}
 use Rattle.model.specs.Limits.{exceeds}
@@ -15,7 +15,6 @@ use Rattle.table.specs.Limits.{limits_in}
 use Rattle.table.specs.Known.{Known, LooksKept}
 use Rattle.table.specs.States.{kept_rows, table_by, table_at}
 use Rattle.table.proofs.Laws.States.{at_head, slice_kept, kept_slice, length_kept, unfit_size, unfit_kept, kept_fit}
-use borrow.Author.Rules.{rules}
 use Rattle.table.proofs.states.look_back.Goals as goal
 
 pub head_of-head-requires : goal.head_of-head-requires

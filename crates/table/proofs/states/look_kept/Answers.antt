@@ -8,7 +8,6 @@ use Rattle.model.specs.Limits.{exceeds}
 use Rattle.table.specs.declared.ordered.Look.{Look}
 use Rattle.table.specs.Words.{rows_in}
 use Rattle.table.specs.Known.{Known, Looks}
-use borrow.Author.Rules.{rules}
 use Rattle.table.proofs.states.look_kept.Goals as goal
 
 pub are_kept-requires : goal.are_kept-requires

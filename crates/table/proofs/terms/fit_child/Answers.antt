@@ -1,8 +1,7 @@
 -- `fit_child` meets its contract.
 -- Assumes nothing.
-use mathlib.Core.Path.{◌≡◌, sym}
+use mathlib.Core.Path.{sym}
 use borrow.Author.Tests.{eq-eqb, ne_eqb, not-true, not-false}
-use borrow.Author.Rules.{rules}
 use Rattle.table.proofs.terms.fit_child.Goals as goal
 
 pub returns-then-not-is_right : goal.returns-then-not-is_right

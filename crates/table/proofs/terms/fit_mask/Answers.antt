@@ -1,10 +1,8 @@
 -- `fit_mask` meets its contract.
 -- Assumes nothing.
-use mathlib.Core.Path.{◌≡◌, sym, ◌∙◌}
+use mathlib.Core.Path.{sym, ◌∙◌}
 use mathlib.Core.Bool.{not-not}
 use borrow.Author.Tests.{not-true, not-false, ltb-true}
-use Rattle.model.specs.Table.{is_domain}
-use borrow.Author.Rules.{rules}
 use Rattle.table.proofs.terms.fit_mask.Goals as goal
 
 pub returns-then-not-is_domain : goal.returns-then-not-is_domain

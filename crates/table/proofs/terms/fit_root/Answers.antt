@@ -1,9 +1,7 @@
 -- `fit_root` meets its contract.
 -- Assumes nothing.
-use mathlib.Core.Path.{◌≡◌, sym}
-use mathlib.Core.Bool.{not-not}
+use mathlib.Core.Path.{sym}
 use borrow.Author.Tests.{eq-eqb, ne_eqb, not-true, not-false}
-use borrow.Author.Rules.{rules}
 use Rattle.table.proofs.terms.fit_root.Goals as goal
 
 pub returns-then-not-is_right : goal.returns-then-not-is_right

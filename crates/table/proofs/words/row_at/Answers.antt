@@ -2,7 +2,6 @@
 -- Assumes nothing.
 use mathlib.Core.Path.{sym}
 use Rattle.table.proofs.Laws.Words.{in_at}
-use borrow.Author.Rules.{rules}
 use Rattle.table.proofs.words.row_at.Goals as goal
 
 pub returns : goal.returns

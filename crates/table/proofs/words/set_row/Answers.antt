@@ -2,7 +2,6 @@
 -- Assumes nothing.
 use mathlib.Core.Path.{refl}
 use Rattle.table.proofs.Laws.Words.{in_set}
-use borrow.Author.Rules.{rules}
 use Rattle.table.proofs.words.set_row.Goals as goal
 
 pub returns : goal.returns

@@ -1,6 +1,5 @@
 -- `text::form::gives_plainly` meets its contract.
 -- Assumes nothing.
-use borrow.Author.Rules.{rules}
 use Rattle.text.proofs.form.gives_plainly.Goals as goal
 
 pub returns : goal.returns

@@ -3,7 +3,6 @@
 use mathlib.Core.Path.{sym, ◌∙◌}
 use Rattle.model.specs.declared.Event.TheVariants.{Read, Write, Drop}
 use Rattle.text.proofs.Laws.Form.{form_in, form_of_create, form_of_borrow}
-use borrow.Author.Rules.{rules}
 use Rattle.text.proofs.form.in_form.Goals as goal
 
 pub returns-in-Create : goal.returns-in-Create

@@ -1,6 +1,5 @@
 -- `text::form::read_form` meets its contract: the line reads as an event by domain 0 that is in the form, as another event, or as none.
 -- Assumes nothing.
-use borrow.Author.Rules.{rules}
 use Rattle.text.proofs.form.read_form.Goals as goal
 
 pub returns-then-actor-in_form : goal.returns-then-actor-in_form

@@ -5,7 +5,6 @@ use mathlib.Core.Bool.{true}
 use mathlib.Core.List.{List}
 use Prim.Native.Nat.{ℕ}
 use lib.Seq.{length-take-le}
-use borrow.Author.Rules.{rules}
 use Rattle.text.specs.Group.{spell_group}
 use Rattle.text.proofs.Laws.Write.{Wrote}
 use Rattle.text.proofs.Laws.Read.{same_is}

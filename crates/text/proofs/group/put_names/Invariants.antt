@@ -1,12 +1,9 @@
 -- `text::group::put_names` meets its contract. The invariant: the names that are left, put where the loop stands, make the whole.
 -- Assumes nothing.
-use mathlib.Core.Path.{◌≡◌, refl, sym, ap, ◌∙◌}
-use Prim.Native.Nat.{◌+◌, ◌-◌, ◌≤◌}
-use native.Mathlib.Omega.{arith}
-use lib.ListN.{length, get_or, drop, drop_of_length-le}
+use mathlib.Core.Path.{◌≡◌}
+use Prim.Native.Nat.{◌-◌, ◌≤◌}
+use lib.ListN.{length, drop}
 use lib.Seq.{sets}
-use borrow.Author.Rules.{rules}
-use Rattle.text.proofs.Laws.Put.{sets_first, drop_first}
 use Rattle.text.proofs.group.put_names.Given as goal
 
 abbrev pub invariant-loop-i : goal.invariant-loop-i

@@ -5,7 +5,6 @@ use Prim.Native.Nat.{ℕ, ◌-◌}
 use native.Mathlib.Omega.{arith}
 use lib.ListN.{length, drop, length-drop}
 use lib.Seq.{take_all}
-use borrow.Author.Rules.{rules}
 use Rattle.text.specs.Class.{space}
 use Rattle.text.proofs.Laws.Line.{through_le}
 use Rattle.text.proofs.lines.after_space.Goals as goal

@@ -5,7 +5,6 @@ use Prim.Native.Nat.{ℕ}
 use native.Mathlib.Omega.{arith}
 use lib.ListN.{take}
 use lib.Seq.{length-take-le}
-use borrow.Author.Rules.{rules}
 use Rattle.text.specs.Class.{newline}
 use Rattle.text.proofs.Laws.Line.{through_le}
 use Rattle.text.proofs.lines.next_line.Goals as goal

@@ -1,7 +1,6 @@
 -- `text::masks::alone` meets its contract: to shift left is to multiply by a power of two, and nothing is shifted out.
 -- Assumes nothing.
 use native.Mathlib.Nat.{one-mul, mod-eq_of_lt}
-use borrow.Author.Rules.{rules}
 use Rattle.text.proofs.Laws.Masks.{mask_fits}
 use Rattle.text.proofs.masks.alone.Goals as goal
 

@@ -1,6 +1,5 @@
 -- `text::masks::digit_byte` meets its contract: the test tells which digit it is.
 -- Assumes nothing.
-use borrow.Author.Rules.{rules}
 use borrow.Author.Tests.{lt-ltb, le-ltb}
 use Rattle.text.proofs.masks.digit_byte.Goals as goal
 

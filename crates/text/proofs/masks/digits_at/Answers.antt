@@ -5,7 +5,6 @@ use Prim.Native.Nat.{◌-◌}
 use native.Mathlib.Omega.{arith}
 use lib.ListN.{length, drop, length-drop}
 use lib.Seq.{take_all}
-use borrow.Author.Rules.{rules}
 use Rattle.text.specs.Mask.{hex_of}
 use Rattle.text.proofs.Laws.Masks.{from_end}
 use Rattle.text.proofs.masks.digits_at.Goals as goal

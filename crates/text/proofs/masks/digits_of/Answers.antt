@@ -4,9 +4,7 @@ use native.Mathlib.Nat.{pow-suc, pow-le-pow_right}
 use native.Mathlib.Numerals.{add-one}
 use native.Mathlib.Omega.{arith}
 use lib.Dec.{lit<}
-use lib.ListN.{length, drop}
-use borrow.Author.Rules.{rules}
-use Rattle.text.specs.Mask.{hex_from, hex_of}
+use lib.ListN.{drop}
 use Rattle.text.proofs.Laws.Masks.{from_digit, from_end, from_none}
 use Rattle.text.proofs.masks.digits_of.Goals as goal
 

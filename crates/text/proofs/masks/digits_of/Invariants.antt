@@ -1,15 +1,9 @@
 -- `text::masks::digits_of` meets its contract. The invariant: the value so far, with the digits that are left behind it, is the mask.
 -- Assumes nothing.
-use mathlib.Core.Path.{◌≡◌, refl, sym, ◌∙◌}
+use mathlib.Core.Path.{◌≡◌}
 use Prim.Native.Nat.{◌-◌, ◌^◌, ◌≤◌, ◌<◌}
-use native.Mathlib.Nat.{pow-suc, pow-le-pow_right}
-use native.Mathlib.Numerals.{add-one}
-use native.Mathlib.Omega.{arith}
-use lib.Dec.{lit<}
 use lib.ListN.{length, drop}
-use borrow.Author.Rules.{rules}
 use Rattle.text.specs.Mask.{hex_from, hex_of}
-use Rattle.text.proofs.Laws.Masks.{from_digit, from_end, from_none}
 use Rattle.text.proofs.masks.digits_of.Given as goal
 
 abbrev pub invariant-loop-i : goal.invariant-loop-i

@@ -3,7 +3,6 @@
 use mathlib.Core.Path.{refl, sym, ap}
 use Prim.Native.Nat.{suc}
 use native.Mathlib.Omega.{arith}
-use borrow.Author.Rules.{rules}
 use Rattle.text.proofs.Laws.Masks.{length_hex}
 use Rattle.text.proofs.masks.mask_length.Goals as goal
 

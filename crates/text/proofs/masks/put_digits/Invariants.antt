@@ -1,12 +1,10 @@
 -- `text::masks::put_digits` meets its contract. The invariant: the digits that are left, written in front of those that stand, make the whole mask.
 -- Assumes nothing.
-use mathlib.Core.Path.{◌≡◌, refl, sym, ap, ◌∙◌}
-use Prim.Native.Nat.{ℕ, ◌+◌, ◌-◌, ◌/◌, ◌≤◌}
-use native.Mathlib.Omega.{arith}
-use lib.ListN.{length, set, length-set}
+use mathlib.Core.Path.{◌≡◌}
+use Prim.Native.Nat.{◌-◌, ◌≤◌}
+use lib.ListN.{length}
 use lib.Seq.{sets}
 use Rattle.text.specs.Mask.{hex}
-use Rattle.text.proofs.Laws.Masks.{length_hex, hex_turn, hex_none}
 use Rattle.text.proofs.masks.put_digits.Given as goal
 
 abbrev pub invariant-loop-next : goal.invariant-loop-next

@@ -4,7 +4,6 @@ use mathlib.Core.Path.{refl, sym, ◌∙◌}
 use Prim.Native.Nat.{◌+◌, ◌≤◌}
 use native.Mathlib.Omega.{arith}
 use lib.ListN.{length, length-set}
-use borrow.Author.Rules.{rules}
 use Rattle.text.specs.Mask.{hex}
 use Rattle.text.proofs.Laws.Masks.{length_hex}
 use Rattle.text.proofs.Laws.Put.{sets_first, put_length}

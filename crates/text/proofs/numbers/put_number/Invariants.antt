@@ -1,15 +1,11 @@
 -- `text::numbers::put_number` meets its contract. The invariant: the digits that are left, written in front of those that stand, make the whole numeral.
 -- Assumes nothing.
-use mathlib.Core.Path.{◌≡◌, refl, sym, ap, ◌∙◌}
-use mathlib.Core.List.{List}
-use Prim.Native.Nat.{ℕ, suc, ◌+◌, ◌-◌, ◌/◌, ◌%◌, ◌≤◌, ◌<◌}
-use native.Mathlib.Omega.{arith}
-use lib.ListN.{length, set, length-set}
+use mathlib.Core.Path.{◌≡◌}
+use Prim.Native.Nat.{◌-◌, ◌≤◌}
+use lib.ListN.{length}
 use lib.Seq.{sets}
-use borrow.Author.Rules.{rules}
 use Rattle.text.specs.Decimal.{decimal}
-use Rattle.text.proofs.Laws.Digits.{digits, digits_last, length_digits, decimal_own}
-use Rattle.text.proofs.Laws.Put.{sets_last}
+use Rattle.text.proofs.Laws.Digits.{digits}
 use Rattle.text.proofs.numbers.put_number.Given as goal
 
 abbrev pub invariant-loop-next : goal.invariant-loop-next

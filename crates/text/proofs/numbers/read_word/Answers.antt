@@ -1,11 +1,9 @@
 use mathlib.Core.Path.{◌≡◌, sym, ap, ◌∙◌}
-use Prim.Native.Nat.{ℕ, ◌+◌, ◌-◌, ◌^◌, ◌≤◌, ◌<◌}
+use Prim.Native.Nat.{ℕ, ◌-◌, ◌^◌}
 use native.Mathlib.Omega.{arith}
 use lib.ListN.{length, get_or, drop, length-drop}
 use lib.Seq.{take_all}
-use borrow.Author.Rules.{rules}
 use Rattle.text.specs.Class.{class_of, digit, space}
-use Rattle.text.specs.Decimal.{number_from, number_of}
 use Rattle.text.specs.Line.{through}
 use Rattle.text.proofs.Laws.Line.{through_le, through_miss, through_end}
 use Rattle.text.proofs.Laws.Number.{digit_range, number_digit, number_stop, number_end}

@@ -1,10 +1,7 @@
 -- `text::numbers::width` meets its contract. The invariant: the power is that of k, and none below it is above the number.
 -- Assumes nothing.
-use mathlib.Core.Path.{◌≡◌, refl}
-use Prim.Native.Nat.{max, ◌+◌, ◌-◌, ◌^◌, ◌≤◌}
-use native.Mathlib.Omega.{arith}
-use native.Mathlib.Numerals.{add-one}
-use Rattle.text.proofs.Laws.Digits.{width_is}
+use mathlib.Core.Path.{◌≡◌}
+use Prim.Native.Nat.{max, ◌-◌, ◌^◌, ◌≤◌}
 use Rattle.text.proofs.numbers.width.Given as goal
 
 abbrev pub invariant-loop-k : goal.invariant-loop-k

@@ -1,7 +1,6 @@
 -- `text::pieces::ending_length` meets its contract: the ending has as many bytes as its five pieces.
 -- Assumes nothing.
 use native.Mathlib.Omega.{arith}
-use borrow.Author.Rules.{rules}
 use Rattle.text.proofs.Laws.Range.{ending_length}
 use Rattle.text.proofs.pieces.ending_length.Goals as goal
 

@@ -1,7 +1,6 @@
 -- `text::pieces::put_back` meets its contract: the test tells whether domain 0 acts.
 -- Assumes nothing.
 use borrow.Author.Tests.{ne_eqb}
-use borrow.Author.Rules.{rules}
 use Rattle.text.proofs.pieces.put_back.Goals as goal
 
 pub put_bytes-requires : goal.put_bytes-requires

@@ -1,9 +1,8 @@
-use mathlib.Core.Path.{◌≡◌, refl, sym, ap, ◌∙◌}
-use Prim.Native.Nat.{◌+◌, ◌-◌, ◌≤◌}
+use mathlib.Core.Path.{refl, sym, ap, ◌∙◌}
+use Prim.Native.Nat.{◌+◌}
 use native.Mathlib.Omega.{arith}
-use lib.ListN.{length, get_or, drop, length-set, drop_of_length-le}
+use lib.ListN.{get_or, drop, length-set, drop_of_length-le}
 use lib.Seq.{sets}
-use borrow.Author.Rules.{rules}
 use Rattle.text.proofs.Laws.Put.{sets_first, drop_first}
 use Rattle.text.proofs.pieces.put_bytes.Goals as goal
 

@@ -1,12 +1,9 @@
 -- `text::pieces::put_bytes` meets its contract. The invariant: the bytes that are left, written where the loop stands, make the whole.
 -- Assumes nothing.
-use mathlib.Core.Path.{◌≡◌, refl, sym, ap, ◌∙◌}
+use mathlib.Core.Path.{◌≡◌}
 use Prim.Native.Nat.{◌+◌, ◌-◌, ◌≤◌}
-use native.Mathlib.Omega.{arith}
-use lib.ListN.{length, get_or, drop, length-set, drop_of_length-le}
+use lib.ListN.{length, drop}
 use lib.Seq.{sets}
-use borrow.Author.Rules.{rules}
-use Rattle.text.proofs.Laws.Put.{sets_first, drop_first}
 use Rattle.text.proofs.pieces.put_bytes.Given as goal
 
 abbrev pub invariant-loop-i : goal.invariant-loop-i

@@ -9,7 +9,6 @@ use Rattle.text.specs.Mask.{mask_word}
 use Rattle.text.specs.Event.{right_word, kind_word, fresh_word, back, ending}
 use Rattle.text.proofs.Laws.Put.{put_length, put_three}
 use Rattle.text.proofs.Laws.Range.{right_length, ending_length}
-use borrow.Author.Rules.{rules}
 use Rattle.text.proofs.pieces.put_ending.Goals as goal
 
 -- the ending has as many bytes as its five pieces

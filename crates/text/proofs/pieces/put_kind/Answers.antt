@@ -3,7 +3,6 @@
 use mathlib.Core.Path.{refl}
 use native.Mathlib.Omega.{arith}
 use borrow.Author.Tests.{ne_eqb}
-use borrow.Author.Rules.{rules}
 use Rattle.text.proofs.pieces.put_kind.Goals as goal
 
 pub put_bytes-requires : goal.put_bytes-requires

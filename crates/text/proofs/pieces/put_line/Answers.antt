@@ -5,7 +5,6 @@ use mathlib.Core.List.{List, ◌++◌}
 use Prim.Native.Nat.{ℕ, ◌+◌}
 use native.Mathlib.Omega.{arith}
 use lib.ListN.{length, length-append}
-use borrow.Author.Rules.{rules}
 use Rattle.text.specs.Event.{bytes, spaced}
 use Rattle.text.proofs.Laws.Put.{put_length, put_three}
 use Rattle.text.proofs.pieces.put_line.Goals as goal

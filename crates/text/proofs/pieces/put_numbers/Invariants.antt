@@ -1,15 +1,10 @@
 -- `text::pieces::put_numbers` meets its contract. The invariant: the numbers that are left, written where the loop stands, make the whole.
 -- Assumes nothing.
-use mathlib.Core.Path.{◌≡◌, refl, sym, ap, ◌∙◌}
-use mathlib.Core.List.{◌++◌}
+use mathlib.Core.Path.{◌≡◌}
 use Prim.Native.Nat.{◌+◌, ◌-◌, ◌≤◌}
-use native.Mathlib.Omega.{arith}
-use lib.ListN.{length, get_or, drop, length-set}
+use lib.ListN.{length, drop}
 use lib.Seq.{sets}
-use borrow.Author.Rules.{rules}
-use Rattle.text.specs.Decimal.{decimal}
 use Rattle.text.specs.Event.{spaced}
-use Rattle.text.proofs.Laws.Put.{sets_first, put_next, put_length, spaced_first, spaced_length, spaced_end}
 use Rattle.text.proofs.pieces.put_numbers.Given as goal
 
 abbrev pub invariant-loop-i : goal.invariant-loop-i

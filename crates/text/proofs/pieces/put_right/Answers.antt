@@ -1,7 +1,6 @@
 -- `text::pieces::put_right` meets its contract: the test tells which right it is.
 -- Assumes nothing.
 use borrow.Author.Tests.{ne_eqb}
-use borrow.Author.Rules.{rules}
 use Rattle.text.proofs.pieces.put_right.Goals as goal
 
 pub put_bytes-requires : goal.put_bytes-requires

@@ -1,9 +1,7 @@
-use mathlib.Core.Path.{◌≡◌, ap}
-use Prim.Native.Nat.{◌+◌, ◌-◌, ◌*◌, ◌≤◌}
+use mathlib.Core.Path.{ap}
+use Prim.Native.Nat.{◌≤◌}
 use native.Mathlib.Omega.{arith}
-use lib.ListN.{length, get_or, drop}
-use borrow.Author.Rules.{rules}
-use Rattle.text.specs.Event.{spaced}
+use lib.ListN.{length, get_or}
 use Rattle.text.proofs.Laws.Digits.{decimal_short}
 use Rattle.text.proofs.Laws.Put.{spaced_length, spaced_end}
 use Rattle.text.proofs.pieces.spaced_length.Goals as goal

@@ -1,13 +1,9 @@
 -- `text::pieces::spaced_length` meets its contract. The invariant: the total and the length of what is left make the whole length.
 -- Assumes nothing.
-use mathlib.Core.Path.{◌≡◌, ap}
+use mathlib.Core.Path.{◌≡◌}
 use Prim.Native.Nat.{◌+◌, ◌-◌, ◌*◌, ◌≤◌}
-use native.Mathlib.Omega.{arith}
-use lib.ListN.{length, get_or, drop}
-use borrow.Author.Rules.{rules}
+use lib.ListN.{length, drop}
 use Rattle.text.specs.Event.{spaced}
-use Rattle.text.proofs.Laws.Digits.{decimal_short}
-use Rattle.text.proofs.Laws.Put.{spaced_length, spaced_end}
 use Rattle.text.proofs.pieces.spaced_length.Given as goal
 
 abbrev pub invariant-loop-i : goal.invariant-loop-i

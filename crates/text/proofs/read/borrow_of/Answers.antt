@@ -1,6 +1,5 @@
 -- `text::read::borrow_of` meets its contract: each word is what stands behind a space, and the mask stands behind the kind.
 -- Assumes nothing.
-use borrow.Author.Rules.{rules}
 use Rattle.text.proofs.Laws.Read.{borrow_is}
 use Rattle.text.proofs.read.borrow_of.Goals as goal
 

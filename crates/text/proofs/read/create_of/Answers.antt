@@ -1,6 +1,5 @@
 -- `text::read::create_of` meets its contract: each word is what stands behind a space, and the mask stands behind the mark.
 -- Assumes nothing.
-use borrow.Author.Rules.{rules}
 use Rattle.text.proofs.Laws.Read.{create_is}
 use Rattle.text.proofs.read.create_of.Goals as goal
 

@@ -1,7 +1,6 @@
 -- `text::read::fresh_at` meets its contract: the test tells whether there is a mark.
 -- Assumes nothing.
 use borrow.Author.Tests.{ne_eqb}
-use borrow.Author.Rules.{rules}
 use Rattle.text.proofs.read.fresh_at.Goals as goal
 
 pub returns-then-byte_at-eq114 : goal.returns-then-byte_at-eq114

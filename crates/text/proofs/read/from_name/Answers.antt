@@ -1,6 +1,5 @@
 -- `text::read::from_name` meets its contract.
 -- Assumes nothing.
-use borrow.Author.Rules.{rules}
 use Rattle.text.proofs.read.from_name.Goals as goal
 
 pub returns-in-Named : goal.returns-in-Named

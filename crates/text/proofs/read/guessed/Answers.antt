@@ -3,7 +3,6 @@
 use mathlib.Core.Path.{sym, ap, ◌∙◌}
 use Rattle.text.specs.Read.{create_of, borrow_of}
 use Rattle.text.proofs.Laws.Read.{guess_create, guess_borrow, guess_read, guess_write, guess_drop}
-use borrow.Author.Rules.{rules}
 use Rattle.text.proofs.read.guessed.Goals as goal
 
 pub returns-then-kind-eq99 : goal.returns-then-kind-eq99

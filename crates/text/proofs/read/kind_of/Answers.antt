@@ -1,7 +1,6 @@
 -- `text::read::kind_of` meets its contract: the tests tell which kind it is.
 -- Assumes nothing.
 use borrow.Author.Tests.{ne_eqb}
-use borrow.Author.Rules.{rules}
 use Rattle.text.proofs.read.kind_of.Goals as goal
 
 pub returns-then-letter-eq119 : goal.returns-then-letter-eq119

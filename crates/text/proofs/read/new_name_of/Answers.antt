@@ -2,7 +2,6 @@
 -- Assumes nothing.
 use mathlib.Core.Path.{ap}
 use Rattle.model.specs.declared.NewName.TheVariants.{Written}
-use borrow.Author.Rules.{rules}
 use Rattle.text.proofs.read.new_name_of.Goals as goal
 
 pub returns-in-Named : goal.returns-in-Named

@@ -1,7 +1,6 @@
 -- `text::read::right_of` meets its contract: the test tells which right it is.
 -- Assumes nothing.
 use borrow.Author.Tests.{ne_eqb}
-use borrow.Author.Rules.{rules}
 use Rattle.text.proofs.read.right_of.Goals as goal
 
 pub returns-then-byte_at-eq111 : goal.returns-then-byte_at-eq111

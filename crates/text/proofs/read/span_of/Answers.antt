@@ -1,6 +1,5 @@
 -- `text::read::span_of` meets its contract.
 -- Assumes nothing.
-use borrow.Author.Rules.{rules}
 use Rattle.text.proofs.read.span_of.Goals as goal
 
 pub returns : goal.returns

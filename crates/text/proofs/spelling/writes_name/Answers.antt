@@ -1,7 +1,6 @@
 -- `text::spelling::writes_name` meets its contract: each arm knows both values.
 -- Assumes nothing.
 use Rattle.text.specs.Event.{writes_name}
-use borrow.Author.Rules.{rules}
 use Rattle.text.proofs.spelling.writes_name.Goals as goal
 
 pub returns-in-Unwritten : goal.returns-in-Unwritten

@@ -1,7 +1,6 @@
 -- `text::states::is_spelled` meets its contract: the test tells whether who asks is a domain.
 -- Assumes nothing.
 use mathlib.Core.Path.{sym, ◌∙◌}
-use borrow.Author.Rules.{rules}
 use Rattle.text.proofs.Laws.State.{slot_is, no_slot}
 use Rattle.text.proofs.states.is_spelled.Goals as goal
 

@@ -4,7 +4,6 @@ use mathlib.Core.Path.{sym, ◌∙◌}
 use mathlib.Core.List.{List}
 use Prim.Native.Nat.{ℕ}
 use lib.Seq.{length-take-le}
-use borrow.Author.Rules.{rules}
 use Rattle.text.specs.State.{slot_spelled, spell_slot}
 use Rattle.text.proofs.Laws.Write.{Wrote, wrote, wrote_nothing}
 use Rattle.text.proofs.Laws.Read.{same_is}

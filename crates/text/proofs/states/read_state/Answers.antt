@@ -1,6 +1,5 @@
 -- `text::states::read_state` meets its contract: the mark of the slot that is guessed is the answer where the line is its spelling, and else the back.
 -- Assumes nothing.
-use borrow.Author.Rules.{rules}
 use Rattle.text.specs.State.{read_state}
 use Rattle.text.proofs.states.read_state.Goals as goal
 

@@ -1,7 +1,6 @@
 -- `text::states::slot_of` meets its contract: the slot is the number behind the first space.
 -- Assumes nothing.
 use mathlib.Core.Path.{ap, ◌∙◌}
-use borrow.Author.Rules.{rules}
 use Rattle.text.specs.Decimal.{number_of}
 use Rattle.text.proofs.states.slot_of.Goals as goal
 

@@ -1,6 +1,5 @@
 -- `text::states::write_slot` meets its contract: the line is the spelling of the word and the slot.
 -- Assumes nothing.
-use borrow.Author.Rules.{rules}
 use Rattle.text.specs.State.{spell_slot}
 use Rattle.text.proofs.Laws.State.{slot_written}
 use Rattle.text.proofs.states.write_slot.Goals as goal

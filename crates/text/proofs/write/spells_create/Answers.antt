@@ -1,6 +1,5 @@
 -- `text::write::spells_create` meets its contract: by what its two tests promise.
 -- Assumes nothing.
-use borrow.Author.Rules.{rules}
 use Rattle.text.proofs.write.spells_create.Goals as goal
 
 pub returns-then-writes_name : goal.returns-then-writes_name

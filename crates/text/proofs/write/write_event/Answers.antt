@@ -2,7 +2,6 @@
 -- Assumes nothing.
 use Rattle.text.specs.Event.{form, spell, has_spelling}
 use Rattle.text.proofs.Laws.Write.{event_written}
-use borrow.Author.Rules.{rules}
 use Rattle.text.proofs.write.write_event.Goals as goal
 
 pub returns-in-Create : goal.returns-in-Create

@@ -5,7 +5,6 @@ use borrow.Author.Tests.{not-true, not-false}
 use Rattle.text.specs.Event.{spaced, front, ending}
 use Rattle.text.proofs.Laws.Put.{put_length}
 use Rattle.text.proofs.Laws.Write.{writes_refused, line_none, line_all}
-use borrow.Author.Rules.{rules}
 use Rattle.text.proofs.write.write_with_terms.Goals as goal
 
 pub returns-then-not-spelled : goal.returns-then-not-spelled

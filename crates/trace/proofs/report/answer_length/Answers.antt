@@ -1,6 +1,5 @@
 -- `trace::report::answer_length` meets its contract: both words have eight bytes.
 -- Assumes nothing.
-use borrow.Author.Rules.{rules}
 use mathlib.Core.Path.{ap}
 use mathlib.Core.List.{[], ◌∷◌}
 use native.Mathlib.Omega.{arith}

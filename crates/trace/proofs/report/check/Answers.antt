@@ -1,11 +1,11 @@
 -- `check` meets its contract: the line of the run's answer, and the listing of its table.
 -- Assumes nothing.
-use mathlib.Core.Path.{◌≡◌, sym, ap, subst, ◌∙◌}
+use mathlib.Core.Path.{sym, ap, subst, ◌∙◌}
 use mathlib.Core.Bool.{true}
 use mathlib.Core.List.{List, ◌++◌}
 use Prim.Native.Nat.{ℕ}
 use native.Mathlib.Omega.{arith}
-use lib.ListN.{length, length-replicate}
+use lib.ListN.{length-replicate}
 use Rattle.model.specs.Requests.{Unlimited}
 use Rattle.model.specs.Slots.{Memory, Slot}
 use Rattle.table.specs.Sheets.{sheet_in}
@@ -18,7 +18,6 @@ use Rattle.trace.specs.declared.run.RunAnswer.TheVariants.{Allowed, Refused}
 use Rattle.trace.specs.Run.{ran_of, Runs}
 use Rattle.trace.specs.Check.{answer_line, no_counts}
 use Rattle.trace.proofs.Laws.Report.{long_text, long_stored, zero_row, zeros, no_bits, ran_is, ran_number, ran_order, ran_report, ran_stored}
-use borrow.Author.Rules.{rules}
 use Rattle.trace.proofs.report.check.Goals as goal
 
 pub returns-then-input-gt65536 : goal.returns-then-input-gt65536

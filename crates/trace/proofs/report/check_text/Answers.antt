@@ -6,7 +6,6 @@ use Rattle.model.proofs.Offered.{clash}
 use Rattle.table.specs.States.{states_in, emptied}
 use Rattle.text.proofs.Offered.{wrote, wrote_none}
 use Rattle.trace.proofs.Laws.Fits.{check_fits, room, kept}
-use borrow.Author.Rules.{rules}
 use Rattle.trace.proofs.report.check_text.Goals as goal
 
 pub returns-in-Length : goal.returns-in-Length

@@ -1,6 +1,5 @@
 -- `trace::report::write_long` meets its contract.
 -- Assumes nothing.
-use borrow.Author.Rules.{rules}
 use native.Mathlib.Omega.{arith}
 use Rattle.text.specs.Event.{bytes}
 use Rattle.text.proofs.Offered.{writes_none, writes_put}

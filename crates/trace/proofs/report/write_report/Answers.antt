@@ -1,6 +1,5 @@
 -- `trace::report::write_report` meets its contract: the listing, where it fits, and then the line before it.
 -- Assumes nothing.
-use borrow.Author.Rules.{rules}
 use native.Mathlib.Omega.{arith}
 use mathlib.Core.List.{◌++◌}
 use lib.ListN.{length-append}

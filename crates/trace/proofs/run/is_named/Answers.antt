@@ -1,7 +1,6 @@
 -- `trace::run::is_named` meets its contract.
 -- Assumes nothing.
 use mathlib.Core.Path.{sym, ◌∙◌}
-use borrow.Author.Rules.{rules}
 use Rattle.text.specs.Line.{next_line}
 use Rattle.text.proofs.Offered.{same_is}
 use Rattle.trace.specs.Run.{header}

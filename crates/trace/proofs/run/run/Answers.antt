@@ -6,7 +6,6 @@ use Rattle.table.specs.States.{states_in}
 use Rattle.table.specs.Words.{rows_in}
 use Rattle.rules.specs.Steps.{lends}
 use Rattle.trace.specs.Run.{ran_of}
-use borrow.Author.Rules.{rules}
 use Rattle.trace.proofs.run.run.Goals as goal
 
 pub returns : goal.returns

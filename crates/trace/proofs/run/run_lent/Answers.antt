@@ -1,6 +1,6 @@
 -- `run_lent` meets its contract: all that is lent is judged once, before the first line.
 -- Assumes nothing.
-use mathlib.Core.Path.{◌≡◌, sym, ap₂, ◌∙◌, subst}
+use mathlib.Core.Path.{sym, ap₂, ◌∙◌, subst}
 use Rattle.model.specs.declared.Tally.{Tally}
 use Rattle.table.specs.declared.ordered.Look.{Look}
 use Rattle.table.specs.Sheets.{sheet_in}
@@ -12,7 +12,6 @@ use Rattle.rules.specs.Steps.{lends}
 use Rattle.trace.specs.declared.run.RunAnswer.{RunAnswer}
 use Rattle.trace.specs.Run.{ran_of}
 use Rattle.trace.proofs.Laws.Order.{refused_run}
-use borrow.Author.Rules.{rules}
 use Rattle.trace.proofs.run.run_lent.Goals as goal
 
 pub run_text-requires : goal.run_text-requires

@@ -1,17 +1,11 @@
-use mathlib.Core.Path.{◌≡◌, refl, ◌∙◌}
-use Prim.Native.Nat.{◌+◌, ◌-◌, ◌≤◌}
+use mathlib.Core.Path.{refl, ◌∙◌}
 use native.Mathlib.Omega.{arith}
-use lib.ListN.{length, drop}
 use Rattle.table.specs.Words.{rows_in}
-use Rattle.table.specs.Known.{FitAll}
 use Rattle.table.specs.Limits.{limits_in}
 use Rattle.table.specs.Sheets.{sheet_in}
 use Rattle.table.specs.States.{states_in}
 use Rattle.rules.specs.Steps.{lends}
-use Rattle.text.specs.Line.{lines_of}
-use Rattle.trace.specs.Run.{lent, run_lines}
 use Rattle.trace.proofs.Laws.Turn.{line_some, line_inside, turn_on, turn_ends, run_ends}
-use borrow.Author.Rules.{rules}
 use Rattle.trace.proofs.run.run_ordered.Goals as goal
 
 pub loop-at-init : goal.loop-at-init

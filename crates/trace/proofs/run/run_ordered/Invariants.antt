@@ -1,9 +1,8 @@
 -- `run_ordered` meets its contract. The invariant: what is lent is fit and known, and the lines that are left, with those taken so
 -- far, give the run of all lines.
 -- Assumes nothing.
-use mathlib.Core.Path.{◌≡◌, refl, ◌∙◌}
+use mathlib.Core.Path.{◌≡◌}
 use Prim.Native.Nat.{◌+◌, ◌-◌, ◌≤◌}
-use native.Mathlib.Omega.{arith}
 use lib.ListN.{length, drop}
 use Rattle.table.specs.Words.{rows_in}
 use Rattle.table.specs.Known.{FitAll}
@@ -13,8 +12,6 @@ use Rattle.table.specs.States.{states_in}
 use Rattle.rules.specs.Steps.{lends}
 use Rattle.text.specs.Line.{lines_of}
 use Rattle.trace.specs.Run.{lent, run_lines}
-use Rattle.trace.proofs.Laws.Turn.{line_some, line_inside, turn_on, turn_ends, run_ends}
-use borrow.Author.Rules.{rules}
 use Rattle.trace.proofs.run.run_ordered.Given as goal
 
 abbrev pub invariant-loop-at : goal.invariant-loop-at

@@ -1,6 +1,6 @@
 -- `run_text` meets its contract: behind the line `(trace 2)` the lines are in the second spelling.
 -- Assumes nothing.
-use mathlib.Core.Path.{◌≡◌, sym, ◌∙◌}
+use mathlib.Core.Path.{sym, ◌∙◌}
 use Prim.Native.Nat.{◌-◌}
 use native.Mathlib.Omega.{arith}
 use lib.ListN.{length, drop, length-drop}
@@ -13,7 +13,6 @@ use Rattle.table.proofs.Offered.{states_eight}
 use Rattle.model.specs.Refusals.{view_of}
 use Rattle.model.proofs.Offered.{fit_all}
 use Rattle.trace.proofs.Laws.Header.{header_inside, runs_named, runs_plain}
-use borrow.Author.Rules.{rules}
 use Rattle.trace.proofs.run.run_text.Goals as goal
 
 pub slice_bounds-run_ordered-count : goal.slice_bounds-run_ordered-count

@@ -13,7 +13,6 @@ use Rattle.table.specs.Limits.{limits_in}
 use Rattle.table.specs.States.{states_in}
 use Rattle.trace.proofs.Laws.Turn.{taken_request, taken_as}
 use Rattle.trace.proofs.Laws.Names.{Got, got, none_got}
-use borrow.Author.Rules.{rules}
 use Rattle.trace.proofs.run.take_group.Goals as goal
 
 pub slice_bounds-names-end : goal.slice_bounds-names-end

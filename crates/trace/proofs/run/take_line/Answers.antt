@@ -9,7 +9,6 @@ use Rattle.table.specs.Sheets.{sheet_in}
 use Rattle.table.specs.Limits.{limits_in}
 use Rattle.table.specs.States.{states_in}
 use Rattle.trace.proofs.Laws.Turn.{taken_request, taken_as}
-use borrow.Author.Rules.{rules}
 use Rattle.trace.proofs.run.take_line.Goals as goal
 
 pub returns-in-Event : goal.returns-in-Event

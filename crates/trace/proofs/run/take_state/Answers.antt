@@ -11,7 +11,6 @@ use Rattle.table.specs.Sheets.{sheet_in}
 use Rattle.table.specs.Limits.{limits_in}
 use Rattle.table.specs.States.{states_in}
 use Rattle.trace.proofs.Laws.Turn.{taken_request, taken_misspelt}
-use borrow.Author.Rules.{rules}
 use Rattle.trace.proofs.run.take_state.Goals as goal
 
 pub returns-in-Asked : goal.returns-in-Asked
