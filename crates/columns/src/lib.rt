@@ -50,8 +50,7 @@ fn answer_moved(moved: Moved, used: &mut [u32; 6]) -> u64
 }
 
 // Events into the columns that are lent: the number of events, or refusal 2 or 11. The counts go into the words that are lent for them.
-#[unsafe(no_mangle)]
-pub extern "C" fn kz_abi_to_columns(
+pub fn kz_abi_to_columns(
     events: &[Words],
     kinds: &mut [u8],
     names: &mut [u32],
@@ -69,8 +68,7 @@ pub extern "C" fn kz_abi_to_columns(
 }
 
 // Columns into the list that is lent for events, in the same way.
-#[unsafe(no_mangle)]
-pub extern "C" fn kz_abi_from_columns(
+pub fn kz_abi_from_columns(
     kinds: &[u8],
     names: &[u32],
     starts: &[u32],

@@ -38,8 +38,7 @@ mod requests;
 
 // A run of a text on the table, the bits, the memory for states and the tally that are lent, by the sheet that is lent, card 6's where no byte of
 // one is, with the limits that are lent, none where no number is.
-#[unsafe(no_mangle)]
-pub extern "C" fn kz_abi_run(
+pub fn kz_abi_run(
     table: &mut [Row],
     bits: &mut [u8],
     stored: &mut [Row],
@@ -61,8 +60,7 @@ pub extern "C" fn kz_abi_run(
 }
 
 // Writes the line of a request. A line says who acts, and no limits.
-#[unsafe(no_mangle)]
-pub extern "C" fn kz_abi_write_event(event: &Words, names: &[u32], out: &mut [u8]) -> u64
+pub fn kz_abi_write_event(event: &Words, names: &[u32], out: &mut [u8]) -> u64
     ensures { (result ≡ packed_result (write_request (request_in Unlimited event.now names.now) out.old).answer)
         × (out.new ≡ (write_request (request_in Unlimited event.now names.now) out.old).buffer) }
 {
@@ -74,8 +72,7 @@ pub extern "C" fn kz_abi_write_event(event: &Words, names: &[u32], out: &mut [u8
 }
 
 // Reads a line: the words of the request, and its names where it drops names together.
-#[unsafe(no_mangle)]
-pub extern "C" fn kz_abi_read_event(
+pub fn kz_abi_read_event(
     named: u32,
     line: &[u8],
     event: &mut Words,
@@ -90,8 +87,7 @@ pub extern "C" fn kz_abi_read_event(
 }
 
 // Writes the listing of the table that is lent.
-#[unsafe(no_mangle)]
-pub extern "C" fn kz_abi_write_listing(table: &[Row], issued: u32, out: &mut [u8]) -> u64
+pub fn kz_abi_write_listing(table: &[Row], issued: u32, out: &mut [u8]) -> u64
     ensures { (result ≡ packed_result (listing_written (rows_in table.now) issued out.old))
         × (out.new ≡ listing_stored (rows_in table.now) issued out.old) }
 {
@@ -100,8 +96,7 @@ pub extern "C" fn kz_abi_write_listing(table: &[Row], issued: u32, out: &mut [u8
 }
 
 // Reads a listing into the table and the tally that are lent.
-#[unsafe(no_mangle)]
-pub extern "C" fn kz_abi_read_listing(table: &mut [Row], tally: &mut [u32; 7], text: &[u8]) -> u64
+pub fn kz_abi_read_listing(table: &mut [Row], tally: &mut [u32; 7], text: &[u8]) -> u64
     ensures { (rows_in table.new ≡ (target_into text.now (target table.old tally.old)).table)
         × (tally_in tally.new ≡ (target_into text.now (target table.old tally.old)).tally)
         × (result ≡ packed_read (answer_into text.now (target table.old tally.old))) }
@@ -111,8 +106,7 @@ pub extern "C" fn kz_abi_read_listing(table: &mut [Row], tally: &mut [u32; 7], t
 }
 
 // Reads a sheet's text into the sheet that is lent.
-#[unsafe(no_mangle)]
-pub extern "C" fn kz_abi_read_sheet(text: &[u8], sheet: &mut SheetBytes) -> u64
+pub fn kz_abi_read_sheet(text: &[u8], sheet: &mut SheetBytes) -> u64
     ensures { (result ≡ packed (judge_text text.now) 0)
         × (sheet.new ≡ sheet_into text.now sheet.old) }
 {
@@ -121,8 +115,7 @@ pub extern "C" fn kz_abi_read_sheet(text: &[u8], sheet: &mut SheetBytes) -> u64
 }
 
 // Writes the one text of the sheet that is lent, card 6's where no byte of one is.
-#[unsafe(no_mangle)]
-pub extern "C" fn kz_abi_write_sheet(sheet: &[u8], out: &mut [u8]) -> u64
+pub fn kz_abi_write_sheet(sheet: &[u8], out: &mut [u8]) -> u64
     ensures { (result ≡ packed_result (write_sheet (bytes_of (sheet_lent sheet.now)) out.old).answer)
         × (out.new ≡ (write_sheet (bytes_of (sheet_lent sheet.now)) out.old).buffer) }
 {
@@ -132,8 +125,7 @@ pub extern "C" fn kz_abi_write_sheet(sheet: &[u8], out: &mut [u8]) -> u64
 }
 
 // Writes what `capcheck` prints of an input. The memory for states is lent to work in: it is emptied first, and has then what the run stored.
-#[unsafe(no_mangle)]
-pub extern "C" fn kz_abi_check(
+pub fn kz_abi_check(
     input: &[u8],
     stored: &mut [Row],
     copies: &mut [u8],

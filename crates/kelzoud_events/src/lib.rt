@@ -26,8 +26,7 @@ pub mod events;
 
 // One event on the table, the bits, the memory for states and the tally that are lent, by the sheet that is lent, card 6's where no byte of one
 // is, with the limits that are lent, none where no number is. The names are those that it may point to.
-#[unsafe(no_mangle)]
-pub extern "C" fn kz_abi_apply(
+pub fn kz_abi_apply(
     table: &mut [Row],
     bits: &mut [u8],
     stored: &mut [Row],
@@ -55,8 +54,7 @@ pub extern "C" fn kz_abi_apply(
 }
 
 // In the same way as many events in turn as there are answers for, refused ones too; the answer is how many.
-#[unsafe(no_mangle)]
-pub extern "C" fn kz_abi_apply_all(
+pub fn kz_abi_apply_all(
     table: &mut [Row],
     bits: &mut [u8],
     stored: &mut [Row],
@@ -83,8 +81,7 @@ pub extern "C" fn kz_abi_apply_all(
 
 // What the holders of a name are charged, on the table that is lent with so many names issued: the refusal, 0 for none, the share of each, and
 // what is left over. Nothing else is written.
-#[unsafe(no_mangle)]
-pub extern "C" fn kz_abi_charge(table: &[Row], issued: u32, name: u32, words: &mut [u32; 3])
+pub fn kz_abi_charge(table: &[Row], issued: u32, name: u32, words: &mut [u32; 3])
     ensures { words.new ≡ charge_words (Charge.charge (rows_in table.now) issued (name_of name)) }
 {
     let charged = charge(table, issued, Name(name));

@@ -92,8 +92,7 @@ pub fn sizes_text(text: &[u8], lengths: &[u32]) -> Printed
 
 // The report on clients' texts in four words: the refusal, the rows, the client and the line, with 0 for what it lacks. The answer is the rows,
 // or the refusal.
-#[unsafe(no_mangle)]
-pub extern "C" fn kz_abi_sizes(text: &[u8], lengths: &[u32], report: &mut [u32; 4]) -> u64
+pub fn kz_abi_sizes(text: &[u8], lengths: &[u32], report: &mut [u32; 4]) -> u64
     ensures { (report.new ≡ report_words (sizing text.now lengths.now))
         × (result ≡ packed_report (sizing text.now lengths.now)) }
 {
