@@ -15,45 +15,50 @@ RT ?= rt
 CARGO ?= cargo
 INSTALL ?= install
 
-# Each crate's own archive, and the archives that are linked.
-proved := target/staticlib
+# The crates that export to C, each crate's own archive, and the archives that are linked.
+exports := kelzoud_events_c kelzoud_c columns_c sizes_c
+proved := $(foreach crate,$(exports),crates/$(crate)/out/lib$(crate).a)
 libraries := target/lib
 archives := $(libraries)/libkelzoud.a $(libraries)/libkelzoud-events.a
 packages := kelzoud.pc kelzoud-events.pc
 # Each command is a script in front of a program of the same name; what the scripts share stands beside the programs.
 commands := capcheck capsize
+programs := $(addprefix target/bin/,$(commands))
 root := $(DESTDIR)$(PREFIX)
+# What is built is built again where one of these is newer.
+sources := crates.txt $(shell find $(wildcard crates/*/src crates/*/specs crates/*/proofs))
 
-.PHONY: all library archives program install install-built uninstall test bench stack clean
+.PHONY: all library program install install-built uninstall test bench stack clean
 
 all: library program
 
-# rt itself knows what is up to date.
-library:
-	$(RT) staticlib kelzoud_events
-	$(RT) staticlib kelzoud
-	$(RT) staticlib columns
-	$(RT) staticlib sizes
-	$(MAKE) archives
+library: $(archives)
 
-archives: $(archives)
+# rt proves what it builds, and the crates below, over what earlier checks kept. It leaves each in its crate's out/.
+$(proved): $(sources)
+	cd $(dir $(@D)) && $(RT) lib
 
 # The calls for events are exported by a crate of their own, so that they can be linked alone, and those
 # for columns and for table sizes by two others, which no other library needs. The whole library has the
 # objects of all four.
-$(libraries)/libkelzoud.a: $(addprefix $(proved)/,libkelzoud.a libkelzoud_events.a libcolumns.a libsizes.a)
+$(libraries)/libkelzoud.a: $(proved)
 	rm -rf $(libraries)/objects $@
 	mkdir -p $(libraries)/objects
 	cd $(libraries)/objects && for archive in $^; do $(AR) x ../../../$$archive || exit 1; done
 	$(AR) rcs $@ $(libraries)/objects/*.o
 	rm -r $(libraries)/objects
 
-$(libraries)/libkelzoud-events.a: $(proved)/libkelzoud_events.a
+$(libraries)/libkelzoud-events.a: crates/kelzoud_events_c/out/libkelzoud_events_c.a
 	mkdir -p $(libraries)
 	cp $< $@
 
-program:
-	$(RT) check $(commands)
+program: $(programs)
+
+# rt runs a program once when it has built it: here on no input.
+$(programs): $(sources)
+	cd crates/$(@F) && $(RT) run < /dev/null > /dev/null
+	mkdir -p $(@D)
+	cp crates/$(@F)/out/$(@F) $@
 
 install: all
 	$(MAKE) install-built
@@ -63,7 +68,7 @@ install-built:
 	$(INSTALL) -m 644 include/kelzoud.h $(root)/include/
 	$(INSTALL) -m 644 $(archives) $(root)/lib/
 	$(INSTALL) -m 755 $(commands) $(root)/bin/
-	$(INSTALL) -m 755 $(addprefix target/bin/,$(commands)) $(root)/libexec/kelzoud/
+	$(INSTALL) -m 755 $(programs) $(root)/libexec/kelzoud/
 	$(INSTALL) -m 644 front.sh $(root)/libexec/kelzoud/
 	for package in $(packages); do \
 	    sed -e 's|@PREFIX@|$(PREFIX)|' -e 's|@VERSION@|$(VERSION)|' $$package.in \
@@ -88,4 +93,4 @@ stack: library
 	target/stack
 
 clean:
-	rm -rf target tests/target bindings/rust/target
+	rm -rf target tests/target bindings/rust/target crates/*/out

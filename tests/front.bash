@@ -177,23 +177,26 @@ try_programs() {
     done
 }
 
-# The program is built where it is missing or older than a source, by an rt that prints and reads.
+# The program is built where it is missing or older than a source, by an rt that prints and reads, and whose program prints too.
 try_building() {
-    local copy=$work/copy program
+    local copy=$work/copy program crate
+    crate=$copy/crates/$command
     program=$copy/target/bin/$command
     rm -rf "$copy"
-    mkdir -p "$copy/crates" "$copy/target/bin" "$copy/tools"
+    mkdir -p "$crate/src" "$crate/specs" "$crate/proofs" "$copy/tools"
     cp "$command" front.sh crates.txt "$copy/"
     front=(env "PATH=$copy/tools:$PATH" "$1" "$copy/$command")
     becomes "$copy/tools/rt" 'exit 1'
     attempt 'fails' 2 '' 'the program could not be built' call "$good"
     becomes "$copy/tools/rt" 'exit 0'
     attempt 'makes no program' 2 '' "the program is missing: $program" call "$good"
-    becomes "$copy/tools/rt" "echo \"$command: rt \$*\"; cat; cp '$tree/target/bin/$command' '$program'"
-    attempt 'missing' 0 "$good_output" "rt check $command" on "$good" "${from_input[@]}"
+    becomes "$copy/tools/rt" "echo \"$command: rt \$*\" >&2; echo printed; cat; mkdir -p out; cp '$tree/target/bin/$command' out"
+    attempt 'missing' 0 "$good_output" 'rt run' on "$good" "${from_input[@]}"
     attempt 'up to date' 0 "$good_output" '' on "$good" "${from_input[@]}"
+    touch "$crate/out/work"
+    attempt 'older than what rt keeps' 0 "$good_output" '' on "$good" "${from_input[@]}"
     touch -d '1 hour ago' "$program"
-    attempt 'older than a source' 0 "$good_output" "rt check $command" on "$good" "${from_input[@]}"
+    attempt 'older than a source' 0 "$good_output" 'rt run' on "$good" "${from_input[@]}"
     touch -d '1 hour ago' "$program"
     attempt 'older, with closed standard error' 0 "$good_output" '' with_closed_error "$good"
     attempt 'up to date again' 0 "$good_output" '' call "$good"
