@@ -8,7 +8,10 @@ ghost use Rattle.console.specs.Read.{ReadInto};
 ghost use Rattle.capsize.specs.Read.{Short};
 
 use console::{Input, print, read_input};
-use libc::{STDERR_FILENO, STDIN_FILENO};
+use std::env::{Env, FillError};
+use std::fs::File;
+use std::io::Read;
+use std::str;
 
 // The most clients.
 const CLIENTS: usize = 8;
@@ -20,36 +23,40 @@ const LONGEST: usize = 65536;
 // is seen to be longer.
 const ROOM: usize = CLIENTS * LONGEST + 1;
 
+// Room for the longest path.
+const PATH: usize = 4096;
+
 // Says on standard error what went wrong.
-fn say(first: &[u8], second: &[u8]) {
-    io::write_all(STDERR_FILENO, b"capsize: ");
-    io::write_all(STDERR_FILENO, first);
-    io::write_all(STDERR_FILENO, second);
-    io::write_all(STDERR_FILENO, b"\n");
+fn say(rt: &HostRuntime, first: &[u8], second: &[u8]) {
+    let errors = rt.stderr();
+    let _ = errors.write_all(b"capsize: ");
+    let _ = errors.write_all(first);
+    let _ = errors.write_all(second);
+    let _ = errors.write_all(b"\n");
 }
 
 // Prints a text, or says that it could not.
-fn print_text(text: &[u8]) -> bool {
-    print(text, b"capsize: the output could not be written\n")
+fn print_text(rt: &HostRuntime, text: &[u8]) -> bool {
+    print(rt, text, b"capsize: the output could not be written\n")
 }
 
-// Reads a trace from a descriptor. Of one that could not be read to its end, or is too long, that is said.
-fn read_trace(fd: i32, name: &[u8], buf: &mut [u8]) -> Input
+// Reads a trace from a reader. Of one that could not be read to its end, or is too long, that is said.
+fn read_trace<R: Read>(rt: &HostRuntime, reader: &mut R, name: &[u8], buf: &mut [u8]) -> Input
     ensures { Short result }
 {
-    let read = read_input(fd, buf);
+    let read = read_input(reader, buf);
     match read {
         Input::Read(length) => {
             if length <= LONGEST {
                 return Input::Read(length);
             }
-            if print_text(b"(long)\n") {
-                say(name, b" is longer than 65,536 bytes");
+            if print_text(rt, b"(long)\n") {
+                say(rt, name, b" is longer than 65,536 bytes");
             }
             Input::Failed
         }
         Input::Failed => {
-            say(name, b" could not be read to its end");
+            say(rt, name, b" could not be read to its end");
             Input::Failed
         }
     }
@@ -60,43 +67,47 @@ fn is_input(name: &[u8]) -> bool {
     name.len() == 1 && name[0] == b'-'
 }
 
+// Opens the file of this name, which is text in UTF-8: no other can be opened.
+fn open_file(rt: &HostRuntime, name: &[u8]) -> Option<File> {
+    let path = str::from_utf8(name).ok()?;
+    File::open(rt, path).ok()
+}
+
 // Reads a trace from the file of this name.
-fn read_file(name: &[u8], buf: &mut [u8]) -> Input
+fn read_file(rt: &HostRuntime, name: &[u8], buf: &mut [u8]) -> Input
     ensures { Short result }
 {
     if is_input(name) {
-        return read_trace(STDIN_FILENO, b"standard input", buf);
+        return read_trace(rt, &mut rt.stdin(), b"standard input", buf);
     }
-    let fd = os::open_read(name);
-    if fd < 0 {
-        say(b"cannot open ", name);
-        return Input::Failed;
+    match open_file(rt, name) {
+        Some(mut file) => read_trace(rt, &mut file, name, buf),
+        None => {
+            say(rt, b"cannot open ", name);
+            Input::Failed
+        }
     }
-    let read = read_trace(fd, name, buf);
-    libc::close(fd);
-    read
 }
 
 // Reads a client's trace from the file that an argument names. One that is too long for a path is taken as empty, which no file's name is.
-fn read_client(argument: usize, buf: &mut [u8]) -> Input
+fn read_client(rt: &HostRuntime, argument: usize, buf: &mut [u8]) -> Input
     ensures { Short result }
 {
-    let mut name = io::buffer();
-    let length = os::arg(argument, &mut name);
-    read_file(&name[..length], buf)
+    let mut name = [0u8; PATH];
+    let length = rt.arg(argument, &mut name).unwrap_or(0);
+    read_file(rt, &name[..length], buf)
 }
 
 // Reads the traces of so many clients end to end, and notes how long each is. The program's own name stands before the arguments, so
 // that the first client's is argument 1.
-fn read_clients(count: usize, text: &mut [u8], lengths: &mut [u32]) -> Input
+fn read_clients(rt: &HostRuntime, count: usize, text: &mut [u8], lengths: &mut [u32]) -> Input
     requires { (count ≤ 8) × (length text.old ≡ 524289) × (length lengths.old ≡ 8) }
     ensures { ReadInto result text.new }
 {
     let mut done = 0;
-    let mut client = 0;
-    while client < count {
+    for client in 0..count {
         let end = done + LONGEST + 1;
-        let read = read_client(client + 1, &mut text[done..end]);
+        let read = read_client(rt, client + 1, &mut text[done..end]);
         match read {
             Input::Read(length) => {
                 lengths[client] = length as u32;
@@ -104,16 +115,15 @@ fn read_clients(count: usize, text: &mut [u8], lengths: &mut [u32]) -> Input
             }
             Input::Failed => return Input::Failed,
         }
-        client += 1;
     }
     Input::Read(done)
 }
 
-fn print_sizes(text: &[u8], lengths: &[u32]) {
+fn print_sizes(rt: &HostRuntime, text: &[u8], lengths: &[u32]) {
     let printed = sizes::sizes_text(text, lengths);
     let bytes = printed.bytes;
     let length = printed.length;
-    print_text(&bytes[..length]);
+    print_text(rt, &bytes[..length]);
 }
 
 // Room for the traces, of which the contract gives the length alone: a proof that has all its zeros before it takes too long.
@@ -124,35 +134,42 @@ fn room() -> [u8; ROOM]
 }
 
 // Prints the rows of so many clients.
-fn size_clients(count: usize)
+fn size_clients(rt: &HostRuntime, count: usize)
     requires { count ≤ 8 }
 {
     let mut text = room();
     let mut lengths = [0u32; CLIENTS];
-    let read = read_clients(count, &mut text, &mut lengths);
+    let read = read_clients(rt, count, &mut text, &mut lengths);
     match read {
-        Input::Read(length) => print_sizes(&text[..length], &lengths[..count]),
+        Input::Read(length) => print_sizes(rt, &text[..length], &lengths[..count]),
         Input::Failed => {}
     }
 }
 
-// How many clients there are.
-fn client_count() -> usize {
-    let words = os::arg_count();
-    if words == 0 {
-        return 0;
-    }
-    words - 1
+// Whether there is such an argument, however long it is.
+fn has_argument(rt: &HostRuntime, argument: usize) -> bool {
+    let mut byte = [0u8; 1];
+    !matches!(rt.arg(argument, &mut byte), Err(FillError::NotPresent))
 }
 
-fn main() {
-    let count = client_count();
+// How many clients there are: one for each argument behind the program's own name. More than may be are counted as one too many.
+fn client_count(rt: &HostRuntime) -> usize {
+    for client in 0..CLIENTS + 1 {
+        if !has_argument(rt, client + 1) {
+            return client;
+        }
+    }
+    CLIENTS + 1
+}
+
+fn main(rt: HostRuntime) {
+    let count = client_count(&rt);
     if count <= CLIENTS {
-        size_clients(count);
+        size_clients(&rt, count);
         return;
     }
     // So many are refused whatever their traces are, so none is read.
     let text: [u8; 0] = [];
     let lengths = [0u32; CLIENTS + 1];
-    print_sizes(&text, &lengths);
+    print_sizes(&rt, &text, &lengths);
 }

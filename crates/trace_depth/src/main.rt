@@ -1,6 +1,6 @@
 // Document 01, trace 11: depth 64 allowed, 65 refused 8. The trace is the file `stdin` beside src/, which `stdout` answers.
 #![tactic(auto)]
 
-fn main() {
-    console::check_input();
+fn main(rt: HostRuntime) {
+    console::check_input(&rt);
 }
