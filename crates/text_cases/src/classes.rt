@@ -1,19 +1,18 @@
 // The table of the 256 classes, executed: the readers' loops tell classes by comparisons, which are proved to the same rule.
 use crate::show;
-use libc::STDOUT_FILENO;
 use text::classes::class_of;
 
 // The classes of some byte values.
-fn line(first: u8, last: u8) {
+fn line(rt: &HostRuntime, first: u8, last: u8) {
     for byte in first..=last {
-        io::print_decimal(STDOUT_FILENO, class_of(byte) as u64);
+        show::say_decimal(rt, class_of(byte) as u64);
     }
-    show::say(b"\n");
+    show::say(rt, b"\n");
 }
 
-pub fn all() {
-    line(0, 63);
-    line(64, 127);
-    line(128, 191);
-    line(192, 255);
+pub fn all(rt: &HostRuntime) {
+    line(rt, 0, 63);
+    line(rt, 64, 127);
+    line(rt, 128, 191);
+    line(rt, 192, 255);
 }

@@ -13,7 +13,7 @@ fn span(start: u32, length: u32) -> Span {
     }
 }
 
-fn create(label: &[u8], actor: u32, fresh: u8, holders: u64, size: usize) {
+fn create(rt: &HostRuntime, label: &[u8], actor: u32, fresh: u8, holders: u64, size: usize) {
     let terms = Terms {
         right: 2,
         kind: 0,
@@ -21,10 +21,10 @@ fn create(label: &[u8], actor: u32, fresh: u8, holders: u64, size: usize) {
         holders,
     };
     let event = Event::Create(NewName::Unwritten, span(0, 8), terms);
-    case_by(label, Spelling::Plain, actor, event, size);
+    case_by(rt, label, Spelling::Plain, actor, event, size);
 }
 
-fn borrow(label: &[u8], actor: u32, kind: u8, holders: u64, size: usize) {
+fn borrow(rt: &HostRuntime, label: &[u8], actor: u32, kind: u8, holders: u64, size: usize) {
     let terms = Terms {
         right: 2,
         kind,
@@ -32,11 +32,11 @@ fn borrow(label: &[u8], actor: u32, kind: u8, holders: u64, size: usize) {
         holders,
     };
     let event = Event::Borrow(NewName::Unwritten, Name(1), span(0, 8), terms);
-    case_by(label, Spelling::Plain, actor, event, size);
+    case_by(rt, label, Spelling::Plain, actor, event, size);
 }
 
 // The longest line of an event: all its numbers have ten digits.
-fn longest(label: &[u8], size: usize) {
+fn longest(rt: &HostRuntime, label: &[u8], size: usize) {
     let terms = Terms {
         right: 1,
         kind: 2,
@@ -45,11 +45,12 @@ fn longest(label: &[u8], size: usize) {
     };
     let new = NewName::Written(Name(4294967295));
     let event = Event::Borrow(new, Name(4294967295), span(4294967295, 4294967295), terms);
-    case_by(label, Spelling::Named, 63, event, size);
+    case_by(rt, label, Spelling::Named, 63, event, size);
 }
 
-fn read_by(label: &[u8], actor: u32, size: usize) {
+fn read_by(rt: &HostRuntime, label: &[u8], actor: u32, size: usize) {
     case_by(
+        rt,
         label,
         Spelling::Plain,
         actor,
@@ -58,15 +59,16 @@ fn read_by(label: &[u8], actor: u32, size: usize) {
     );
 }
 
-pub fn written() {
-    read_by(b"read by domain 3 into 20 bytes:", 3, 20);
-    read_by(b"read by domain 63 into 23 bytes:", 63, 23);
-    read_by(b"read by domain 3 into 19 bytes:", 3, 19);
-    read_by(b"read by domain 64:", 64, 30);
-    read_by(b"read by domain 4294967295 into 1 byte:", 4294967295, 1);
-    create(b"create of domain 3 for itself:", 3, 0, 8, 25);
-    create(b"create of domain 3 for 0 and 3:", 3, 0, 9, 40);
+pub fn written(rt: &HostRuntime) {
+    read_by(rt, b"read by domain 3 into 20 bytes:", 3, 20);
+    read_by(rt, b"read by domain 63 into 23 bytes:", 63, 23);
+    read_by(rt, b"read by domain 3 into 19 bytes:", 3, 19);
+    read_by(rt, b"read by domain 64:", 64, 30);
+    read_by(rt, b"read by domain 4294967295 into 1 byte:", 4294967295, 1);
+    create(rt, b"create of domain 3 for itself:", 3, 0, 8, 25);
+    create(rt, b"create of domain 3 for 0 and 3:", 3, 0, 9, 40);
     create(
+        rt,
         b"create of domain 0 for 0 and 63:",
         0,
         1,
@@ -74,61 +76,67 @@ pub fn written() {
         40,
     );
     create(
+        rt,
         b"create for 0 and 63 into 38 bytes:",
         0,
         1,
         9223372036854775809,
         38,
     );
-    create(b"create of domain 3 for 0:", 3, 0, 1, 40);
-    create(b"create for none:", 0, 0, 0, 40);
-    create(b"create of domain 64:", 64, 0, 1, 40);
-    borrow(b"borrow of domain 5 for itself:", 5, 1, 32, 30);
+    create(rt, b"create of domain 3 for 0:", 3, 0, 1, 40);
+    create(rt, b"create for none:", 0, 0, 0, 40);
+    create(rt, b"create of domain 64:", 64, 0, 1, 40);
+    borrow(rt, b"borrow of domain 5 for itself:", 5, 1, 32, 30);
     borrow(
+        rt,
         b"borrow of domain 5 for all:",
         5,
         2,
         18446744073709551615,
         50,
     );
-    borrow(b"borrow of domain 5 for 4:", 5, 2, 16, 50);
-    longest(b"longest line:", 86);
-    longest(b"longest line into 85 bytes:", 85);
+    borrow(rt, b"borrow of domain 5 for 4:", 5, 2, 16, 50);
+    longest(rt, b"longest line:", 86);
+    longest(rt, b"longest line into 85 bytes:", 85);
 }
 
-fn write_group(label: &[u8], actor: u32, names: &[u32]) {
+fn write_group(rt: &HostRuntime, label: &[u8], actor: u32, names: &[u32]) {
     let mut buffer = [b'.'; 24];
-    show::say(label);
+    show::say(rt, label);
     let answer = group::write_group(actor, names, &mut buffer);
-    writing::say_written(answer, &buffer);
+    writing::say_written(rt, answer, &buffer);
 }
 
-fn read_group(label: &[u8], line: &[u8]) {
+fn read_group(rt: &HostRuntime, label: &[u8], line: &[u8]) {
     let mut names = [0u32; 64];
-    show::say(label);
+    show::say(rt, label);
     let answer = group::read_group(line, &mut names);
     match answer {
         GroupRead::Count(actor, count) => {
-            show::say_actor(actor);
-            show::say_length(count);
-            show::say_number(names[0]);
-            show::say_number(names[1]);
+            show::say_actor(rt, actor);
+            show::say_length(rt, count);
+            show::say_number(rt, names[0]);
+            show::say_number(rt, names[1]);
         }
-        GroupRead::Refused(refusal) => show::say_refusal(refusal),
+        GroupRead::Refused(refusal) => show::say_refusal(rt, refusal),
     }
-    show::say(b"\n");
+    show::say(rt, b"\n");
 }
 
-pub fn groups() {
-    write_group(b"drop together:", 0, &[2, 5, 9]);
-    write_group(b"drop together by domain 3:", 3, &[2, 5, 9]);
-    write_group(b"drop together by domain 64:", 64, &[2, 5, 9]);
-    write_group(b"names that fall by domain 64:", 64, &[5, 2]);
-    write_group(b"too long by domain 63:", 63, &[4294967294, 4294967295]);
-    read_group(b"drop together, read:", b"(drop 2 5 9)\n");
-    read_group(b"by domain 3, read:", b"(as 3 (drop 2 5 9))\n");
-    read_group(b"by domain 63, read:", b"(as 63 (drop 7))\n");
-    read_group(b"by domain 0 written out:", b"(as 0 (drop 2 5))\n");
-    read_group(b"by domain 64, read:", b"(as 64 (drop 2 5))\n");
-    read_group(b"by domain 3 without its bracket:", b"(as 3 (drop 2 5)\n");
+pub fn groups(rt: &HostRuntime) {
+    write_group(rt, b"drop together:", 0, &[2, 5, 9]);
+    write_group(rt, b"drop together by domain 3:", 3, &[2, 5, 9]);
+    write_group(rt, b"drop together by domain 64:", 64, &[2, 5, 9]);
+    write_group(rt, b"names that fall by domain 64:", 64, &[5, 2]);
+    write_group(rt, b"too long by domain 63:", 63, &[4294967294, 4294967295]);
+    read_group(rt, b"drop together, read:", b"(drop 2 5 9)\n");
+    read_group(rt, b"by domain 3, read:", b"(as 3 (drop 2 5 9))\n");
+    read_group(rt, b"by domain 63, read:", b"(as 63 (drop 7))\n");
+    read_group(rt, b"by domain 0 written out:", b"(as 0 (drop 2 5))\n");
+    read_group(rt, b"by domain 64, read:", b"(as 64 (drop 2 5))\n");
+    read_group(
+        rt,
+        b"by domain 3 without its bracket:",
+        b"(as 3 (drop 2 5)\n",
+    );
 }

@@ -3,6 +3,8 @@
 // read is answered in both spellings. Lines in document 01's form follow. Last comes the class of each of the 256 byte values, 64 to a line.
 #![tactic(auto)]
 
+ghost use Rattle.std.specs.Prelude.{◌≤◌, length};
+
 mod classes;
 mod domains;
 mod forms;
@@ -11,21 +13,37 @@ mod show;
 mod states;
 mod writing;
 
-fn main() {
-    let mut buffer = io::large_buffer();
-    let length = io::read_full(libc::STDIN_FILENO, &mut buffer);
-    reading::cases(&buffer[..length]);
-    reading::any_byte();
-    reading::next_lines();
-    writing::lengths();
-    writing::refusals();
-    writing::mark_refusals();
-    domains::written();
-    domains::groups();
-    states::written();
-    states::lines();
-    states::other_lines();
-    forms::lines();
-    forms::other_lines();
-    classes::all();
+use std::io::Read;
+
+// Reads until the buffer is full, the input ends or a read fails. How many bytes it put at the start of the buffer.
+fn read_full<R: Read>(reader: &mut R, buffer: &mut [u8]) -> usize
+    ensures { result ≤ length buffer.new }
+{
+    let mut done = 0;
+    while done < buffer.len() {
+        match reader.read(&mut buffer[done..]) {
+            Ok(0) | Err(_) => break,
+            Ok(more) => done += more,
+        }
+    }
+    done
+}
+
+fn main(rt: HostRuntime) {
+    let mut buffer = [0u8; 65536];
+    let length = read_full(&mut rt.stdin(), &mut buffer);
+    reading::cases(&rt, &buffer[..length]);
+    reading::any_byte(&rt);
+    reading::next_lines(&rt);
+    writing::lengths(&rt);
+    writing::refusals(&rt);
+    writing::mark_refusals(&rt);
+    domains::written(&rt);
+    domains::groups(&rt);
+    states::written(&rt);
+    states::lines(&rt);
+    states::other_lines(&rt);
+    forms::lines(&rt);
+    forms::other_lines(&rt);
+    classes::all(&rt);
 }

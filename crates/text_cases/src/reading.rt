@@ -33,33 +33,34 @@ fn part(text: &[u8], start: usize, end: usize) -> &[u8] {
     &text[..0]
 }
 
-fn read_in(spelling: Spelling, line: &[u8]) {
+fn read_in(rt: &HostRuntime, spelling: Spelling, line: &[u8]) {
     let answer = read::read_event(spelling, line);
     match answer {
         EventRead::Event(actor, event) => {
-            show::say_actor(actor);
-            show::say_event(event);
+            show::say_actor(rt, actor);
+            show::say_event(rt, event);
         }
-        EventRead::Refused(refusal) => show::say_refusal(refusal),
+        EventRead::Refused(refusal) => show::say_refusal(rt, refusal),
     }
 }
 
 // Reads a line in both spellings.
-fn read(label: &[u8], line: &[u8]) {
-    show::say(label);
-    show::say(b":");
-    read_in(Spelling::Plain, line);
-    show::say(b" /");
-    read_in(Spelling::Named, line);
-    show::say(b"\n");
+fn read(rt: &HostRuntime, label: &[u8], line: &[u8]) {
+    show::say(rt, label);
+    show::say(rt, b":");
+    read_in(rt, Spelling::Plain, line);
+    show::say(rt, b" /");
+    read_in(rt, Spelling::Named, line);
+    show::say(rt, b"\n");
 }
 
 // Runs the case that starts at a place, and returns the place of the next one.
-fn case(table: &[u8], start: usize) -> usize {
+fn case(rt: &HostRuntime, table: &[u8], start: usize) -> usize {
     let label_end = find(table, start, b'\n');
     let line_start = behind(table, label_end);
     let line_end = find(table, line_start, b'|');
     read(
+        rt,
         part(table, start, label_end),
         part(table, line_start, line_end),
     );
@@ -67,14 +68,14 @@ fn case(table: &[u8], start: usize) -> usize {
 }
 
 // Runs the cases of a table, at most 160: for each a label, up to a newline, and then the bytes to read, up to a bar.
-pub fn cases(table: &[u8]) {
+pub fn cases(rt: &HostRuntime, table: &[u8]) {
     let mut start = 0;
     let mut turns: u32 = 0;
     while turns < 160 {
         if table.len() <= start {
             return;
         }
-        start = case(table, start);
+        start = case(rt, table, start);
         turns += 1;
     }
 }
@@ -110,29 +111,29 @@ fn count_read(at: usize) -> usize {
     found
 }
 
-fn sweep(label: &[u8], at: usize) {
-    show::say(label);
-    show::say_length(count_read(at));
-    show::say(b"\n");
+fn sweep(rt: &HostRuntime, label: &[u8], at: usize) {
+    show::say(rt, label);
+    show::say_length(rt, count_read(at));
+    show::say(rt, b"\n");
 }
 
-pub fn any_byte() {
-    sweep(b"byte values for the opening bracket:", 0);
-    sweep(b"byte values for the space:", 5);
-    sweep(b"byte values for the digit:", 6);
-    sweep(b"byte values for the newline:", 8);
+pub fn any_byte(rt: &HostRuntime) {
+    sweep(rt, b"byte values for the opening bracket:", 0);
+    sweep(rt, b"byte values for the space:", 5);
+    sweep(rt, b"byte values for the digit:", 6);
+    sweep(rt, b"byte values for the newline:", 8);
 }
 
-fn next(label: &[u8], text: &[u8]) {
-    show::say(label);
+fn next(rt: &HostRuntime, label: &[u8], text: &[u8]) {
+    show::say(rt, label);
     let line = lines::next_line(text);
-    show::say_length(line.len());
-    show::say(b"\n");
+    show::say_length(rt, line.len());
+    show::say(rt, b"\n");
 }
 
-pub fn next_lines() {
-    next(b"next line of two:", b"(drop 1)\n(read 1 0 8)\n");
-    next(b"next line of one without newline:", b"(drop 1)");
-    next(b"next line that is empty:", b"\n(drop 1)\n");
-    next(b"next line of an empty text:", b"");
+pub fn next_lines(rt: &HostRuntime) {
+    next(rt, b"next line of two:", b"(drop 1)\n(read 1 0 8)\n");
+    next(rt, b"next line of one without newline:", b"(drop 1)");
+    next(rt, b"next line that is empty:", b"\n(drop 1)\n");
+    next(rt, b"next line of an empty text:", b"");
 }

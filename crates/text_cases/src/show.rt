@@ -2,35 +2,39 @@
 ghost use Rattle.std.specs.Prelude.{◌≡◌};
 ghost use Rattle.model.specs.Answers.{number};
 
-use libc::STDOUT_FILENO;
 use model::{Event, Name, NewName, Refusal, Span, Terms};
 
-pub fn say(text: &[u8]) {
-    io::write_all(STDOUT_FILENO, text);
+pub fn say(rt: &HostRuntime, text: &[u8]) {
+    let _ = rt.stdout().write_all(text);
 }
 
-pub fn say_length(n: usize) {
-    say(b" ");
-    io::print_decimal(STDOUT_FILENO, n as u64);
+// A number's digits.
+pub fn say_decimal(rt: &HostRuntime, n: u64) {
+    let _ = rt.print(n);
 }
 
-pub fn say_number(n: u32) {
-    say(b" ");
-    io::print_decimal(STDOUT_FILENO, n as u64);
+pub fn say_length(rt: &HostRuntime, n: usize) {
+    say(rt, b" ");
+    say_decimal(rt, n as u64);
 }
 
-fn say_byte(n: u8) {
-    say(b" ");
-    io::print_decimal(STDOUT_FILENO, n as u64);
+pub fn say_number(rt: &HostRuntime, n: u32) {
+    say(rt, b" ");
+    say_decimal(rt, n as u64);
 }
 
-fn say_name(name: Name) {
-    say_number(name.0);
+fn say_byte(rt: &HostRuntime, n: u8) {
+    say(rt, b" ");
+    say_decimal(rt, n as u64);
 }
 
-fn say_span(span: Span) {
-    say_number(span.start.0);
-    say_number(span.length);
+fn say_name(rt: &HostRuntime, name: Name) {
+    say_number(rt, name.0);
+}
+
+fn say_span(rt: &HostRuntime, span: Span) {
+    say_number(rt, span.start.0);
+    say_number(rt, span.length);
 }
 
 // The number of a refusal.
@@ -60,64 +64,64 @@ fn number_of(refusal: Refusal) -> u32
     }
 }
 
-pub fn say_refusal(refusal: Refusal) {
-    say(b" refused");
-    say_number(number_of(refusal));
+pub fn say_refusal(rt: &HostRuntime, refusal: Refusal) {
+    say(rt, b" refused");
+    say_number(rt, number_of(refusal));
 }
 
-fn say_new(new: NewName) {
+fn say_new(rt: &HostRuntime, new: NewName) {
     if let NewName::Written(name) = new {
-        say(b" named");
-        say_name(name);
+        say(rt, b" named");
+        say_name(rt, name);
     }
 }
 
 // A right, a kind, a mark and a mask of holders, each as a number.
-fn say_terms(terms: Terms) {
-    say_byte(terms.right);
-    say_byte(terms.kind);
-    say_byte(terms.fresh);
-    say(b" ");
-    io::print_decimal(STDOUT_FILENO, terms.holders);
+fn say_terms(rt: &HostRuntime, terms: Terms) {
+    say_byte(rt, terms.right);
+    say_byte(rt, terms.kind);
+    say_byte(rt, terms.fresh);
+    say(rt, b" ");
+    say_decimal(rt, terms.holders);
 }
 
 // Who acts, where it is not domain 0.
-pub fn say_actor(actor: u32) {
+pub fn say_actor(rt: &HostRuntime, actor: u32) {
     if actor != 0 {
-        say(b" as");
-        say_number(actor);
+        say(rt, b" as");
+        say_number(rt, actor);
     }
 }
 
 // An event: its word, its new name where that is written, and its values.
-pub fn say_event(event: Event) {
+pub fn say_event(rt: &HostRuntime, event: Event) {
     match event {
         Event::Create(new, span, terms) => {
-            say(b" create");
-            say_new(new);
-            say_span(span);
-            say_terms(terms);
+            say(rt, b" create");
+            say_new(rt, new);
+            say_span(rt, span);
+            say_terms(rt, terms);
         }
         Event::Borrow(new, name, span, terms) => {
-            say(b" borrow");
-            say_new(new);
-            say_name(name);
-            say_span(span);
-            say_terms(terms);
+            say(rt, b" borrow");
+            say_new(rt, new);
+            say_name(rt, name);
+            say_span(rt, span);
+            say_terms(rt, terms);
         }
         Event::Read(name, span) => {
-            say(b" read");
-            say_name(name);
-            say_span(span);
+            say(rt, b" read");
+            say_name(rt, name);
+            say_span(rt, span);
         }
         Event::Write(name, span) => {
-            say(b" write");
-            say_name(name);
-            say_span(span);
+            say(rt, b" write");
+            say_name(rt, name);
+            say_span(rt, span);
         }
         Event::Drop(name) => {
-            say(b" drop");
-            say_name(name);
+            say(rt, b" drop");
+            say_name(rt, name);
         }
     }
 }
