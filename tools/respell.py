@@ -94,10 +94,10 @@ MET = {"in_order", "in_use", "on_line", "mask_word"}
 def renames():
     names = defined_names()
     hyphens = {n for n in names if "-" in n} | LOCALS
-    camel = {n for n in names if CAMEL.match(n)}
+    camel = {n for n in names if CAMEL.match(n) and "-" not in n}
     for path in files(".antt"):
         for line in read(path).splitlines():
-            camel.update(w for w in WORD.findall(code_of(line)) if CAMEL.match(w))
+            camel.update(w for w in WORD.findall(code_of(line)) if CAMEL.match(w) and "-" not in w)
     table = {n: snake(n) for n in hyphens | camel if snake(n) != n}
     # A lemma that would have its function's name gets `_lem`.
     taken = {table[n] for n in camel if n in table} | (names - hyphens - camel)

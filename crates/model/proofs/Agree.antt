@@ -19,7 +19,7 @@ use Rattle.model.specs.Table
 use Rattle.model.specs.History.{Note, New, Accessed, Dropped, derived_by, derivations, user, Takes, ends, hits, lives, row_of, alive, rows}
 use Rattle.model.proofs.Lists.{All, All_map, All_zip, All_of, All_append, All_last, test, clash, and_both, or_neither, any_false, map_id}
 use Rattle.model.proofs.Ancestries.{Closed, Falling, Step, ancestry_step, ancestry_kept, falling_kept}
-use Rattle.model.proofs.Notes.{Sound, floor, falling, named_before, ancestry_older, lives_older, rows_all, revoked_by, revoked_by_cong_lem, rows_noted}
+use Rattle.model.proofs.Notes.{Sound, floor, falling, named_before, ancestry_older, lives_older, rows_all, revoked_by, revoked_by_cong, rows_noted}
 
 -- ---- a parent lives as long as its children
 
@@ -107,6 +107,6 @@ module _ (sheet : Sheet) where
     rows_after_lem m w q t =
         rows_noted sheet m w notes q
         ∙ ap (λ l. map (row_of sheet (w ∷ notes)) (derived_by w) ++ l)
-        (revoked_by_cong_lem sheet (derivations (w ∷ notes)) (Table.derivations (rows sheet notes)) w (rows sheet notes)
+        (revoked_by_cong sheet (derivations (w ∷ notes)) (Table.derivations (rows sheet notes)) w (rows sheet notes)
         (rows_all sheet notes (λ r. (takes : Takes) → hits takes (derivations (w ∷ notes)) r.name.0 w ≡ hits takes (Table.derivations (rows sheet notes)) r.name.0 w)
         (All_map _ _ (λ b l h. hits_rows m w q t b.name h l) (derivations notes) (named_before sheet m w notes q))))

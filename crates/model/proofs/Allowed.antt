@@ -43,9 +43,9 @@ makes_derivations x (New b r ∷ notes) = ap (λ t. eqb x b.name || t) (makes_de
 makes_derivations x (Accessed a u s ∷ notes) = makes_derivations x notes
 makes_derivations x (Dropped u ∷ notes) = makes_derivations x notes
 
-derived_by_between_lem : (n : ℕ) (B : List Derivation) (x : ℕ) → Falling n B → any (λ b. eqb x b.name) B ≡ true → (0 < x) × (x < n)
-derived_by_between_lem n [] x f h = clash h refl
-derived_by_between_lem n (b ∷ B) x f h = go (test (eqb x b.name)) (derived_by_between_lem b.name B x f.2)
+derived_by_between : (n : ℕ) (B : List Derivation) (x : ℕ) → Falling n B → any (λ b. eqb x b.name) B ≡ true → (0 < x) × (x < n)
+derived_by_between n [] x f h = clash h refl
+derived_by_between n (b ∷ B) x f h = go (test (eqb x b.name)) (derived_by_between b.name B x f.2)
   where
     go : (eqb x b.name ≡ true) ⊎ (eqb x b.name ≡ false) → (any (λ b. eqb x b.name) B ≡ true → (0 < x) × (x < b.name)) → (0 < x) × (x < n)
     go (inl t) ih = let e = eqb-true x b.name t in omega arith
@@ -80,7 +80,7 @@ module _ (sheet : Sheet) where
     noted x h = sym (makes_derivations x notes) ∙ (and_both (any (makes x) notes) (not (later x (hits (ends sheet) (derivations notes) x) notes)) h).0
 
     pub lives_given : (x : ℕ) → lives sheet notes x ≡ true → (0 < x) × (x < suc i)
-    lives_given x h = derived_by_between_lem (suc i) (derivations notes) x B_falls (noted x h)
+    lives_given x h = derived_by_between (suc i) (derivations notes) x B_falls (noted x h)
 
     lives_present : (x : ℕ) → lives sheet notes x ≡ true → any (named x) (rows sheet notes) ≡ true
     unfolding rows row_of

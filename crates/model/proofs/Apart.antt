@@ -33,11 +33,11 @@ use Rattle.model.specs.Independence.{ordinal, is_given, own_name, recounted, rec
 use Rattle.model.proofs.Lists.{All, All_map, All_zip, All_sub, All_filter, All_mapped, test, clash, unless, and_both, of_all, passes, filter_cong, filter_map, filter_all, map_cong}
 use Rattle.model.proofs.Ancestries.{Falling, Closed, ancestry_above}
 use Rattle.model.proofs.Lent.{lookup_found, lookup_named}
-use Rattle.model.proofs.Order.{marked_low, rows_in_order_falling_lem, access_rows_in_order_lem, access_named}
+use Rattle.model.proofs.Order.{marked_low, rows_in_order_falling, access_rows_in_order, access_named}
 use Rattle.model.proofs.Addresses.{In, touching, inside_each}
 use Rattle.model.proofs.Bits.{span_law, all_same}
 use Rattle.model.proofs.Limited.{Within}
-use Rattle.model.proofs.Recounted.{Strictly, ordinal_order, ordinal_upto, ordinal_above, ordinal_none, ordinal_same, ordinal_older, ordinal_newest, recounted_derivation, Known, Given, ancestry_recounted, in_subtree_recounted_lem, reached_recounted}
+use Rattle.model.proofs.Recounted.{Strictly, ordinal_order, ordinal_upto, ordinal_above, ordinal_none, ordinal_same, ordinal_older, ordinal_newest, recounted_derivation, Known, Given, ancestry_recounted, in_subtree_recounted, reached_recounted}
 use Rattle.model.proofs.Parts.{part, along, ancestry_part, access_spared, without_spared}
 
 -- the domain's live rows, by its own count
@@ -149,7 +149,7 @@ module _ (d : ℕ) (given : List ℕ) (i : ℕ) (rows : List Cap) (a : Apart d g
     pub below_view : (u x : ℕ) → is_given given u ≡ true → is_given given x ≡ true → in_subtree u (ancestry (derivations rows) x) ≡ in_subtree (ordinal given u) (ancestry (derivations (view d given rows)) (ordinal given x))
     below_view u x h k =
         let q : Known given x = rw k (or-true (eqb x 0)) in
-        sym (ap (in_subtree (ordinal given u)) (ancestry_view x q) ∙ in_subtree_recounted_lem given not_none u (ancestry (derivations rows) x) (rw h (or-true (eqb u 0))) (given_on x q))
+        sym (ap (in_subtree (ordinal given u)) (ancestry_view x q) ∙ in_subtree_recounted given not_none u (ancestry (derivations rows) x) (rw h (or-true (eqb u 0))) (given_on x q))
 
     -- a user that is its own, or one that has no ancestry
     struck_view : (sheet : Sheet) (is : Effect → Bool) (b : Access) (s : Span) (user user₀ : List Derivation) → user₀ ≡ map (recounted_derivation given) user → Given given user → (x : ℕ) → is_given given x ≡ true
@@ -395,10 +395,10 @@ given_named i (Back by k) given = refl
 
 module _ (sheet : Sheet) (limits : List ℕ) (d : ℕ) (given : List ℕ) (i : ℕ) (rows : List Cap) (a : Apart d given i rows) (k : Within limits i rows) where
   pub falls : Falling (suc i) (derivations rows)
-  falls = rows_in_order_falling_lem (suc i) rows k.are_named k.rise
+  falls = rows_in_order_falling (suc i) rows k.are_named k.rise
 
   access_falls : (b : Access) (u : ℕ) (s : Span) → Falling (suc i) (derivations (after_access sheet b u s rows))
-  access_falls b u s = rows_in_order_falling_lem (suc i) (after_access sheet b u s rows) (access_named sheet rows k.are_named b u s) (access_rows_in_order_lem sheet (suc i) rows k.are_named k.rise b u s)
+  access_falls b u s = rows_in_order_falling (suc i) (after_access sheet b u s rows) (access_named sheet rows k.are_named b u s) (access_rows_in_order sheet (suc i) rows k.are_named k.rise b u s)
 
   -- ---- an act of another
 
@@ -449,7 +449,7 @@ module _ (sheet : Sheet) (limits : List ℕ) (d : ℕ) (given : List ℕ) (i : �
 
   module _ (k₀ : Within limits (length given) (view d given rows)) where
     falls₀ : Falling (suc (length given)) (derivations (view d given rows))
-    falls₀ = rows_in_order_falling_lem (suc (length given)) (view d given rows) k₀.are_named k₀.rise
+    falls₀ = rows_in_order_falling (suc (length given)) (view d given rows) k₀.are_named k₀.rise
 
     access_view : (b : Access) (u u₀ : ℕ) (s : Span) → ancestry (derivations (view d given rows)) u₀ ≡ map (recounted_derivation given) (ancestry (derivations rows) u) → Given given (ancestry (derivations rows) u)
         → view d given (after_access sheet b u s rows) ≡ after_access sheet b u₀ s (view d given rows)

@@ -29,13 +29,13 @@ half_with x r l = omega arith
 odd_with : (x r : ℕ) → r < 2 → (x * 2 + r) % 2 ≡ r
 odd_with x r l = omega arith
 
-pub has_bit_first_lem : (b : ℕ) → has_bit b 0 ≡ eqb (b % 2) 1
+pub has_bit_first : (b : ℕ) → has_bit b 0 ≡ eqb (b % 2) 1
 unfolding has_bit
-has_bit_first_lem b = rw (div-one b)
+has_bit_first b = rw (div-one b)
 
-pub has_bit_next_lem : (b j : ℕ) → has_bit b (suc j) ≡ has_bit (b / 2) j
+pub has_bit_next : (b j : ℕ) → has_bit b (suc j) ≡ has_bit (b / 2) j
 unfolding has_bit
-has_bit_next_lem b j = rw (pow-succ' 2 j, ← (div-div-eq-div-mul b 2 (2 ^ j)))
+has_bit_next b j = rw (pow-succ' 2 j, ← (div-div-eq-div-mul b 2 (2 ^ j)))
 
 eqb_suc : (i j : ℕ) → eqb (suc i) (suc j) ≡ eqb i j
 eqb_suc i j = go (test (eqb i j))
@@ -45,28 +45,28 @@ eqb_suc i j = go (test (eqb i j))
     go (inr e) = ne_eqb (suc i) (suc j) (λ (q : suc i ≡ suc j). eqb-false i j e (omega arith)) ∙ sym e
 
 -- a byte with one bit so has that bit, and the others as they were
-with_bit_law_lem : (v : Bool) (j i b : ℕ) → has_bit (with_bit v j b) i ≡ cond (eqb i j) v (has_bit b i)
+with_bit_law : (v : Bool) (j i b : ℕ) → has_bit (with_bit v j b) i ≡ cond (eqb i j) v (has_bit b i)
 unfolding with_bit
-with_bit_law_lem v zero zero b = has_bit_first_lem (b / 2 * 2 + cond v 1 0) ∙ go v
+with_bit_law v zero zero b = has_bit_first (b / 2 * 2 + cond v 1 0) ∙ go v
   where
     go : (v : Bool) → eqb ((b / 2 * 2 + cond v 1 0) % 2) 1 ≡ v
     go true = rw (odd_with (b / 2) 1 (omega arith))
     go false = rw (odd_with (b / 2) 0 (omega arith))
-with_bit_law_lem v zero (suc i) b =
-    has_bit_next_lem (b / 2 * 2 + cond v 1 0) i ∙ ap (λ (x : ℕ). has_bit x i) (go v) ∙ sym (rw (ne_eqb (suc i) 0 (λ (q : suc i ≡ 0). omega arith)) (has_bit_next_lem b i))
+with_bit_law v zero (suc i) b =
+    has_bit_next (b / 2 * 2 + cond v 1 0) i ∙ ap (λ (x : ℕ). has_bit x i) (go v) ∙ sym (rw (ne_eqb (suc i) 0 (λ (q : suc i ≡ 0). omega arith)) (has_bit_next b i))
   where
     go : (v : Bool) → (b / 2 * 2 + cond v 1 0) / 2 ≡ b / 2
     go true = half_with (b / 2) 1 (omega arith)
     go false = half_with (b / 2) 0 (omega arith)
-with_bit_law_lem v (suc j) zero b =
-    has_bit_first_lem (with_bit v j (b / 2) * 2 + b % 2)
+with_bit_law v (suc j) zero b =
+    has_bit_first (with_bit v j (b / 2) * 2 + b % 2)
     ∙ ap (λ (x : ℕ). eqb x 1) (odd_with (with_bit v j (b / 2)) (b % 2) (omega arith))
-    ∙ sym (rw (ne_eqb 0 (suc j) (λ (q : 0 ≡ suc j). omega arith)) (has_bit_first_lem b))
-with_bit_law_lem v (suc j) (suc i) b =
-    has_bit_next_lem (with_bit v j (b / 2) * 2 + b % 2) i
+    ∙ sym (rw (ne_eqb 0 (suc j) (λ (q : 0 ≡ suc j). omega arith)) (has_bit_first b))
+with_bit_law v (suc j) (suc i) b =
+    has_bit_next (with_bit v j (b / 2) * 2 + b % 2) i
     ∙ ap (λ (x : ℕ). has_bit x i) (half_with (with_bit v j (b / 2)) (b % 2) (omega arith))
-    ∙ with_bit_law_lem v j i (b / 2)
-    ∙ sym (rw (eqb_suc i j, has_bit_next_lem b i))
+    ∙ with_bit_law v j i (b / 2)
+    ∙ sym (rw (eqb_suc i j, has_bit_next b i))
 
 double : (v t : Bool) (x y p r : ℕ) → x + cond t p 0 ≡ y + cond v p 0 → x * 2 + r + cond t (p + p) 0 ≡ y * 2 + r + cond v (p + p) 0
 double true true x y p r e = omega arith
@@ -75,18 +75,18 @@ double false true x y p r e = omega arith
 double false false x y p r e = omega arith
 
 -- "the bit worth 2^(A mod 8)", worded again: a byte with the bit so differs from the byte by what the bit is worth
-pub with_bit_worth_lem : (v : Bool) (j b : ℕ) → with_bit v j b + cond (has_bit b j) (2 ^ j) 0 ≡ b + cond v (2 ^ j) 0
+pub with_bit_worth : (v : Bool) (j b : ℕ) → with_bit v j b + cond (has_bit b j) (2 ^ j) 0 ≡ b + cond v (2 ^ j) 0
 unfolding with_bit has_bit
-with_bit_worth_lem v zero b = go v (test (eqb (b / 1 % 2) 1))
+with_bit_worth v zero b = go v (test (eqb (b / 1 % 2) 1))
   where
     go : (v : Bool) → (eqb (b / 1 % 2) 1 ≡ true) ⊎ (eqb (b / 1 % 2) 1 ≡ false) → b / 2 * 2 + cond v 1 0 + cond (eqb (b / 1 % 2) 1) 1 0 ≡ b + cond v 1 0
     go true (inl e) = rw e (omega (arith, eqb-true (b / 1 % 2) 1 e))
     go false (inl e) = rw e (omega (arith, eqb-true (b / 1 % 2) 1 e))
     go true (inr e) = rw e (omega (arith, eqb-false (b / 1 % 2) 1 e))
     go false (inr e) = rw e (omega (arith, eqb-false (b / 1 % 2) 1 e))
-with_bit_worth_lem v (suc j) b =
-    rw (has_bit_next_lem b j, two-pow-succ j)
-    (double v (has_bit (b / 2) j) (with_bit v j (b / 2)) (b / 2) (2 ^ j) (b % 2) (with_bit_worth_lem v j (b / 2)) ∙ ap (λ (n : ℕ). n + cond v (2 ^ j + 2 ^ j) 0) (div-add-mod' b 2))
+with_bit_worth v (suc j) b =
+    rw (has_bit_next b j, two-pow-succ j)
+    (double v (has_bit (b / 2) j) (with_bit v j (b / 2)) (b / 2) (2 ^ j) (b % 2) (with_bit_worth v j (b / 2)) ∙ ap (λ (n : ℕ). n + cond v (2 ^ j + 2 ^ j) 0) (div-add-mod' b 2))
 
 -- ---- the bit of an address
 
@@ -101,7 +101,7 @@ put_law v a b bytes l h = go (test (eqb (b / 8) (a / 8)))
     go : (eqb (b / 8) (a / 8) ≡ true) ⊎ (eqb (b / 8) (a / 8) ≡ false) → has_bit (get_or (set bytes (a / 8) (with_bit v (a % 8) (get_or bytes (a / 8) 0))) (b / 8) 0) (b % 8) ≡ cond (eqb b a) v (has_bit (get_or bytes (b / 8) 0) (b % 8))
     go (inl e) =
         let q : b / 8 ≡ a / 8 = eqb-true (b / 8) (a / 8) e in
-        rw (q, get_or-set_same bytes (a / 8) (with_bit v (a % 8) (get_or bytes (a / 8) 0)) 0 (omega arith)) (with_bit_law_lem v (a % 8) (b % 8) (get_or bytes (a / 8) 0) ∙ ap (λ (t : Bool). cond t v (has_bit (get_or bytes (a / 8) 0) (b % 8))) (told q))
+        rw (q, get_or-set_same bytes (a / 8) (with_bit v (a % 8) (get_or bytes (a / 8) 0)) 0 (omega arith)) (with_bit_law v (a % 8) (b % 8) (get_or bytes (a / 8) 0) ∙ ap (λ (t : Bool). cond t v (has_bit (get_or bytes (a / 8) 0) (b % 8))) (told q))
       where
         told : b / 8 ≡ a / 8 → eqb (b % 8) (a % 8) ≡ eqb b a
         told q = pick (test (eqb b a))
@@ -116,7 +116,7 @@ put_law v a b bytes l h = go (test (eqb (b / 8) (a / 8)))
 pub put_worth : (a : ℕ) (bytes : List ℕ) → a / 8 < length bytes → bit_at bytes a ≡ false → put_at true a bytes ≡ set bytes (a / 8) (get_or bytes (a / 8) 0 + 2 ^ (a % 8))
 unfolding put_at bit_at
 put_worth a bytes l h =
-    let worth : with_bit true (a % 8) (get_or bytes (a / 8) 0) + cond (has_bit (get_or bytes (a / 8) 0) (a % 8)) (2 ^ (a % 8)) 0 ≡ get_or bytes (a / 8) 0 + 2 ^ (a % 8) = with_bit_worth_lem true (a % 8) (get_or bytes (a / 8) 0) in
+    let worth : with_bit true (a % 8) (get_or bytes (a / 8) 0) + cond (has_bit (get_or bytes (a / 8) 0) (a % 8)) (2 ^ (a % 8)) 0 ≡ get_or bytes (a / 8) 0 + 2 ^ (a % 8) = with_bit_worth true (a % 8) (get_or bytes (a / 8) 0) in
     ap (set bytes (a / 8)) (rw (h, add-zero (with_bit true (a % 8) (get_or bytes (a / 8) 0))) at worth)
 
 -- some bytes written out

@@ -32,7 +32,7 @@ use Rattle.model.proofs.Ancestries.{same, below_differs, ancestry_here, ancestry
 use Rattle.model.proofs.Strikes.{user_spared}
 use Rattle.model.proofs.Notes.{taken_cong}
 use Rattle.model.proofs.Lent.{Named}
-use Rattle.model.proofs.Order.{rows_in_order_falling_lem, lookup_left, lookup_lower}
+use Rattle.model.proofs.Order.{rows_in_order_falling, lookup_left, lookup_lower}
 use Rattle.model.proofs.Rows.{lookup_each, found_each, no_ancestry, no_ancestry_above}
 
 -- ---- a stranger's write
@@ -112,7 +112,7 @@ module _ (sheet : Sheet) (issued : ℕ) (rows : List Cap) (n : Named rows) (h : 
 
       older : (is : Effect → Bool) (x : ℕ) → x < suc issued → takes is x ≡ reached sheet is Writing s (ancestry (derivations rows) (suc issued)) (ancestry (derivations rows) x)
       older is x l =
-          let falls = rows_in_order_falling_lem (suc issued) rows n h in
+          let falls = rows_in_order_falling (suc issued) rows n h in
           ap₂ (reached sheet is Writing s) user_alone (ancestry_past new (derivations rows) x (below_differs l))
           ∙ own_alone sheet is Writing s new refl [] (ancestry (derivations rows) x) (All_zip _ _ (ancestry (derivations rows) x) (ancestry_below (suc issued) x (derivations rows) falls) (ancestry_falls (suc issued) x (derivations rows) falls))
           ∙ ap (λ (none : List Derivation). reached sheet is Writing s none (ancestry (derivations rows) x)) (sym (no_ancestry_above (suc issued) rows n h (suc issued) (omega arith)))

@@ -30,7 +30,7 @@ use Rattle.model.proofs.Lists.{All, All_map, test, clash, and_both, first_none}
 use Rattle.model.proofs.Slots.{SlotBoth, SlotsBoth, both_first, both_set, both_at, both_stored, both_map}
 use Rattle.model.proofs.Lent.{no_rows}
 use Rattle.model.proofs.Judged.{counted_issued, works_memory, stores_nothing, slots_size}
-use Rattle.model.proofs.Order.{rows_in_order_falling_lem, rows_in_order_wider_lem}
+use Rattle.model.proofs.Order.{rows_in_order_falling, rows_in_order_wider}
 use Rattle.model.proofs.Bits.{length_after}
 use Rattle.model.proofs.Recounted.{Strictly, ordinal_none, ordinal_newest}
 use Rattle.model.proofs.Limited.{Fits, Within, owned, live, size, fit, kept_by}
@@ -52,7 +52,7 @@ record Alike (limits : List ℕ) (n d : ℕ) (given : List ℕ) (i : ℕ) (m m�
 
 kept_later : (limits : List ℕ) (i : ℕ) (rows : List Cap) → Within limits i rows → suc i ≤ 1000000 → Within limits (suc i) rows
 kept_later limits i rows k l =
-    record { are_named = k.are_named; rise = rows_in_order_wider_lem (suc i) (suc (suc i)) rows (omega arith) k.rise; names_left = l; unexceeded = k.unexceeded }
+    record { are_named = k.are_named; rise = rows_in_order_wider (suc i) (suc (suc i)) rows (omega arith) k.rise; names_left = l; unexceeded = k.unexceeded }
 
 -- as names are given, to another or to the domain, what was alike stays alike
 module _ (limits : List ℕ) (n d : ℕ) (given : List ℕ) (i : ℕ) (m m₀ : Memory) (a : Alike limits n d given i m m₀) (l : suc i ≤ 1000000) where
@@ -72,7 +72,7 @@ module _ (limits : List ℕ) (n d : ℕ) (given : List ℕ) (i : ℕ) (m m₀ : 
 
   later_own : Alike limits n d (suc i ∷ given) (suc i) m m₀
   later_own =
-      let f = rows_in_order_falling_lem (suc i) a.rows a.kept.are_named a.kept.rise in
+      let f = rows_in_order_falling (suc i) a.rows a.kept.are_named a.kept.rise in
       let same_view = view_older d given i a.rows f in
       record {
         rows = a.rows;

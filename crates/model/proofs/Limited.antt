@@ -20,7 +20,7 @@ use Rattle.model.proofs.Lists.{All, All_map}
 use Rattle.model.proofs.Lent.{Named, live_lent, length_lent}
 use Rattle.model.proofs.Limits.{fewer_than_limits}
 use Rattle.model.proofs.Judged.{in_order_lem, no_slot}
-use Rattle.model.proofs.Order.{live_rows_first_lent_lem, terms_given, fitting, Ordered, ordered, next_named, names_enough, next_rows_in_order_lem, exceeds_next}
+use Rattle.model.proofs.Order.{live_rows_first_lent, terms_given, fitting, Ordered, ordered, next_named, names_enough, next_rows_in_order, exceeds_next}
 
 -- the sheet is not refused for its length or its sum
 pub record Fits (limits : List ℕ) (n : ℕ) : Type 0 where
@@ -57,7 +57,7 @@ module _ (limits : List ℕ) (n : ℕ) (f : Fits limits n) (i : ℕ) (rows : Lis
         size,
         live,
         le-leb n 1024 f.few,
-        live_rows_first_lent_lem n rows k.are_named,
+        live_rows_first_lent n rows k.are_named,
         le-leb i 1000000 k.names_left,
         k.rise,
         f.sixty_four,
@@ -84,7 +84,7 @@ module _ (limits : List ℕ) (n : ℕ) (f : Fits limits n) (i : ℕ) (rows : Lis
           let z : judge here q ≡ 0 = judged q t l ∙ h in
           record {
             are_named = rw live at (next_named sheet here (in_place q z) q);
-            rise = rw live at (next_rows_in_order_lem sheet here (in_place q z) q z);
+            rise = rw live at (next_rows_in_order sheet here (in_place q z) q z);
             names_left = leb-true (issued_after i q) 1000000 (names_enough sheet here (in_place q z) q z);
             unexceeded = rw live at (exceeds_next sheet here (in_place q z) limits q l z (rw live k.unexceeded));
           }

@@ -38,11 +38,11 @@ use Rattle.model.specs.History
 use Rattle.model.proofs.Lists.{All, All_of, All_map, test, clash, and_both, or_neither, and_neither, any_false, filter_all, filter_cong, filter_filter, map_id}
 use Rattle.model.proofs.Slots.{SlotBoth, SlotsBoth, both_first, both_set, both_at, both_stored, both_length, both_map}
 use Rattle.model.proofs.Ancestries.{Closed, Falling, ancestry_step, ancestry_zero, ancestry_above, ancestry_upto}
-use Rattle.model.proofs.Notes.{Sound, sound_wider, falling, lives_older, rows_all, row_of_new_lem, revoked_by, rows_noted}
+use Rattle.model.proofs.Notes.{Sound, sound_wider, falling, lives_older, rows_all, row_of_new, revoked_by, rows_noted}
 use Rattle.model.proofs.Agree.{Through, closed_noted, falling_rows, ancestry_rows, rows_live, present_lives, rows_after_lem}
 use Rattle.model.proofs.Lent.{Named, live_lent, length_lent, lookup_found, lookup_named}
 use Rattle.model.proofs.Judged.{allowed, in_order_lem, root_given, child_given, counted_issued, Stands, Rising, drop_stands, group_rises, group_stands}
-use Rattle.model.proofs.Order.{rows_in_order_wider_lem, names_enough, terms_given, marked_low, ordered, next_fits, order_next, order_fresh}
+use Rattle.model.proofs.Order.{rows_in_order_wider, names_enough, terms_given, marked_low, ordered, next_fits, order_next, order_fresh}
 use Rattle.model.proofs.Bits.{BitsTold, told_first, span_law, length_after, all_same}
 
 -- and never down
@@ -118,7 +118,7 @@ module _ (sheet : Sheet) where
         ∙ ap (λ y. mark_on (ancestry (derivations notes) y)) (lookup_named x (rows sheet notes) f)
 
     new_row : (b : Derivation) (r d : ℕ) → Sound (suc (suc i)) (New b r ∷ notes) → is_right r ≡ true → d ≡ length (ancestry (derivations notes) b.parent) → row_of sheet (New b r ∷ notes) b ≡ row b r (suc d)
-    new_row b r d s h e = row_of_new_lem sheet (suc (suc i)) b r notes s ∙ rw (right_given r h, e)
+    new_row b r d s h e = row_of_new sheet (suc (suc i)) b r notes s ∙ rw (right_given r h, e)
 
     live : List Derivation
     live = Table.derivations (rows sheet notes)
@@ -299,7 +299,7 @@ module _ (sheet : Sheet) where
         bits = a.bits;
         is_ordered =
             λ y. let o = ordered (table sheet n notes) i (a.is_ordered y) in
-            rw (o.few, o.rest_is_empty, le-leb (suc i) 1000000 l) (rows_in_order_wider_lem (suc i) (suc (suc i)) (live_rows (table sheet n notes)) (omega arith) o.rise);
+            rw (o.few, o.rest_is_empty, le-leb (suc i) 1000000 l) (rows_in_order_wider (suc i) (suc (suc i)) (live_rows (table sheet n notes)) (omega arith) o.rise);
         nothing_noted = a.nothing_noted;
       }
 

@@ -72,11 +72,11 @@ makes_older n x (New b r) h = below_differs h
 makes_older n x (Accessed a u s) h = refl
 makes_older n x (Dropped u) h = refl
 
-makes_writable_older_lem : (n x : ℕ) (w : Note) → x < floor n w → makes_writable x w ≡ false
+makes_writable_older : (n x : ℕ) (w : Note) → x < floor n w → makes_writable x w ≡ false
 unfolding makes_writable
-makes_writable_older_lem n x (New b r) h = rw (below_differs h)
-makes_writable_older_lem n x (Accessed a u s) h = refl
-makes_writable_older_lem n x (Dropped u) h = refl
+makes_writable_older n x (New b r) h = rw (below_differs h)
+makes_writable_older n x (Accessed a u s) h = refl
+makes_writable_older n x (Dropped u) h = refl
 
 unmade : (n : ℕ) (notes : List Note) → Sound n notes → any (makes_writable n) notes ≡ false
 unfolding makes_writable
@@ -137,12 +137,12 @@ module _ (sheet : Sheet) where
     pub writable_older : (x : ℕ) → x < floor n w → writable sheet (w ∷ notes) x ≡ writable sheet notes x && not (hits (lowers sheet) (derivations (w ∷ notes)) x w)
     unfolding writable later
     writable_older x h =
-        rw (makes_older n x w h, makes_writable_older_lem n x w h, later_cong x (hits (lowers sheet) (derivations (w ∷ notes)) x) (hits (lowers sheet) (derivations notes) x) notes (All_map _ _ (hits_older (lowers sheet) x h) notes older))
+        rw (makes_older n x w h, makes_writable_older n x w h, later_cong x (hits (lowers sheet) (derivations (w ∷ notes)) x) (hits (lowers sheet) (derivations notes) x) notes (All_map _ _ (hits_older (lowers sheet) x h) notes older))
         (and_neither (any (makes_writable x) notes) (hits (lowers sheet) (derivations (w ∷ notes)) x w) (later x (hits (lowers sheet) (derivations notes) x) notes))
 
-    row_of_older_lem : (b : Derivation) → b.name < floor n w → row_of sheet (w ∷ notes) b ≡ lowered (hits (lowers sheet) (derivations (w ∷ notes)) b.name w) (row_of sheet notes b)
+    row_of_older : (b : Derivation) → b.name < floor n w → row_of sheet (w ∷ notes) b ≡ lowered (hits (lowers sheet) (derivations (w ∷ notes)) b.name w) (row_of sheet notes b)
     unfolding row_of
-    row_of_older_lem b h = rw (ancestry_older b.name h, writable_older b.name h, right_left (writable sheet notes b.name) (hits (lowers sheet) (derivations (w ∷ notes)) b.name w))
+    row_of_older b h = rw (ancestry_older b.name h, writable_older b.name h, right_left (writable sheet notes b.name) (hits (lowers sheet) (derivations (w ∷ notes)) b.name w))
 
     pub named_before : All (λ b. b.name < floor n w) (derivations notes)
     named_before = All_map _ _ (λ b h. h.0) (derivations notes) (ancestry_step (floor n w) (derivations notes) (falling (floor n w) notes s.2))
@@ -159,15 +159,15 @@ module _ (sheet : Sheet) where
     writable_new = rw (same b.name, unmade b.name notes s.2) (and-true _ ∙ or-false _)
 
     -- it stands in its row as given, one deeper than its parent
-    pub row_of_new_lem : row_of sheet (New b r ∷ notes) b ≡ row b (cond (eqb r 2) 2 1) (suc (length (ancestry (derivations notes) b.parent)))
+    pub row_of_new : row_of sheet (New b r ∷ notes) b ≡ row b (cond (eqb r 2) 2 1) (suc (length (ancestry (derivations notes) b.parent)))
     unfolding row_of derivations derived_by
-    row_of_new_lem = rw (writable_new, ancestry_here b (derivations notes) b.name (same b.name))
+    row_of_new = rw (writable_new, ancestry_here b (derivations notes) b.name (same b.name))
 
-  derived_by_live_lem : (n : ℕ) (w : Note) (notes : List Note) → Sound n (w ∷ notes) → filter (alive sheet (w ∷ notes)) (derived_by w) ≡ derived_by w
+  derived_by_live : (n : ℕ) (w : Note) (notes : List Note) → Sound n (w ∷ notes) → filter (alive sheet (w ∷ notes)) (derived_by w) ≡ derived_by w
   unfolding derived_by
-  derived_by_live_lem n (New b r) notes s = rw (lives_new n b r notes s)
-  derived_by_live_lem n (Accessed a u t) notes s = refl
-  derived_by_live_lem n (Dropped u) notes s = refl
+  derived_by_live n (New b r) notes s = rw (lives_new n b r notes s)
+  derived_by_live n (Accessed a u t) notes s = refl
+  derived_by_live n (Dropped u) notes s = refl
 
   -- ---- the rows after the note
 
@@ -183,8 +183,8 @@ module _ (sheet : Sheet) where
   revoked_by B w rows = map (lower B w) (filter (left B w) rows)
 
   -- so by other derivations with the same ancestries
-  pub revoked_by_cong_lem : (B C : List Derivation) (w : Note) (rows : List Cap) → All (λ c. (takes : Takes) → hits takes B c.name.0 w ≡ hits takes C c.name.0 w) rows → revoked_by B w rows ≡ revoked_by C w rows
-  revoked_by_cong_lem B C w rows h =
+  pub revoked_by_cong : (B C : List Derivation) (w : Note) (rows : List Cap) → All (λ c. (takes : Takes) → hits takes B c.name.0 w ≡ hits takes C c.name.0 w) rows → revoked_by B w rows ≡ revoked_by C w rows
+  revoked_by_cong B C w rows h =
       taken_cong (λ x. hits (ends sheet) B x w) (λ x. hits (lowers sheet) B x w) (λ x. hits (ends sheet) C x w) (λ x. hits (lowers sheet) C x w) rows (All_map _ _ (λ c e. (e (ends sheet), e (lowers sheet))) rows h)
 
   -- the row that a note makes, and the others without what it takes from them
@@ -204,7 +204,7 @@ module _ (sheet : Sheet) where
     rows_older =
         ap (map (row_of sheet (w ∷ notes))) alive_older
         ∙ map_cong (row_of sheet (w ∷ notes)) (λ b. lower (derivations (w ∷ notes)) w (row_of sheet notes b)) living
-        (All_sub spared _ (filter (alive sheet notes) (derivations notes)) (All_sub (alive sheet notes) _ (derivations notes) (All_map _ _ (row_of_older_lem n w notes s) (derivations notes) (named_before n w notes s))))
+        (All_sub spared _ (filter (alive sheet notes) (derivations notes)) (All_sub (alive sheet notes) _ (derivations notes) (All_map _ _ (row_of_older n w notes s) (derivations notes) (named_before n w notes s))))
         ∙ sym (map-map (lower (derivations (w ∷ notes)) w) (row_of sheet notes) living)
         ∙ ap (map (lower (derivations (w ∷ notes)) w)) (sym (filter_map (row_of sheet notes) (left (derivations (w ∷ notes)) w) (filter (alive sheet notes) (derivations notes))))
       where
@@ -214,6 +214,6 @@ module _ (sheet : Sheet) where
     pub rows_noted : rows sheet (w ∷ notes) ≡ map (row_of sheet (w ∷ notes)) (derived_by w) ++ revoked_by (derivations (w ∷ notes)) w (rows sheet notes)
     unfolding rows derivations
     rows_noted =
-        ap (map (row_of sheet (w ∷ notes))) (filter_append (alive sheet (w ∷ notes)) (derived_by w) (derivations notes) ∙ ap (λ l. l ++ filter (alive sheet (w ∷ notes)) (derivations notes)) (derived_by_live_lem n w notes s))
+        ap (map (row_of sheet (w ∷ notes))) (filter_append (alive sheet (w ∷ notes)) (derived_by w) (derivations notes) ∙ ap (λ l. l ++ filter (alive sheet (w ∷ notes)) (derivations notes)) (derived_by_live n w notes s))
         ∙ map-append (row_of sheet (w ∷ notes)) (derived_by w) (filter (alive sheet (w ∷ notes)) (derivations notes))
         ∙ ap (λ l. map (row_of sheet (w ∷ notes)) (derived_by w) ++ l) rows_older

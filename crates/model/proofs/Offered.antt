@@ -19,7 +19,7 @@ pub use Rattle.model.proofs.Tried.{tried, tried_answers, crowded_differs, limits
 pub use Rattle.model.proofs.Sheet6.{words, words_access, references_alone, references_access}
 -- ---- laws
 pub use Rattle.model.proofs.Ancestries.{Falling, ancestry_here, ancestry_past, below_differs}
-pub use Rattle.model.proofs.Bits.{has_bit_first_lem, has_bit_next_lem, with_bit_worth_lem}
+pub use Rattle.model.proofs.Bits.{has_bit_first, has_bit_next, with_bit_worth}
 pub use Rattle.model.proofs.Frame.{disordered_keeps, refused_memory, refused_slots, refused_tally}
 pub use Rattle.model.proofs.Judged.{access_fits, allowed, checks_slots, eight_slots, fit_all, fit_not_1, fit_order, fit_sheet, fit_size, fit_slots, is_fit, judge_slots, length_live, slot_kept, slots_size, stored_fit, stores_nothing, no_slot, works_memory}
 pub use Rattle.model.proofs.Lent.{Named, length_lent, live_lent}
@@ -27,10 +27,10 @@ pub use Rattle.model.proofs.Lists.{All, All_append, All_get_d, All_map, All_repl
 pub use Rattle.model.proofs.Lowered.{lower, live_lower}
 pub use Rattle.model.proofs.Match.{Match, at_first, match_after, same_answer as match_answer}
 pub use Rattle.model.proofs.Named.{issued_allowed, same_after, same_answer}
-pub use Rattle.model.proofs.Order.{Brought, Fitting, Ordered, Place, Rises, SizedSlot, access_in_order_lem, access_named, brought, brought_order, brought_sheet, fit_after, fitting, group_step, live_named, live_rows_first_lent_lem, marked_low, next_fits, none_sized, order_after, order_fresh, ordered, parent_in_order_row_fits_parent_lem, place, right_positive, risen, rises, rows_in_order_falling_lem, rows_in_order_wider_lem, sized_after, slots_after_lem, steps}
+pub use Rattle.model.proofs.Order.{Brought, Fitting, Ordered, Place, Rises, SizedSlot, access_in_order, access_named, brought, brought_order, brought_sheet, fit_after, fitting, group_step, live_named, live_rows_first_lent, marked_low, next_fits, none_sized, order_after, order_fresh, ordered, parent_in_order_row_fits_parent, place, right_positive, risen, rises, rows_in_order_falling, rows_in_order_wider, sized_after, slots_after_lem, steps}
 pub use Rattle.model.proofs.Origins.{later_off, nearest_cell_lem, nearest_on, on_line_lem}
 pub use Rattle.model.proofs.Precedence.{first_holds, first_lowest, given_first, given_holds, given_holds_state, rises_from}
-pub use Rattle.model.proofs.Rows.{empty_row_empty_lem, lent_live, lent_new, lookup_each, no_ancestry, struck_step}
+pub use Rattle.model.proofs.Rows.{empty_row_empty, lent_live, lent_new, lookup_each, no_ancestry, struck_step}
 pub use Rattle.model.proofs.Slots.{InSlot, in_stored}
 pub use Rattle.model.proofs.Strikes.{root_has_no_kin}
 pub use Rattle.model.proofs.Together.{group_none, name_passed, name_refused}

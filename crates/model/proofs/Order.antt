@@ -42,27 +42,27 @@ use Rattle.model.proofs.Bits.{length_after}
 
 -- ---- the lent table is arranged
 
-live_rows_first_zeros_lem : (n : ℕ) → live_rows_first (replicate n empty_row) ≡ true
+live_rows_first_zeros : (n : ℕ) → live_rows_first (replicate n empty_row) ≡ true
 unfolding live_rows_first is_empty_row
-live_rows_first_zeros_lem zero = refl
-live_rows_first_zeros_lem (suc n) = all_empty_row_lem n
+live_rows_first_zeros zero = refl
+live_rows_first_zeros (suc n) = all_empty_row n
   where
-    all_empty_row_lem : (n : ℕ) → all is_empty_row (replicate n empty_row) ≡ true
-    all_empty_row_lem zero = refl
-    all_empty_row_lem (suc n) = all_empty_row_lem n
+    all_empty_row : (n : ℕ) → all is_empty_row (replicate n empty_row) ≡ true
+    all_empty_row zero = refl
+    all_empty_row (suc n) = all_empty_row n
 
-live_rows_first_append_lem : (l t : List Cap) → Named l → live_rows_first t ≡ true → live_rows_first (l ++ t) ≡ true
+live_rows_first_append : (l t : List Cap) → Named l → live_rows_first t ≡ true → live_rows_first (l ++ t) ≡ true
 unfolding live_rows_first
-live_rows_first_append_lem [] t h e = e
-live_rows_first_append_lem (c ∷ l) t h e = rw h.0 (live_rows_first_append_lem l t h.1 e)
+live_rows_first_append [] t h e = e
+live_rows_first_append (c ∷ l) t h e = rw h.0 (live_rows_first_append l t h.1 e)
 
-live_rows_first_reverse_lem : (rows t : List Cap) → Named rows → live_rows_first t ≡ true → live_rows_first (reverse rows ++ t) ≡ true
-live_rows_first_reverse_lem [] t h e = e
-live_rows_first_reverse_lem (c ∷ rows) t h e = rw (reverse-cons c rows, append_assoc (reverse rows) (c ∷ []) t) (live_rows_first_reverse_lem rows (c ∷ t) h.1 (live_rows_first_append_lem (c ∷ []) t (h.0, tt) e))
+live_rows_first_reverse : (rows t : List Cap) → Named rows → live_rows_first t ≡ true → live_rows_first (reverse rows ++ t) ≡ true
+live_rows_first_reverse [] t h e = e
+live_rows_first_reverse (c ∷ rows) t h e = rw (reverse-cons c rows, append_assoc (reverse rows) (c ∷ []) t) (live_rows_first_reverse rows (c ∷ t) h.1 (live_rows_first_append (c ∷ []) t (h.0, tt) e))
 
-pub live_rows_first_lent_lem : (n : ℕ) (rows : List Cap) → Named rows → live_rows_first (lent_table n rows) ≡ true
+pub live_rows_first_lent : (n : ℕ) (rows : List Cap) → Named rows → live_rows_first (lent_table n rows) ≡ true
 unfolding lent_table
-live_rows_first_lent_lem n rows h = live_rows_first_reverse_lem rows (replicate (n - length rows) empty_row) h (live_rows_first_zeros_lem (n - length rows))
+live_rows_first_lent n rows h = live_rows_first_reverse rows (replicate (n - length rows) empty_row) h (live_rows_first_zeros (n - length rows))
 
 pub live_named : (t : List Cap) → Named (live_rows t)
 unfolding live_rows
@@ -87,10 +87,10 @@ pub risen : (bound : ℕ) (c : Cap) (earlier : List Cap) → Rises bound c earli
 unfolding rows_in_order
 risen bound c earlier r = rw (lt-ltb c.name.0 bound r.below_bound, r.in_place, r.rest)
 
-pub rows_in_order_wider_lem : (a b : ℕ) (rows : List Cap) → a ≤ b → rows_in_order a rows ≡ true → rows_in_order b rows ≡ true
+pub rows_in_order_wider : (a b : ℕ) (rows : List Cap) → a ≤ b → rows_in_order a rows ≡ true → rows_in_order b rows ≡ true
 unfolding rows_in_order
-rows_in_order_wider_lem a b [] l h = refl
-rows_in_order_wider_lem a b (c ∷ rows) l h =
+rows_in_order_wider a b [] l h = refl
+rows_in_order_wider a b (c ∷ rows) l h =
     let r = rises a c rows h in
     risen b c rows (record { below_bound = omega (arith, r.below_bound); in_place = r.in_place; rest = r.rest })
 
@@ -144,9 +144,9 @@ pub marked_low : (d : Derivation) → terms_in_order d ≡ true → is_marked d 
 marked_low d h m = leb-true (end d.span) 65536 (rw m at (fitting d h).is_low)
 
 -- a row whose parent is not 0
-pub parent_in_order_row_fits_parent_lem : (c : Cap) (earlier : List Cap) → eqb c.parent.0 0 ≡ false → parent_in_order c earlier ≡ true → (any (named c.parent.0) earlier ≡ true) × (row_fits_parent c (lookup c.parent.0 earlier) ≡ true)
+pub parent_in_order_row_fits_parent : (c : Cap) (earlier : List Cap) → eqb c.parent.0 0 ≡ false → parent_in_order c earlier ≡ true → (any (named c.parent.0) earlier ≡ true) × (row_fits_parent c (lookup c.parent.0 earlier) ≡ true)
 unfolding parent_in_order
-parent_in_order_row_fits_parent_lem c earlier f h = and_both (any (named c.parent.0) earlier) (row_fits_parent c (lookup c.parent.0 earlier)) (rw f at h)
+parent_in_order_row_fits_parent c earlier f h = and_both (any (named c.parent.0) earlier) (row_fits_parent c (lookup c.parent.0 earlier)) (rw f at h)
 
 parent_before : (c : Cap) (earlier : List Cap) → named 0 c ≡ false → rows_in_order c.name.0 earlier ≡ true → parent_in_order c earlier ≡ true → c.parent.0 < c.name.0
 parent_before c earlier z h p = go (test (eqb c.parent.0 0))
@@ -157,13 +157,13 @@ parent_before c earlier z h p = go (test (eqb c.parent.0 0))
 
     go : (eqb c.parent.0 0 ≡ true) ⊎ (eqb c.parent.0 0 ≡ false) → c.parent.0 < c.name.0
     go (inl t) = positive c.name.0 (eqb-false 0 c.name.0 z) (eqb-true c.parent.0 0 t)
-    go (inr f) = found_below c.name.0 earlier c.parent.0 h (parent_in_order_row_fits_parent_lem c earlier f p).0
+    go (inr f) = found_below c.name.0 earlier c.parent.0 h (parent_in_order_row_fits_parent c earlier f p).0
 
-pub rows_in_order_falling_lem : (bound : ℕ) (rows : List Cap) → Named rows → rows_in_order bound rows ≡ true → Falling bound (derivations rows)
-rows_in_order_falling_lem bound [] n h = tt
-rows_in_order_falling_lem bound (c ∷ rows) n h =
+pub rows_in_order_falling : (bound : ℕ) (rows : List Cap) → Named rows → rows_in_order bound rows ≡ true → Falling bound (derivations rows)
+rows_in_order_falling bound [] n h = tt
+rows_in_order_falling bound (c ∷ rows) n h =
     let r = rises bound c rows h in
-    (r.below_bound, parent_before c rows n.0 r.rest (place c rows r.in_place).does_hang, rows_in_order_falling_lem c.name.0 rows n.1 r.rest)
+    (r.below_bound, parent_before c rows n.0 r.rest (place c rows r.in_place).does_hang, rows_in_order_falling c.name.0 rows n.1 r.rest)
 
 -- ---- what takes an ancestor takes its descendants
 
@@ -172,7 +172,7 @@ Spreads hit rows = All (λ c. hit c.parent.0 ≡ true → hit c.name.0 ≡ true)
 
 module _ (bound : ℕ) (rows : List Cap) (n : Named rows) (h : rows_in_order bound rows ≡ true) where
   pub steps : All (λ c. ancestry (derivations rows) c.name.0 ≡ derivation c ∷ ancestry (derivations rows) c.parent.0) rows
-  steps = All_unmap derivation (λ b. ancestry (derivations rows) b.name ≡ b ∷ ancestry (derivations rows) b.parent) rows (All_map _ _ (λ b s. s.2) (derivations rows) (ancestry_step bound (derivations rows) (rows_in_order_falling_lem bound rows n h)))
+  steps = All_unmap derivation (λ b. ancestry (derivations rows) b.name ≡ b ∷ ancestry (derivations rows) b.parent) rows (All_map _ _ (λ b s. s.2) (derivations rows) (ancestry_step bound (derivations rows) (rows_in_order_falling bound rows n h)))
 
   pub struck_spreads : (sheet : Sheet) (is : Effect → Bool) (a : Access) (u : ℕ) (s : Span) → Spreads (struck sheet is a (derivations rows) u s) rows
   unfolding struck reached on_ancestry
@@ -189,18 +189,18 @@ module _ (bound : ℕ) (rows : List Cap) (n : Named rows) (h : rows_in_order bou
 -- ---- rows kept with all above them
 
 module _ (k : ℕ → Bool) where
-  row_in_order_kept_lem : (c : Cap) (earlier : List Cap) → eqb c.parent.0 0 || k c.parent.0 ≡ true → row_in_order c (filter (λ c. k c.name.0) earlier) ≡ row_in_order c earlier
+  row_in_order_kept : (c : Cap) (earlier : List Cap) → eqb c.parent.0 0 || k c.parent.0 ≡ true → row_in_order c (filter (λ c. k c.name.0) earlier) ≡ row_in_order c earlier
   unfolding row_in_order parent_in_order
-  row_in_order_kept_lem c earlier h = go (test (eqb c.parent.0 0))
+  row_in_order_kept c earlier h = go (test (eqb c.parent.0 0))
     where
       go : (eqb c.parent.0 0 ≡ true) ⊎ (eqb c.parent.0 0 ≡ false) → row_in_order c (filter (λ c. k c.name.0) earlier) ≡ row_in_order c earlier
       go (inl t) = rw t
       go (inr f) = let p : k c.parent.0 ≡ true = rw f at h in rw (any_kept (λ c. c.name.0) k c.parent.0 p earlier, lookup_kept k c.parent.0 p earlier)
 
-  pub rows_in_order_kept_lem : (bound : ℕ) (rows : List Cap) → All (λ c. k c.name.0 ≡ true → eqb c.parent.0 0 || k c.parent.0 ≡ true) rows → rows_in_order bound rows ≡ true → rows_in_order bound (filter (λ c. k c.name.0) rows) ≡ true
+  pub rows_in_order_kept : (bound : ℕ) (rows : List Cap) → All (λ c. k c.name.0 ≡ true → eqb c.parent.0 0 || k c.parent.0 ≡ true) rows → rows_in_order bound rows ≡ true → rows_in_order bound (filter (λ c. k c.name.0) rows) ≡ true
   unfolding rows_in_order
-  rows_in_order_kept_lem bound [] a h = refl
-  rows_in_order_kept_lem bound (c ∷ rows) a h = go (test (k c.name.0)) (rows_in_order_kept_lem c.name.0 rows a.1 (rises bound c rows h).rest)
+  rows_in_order_kept bound [] a h = refl
+  rows_in_order_kept bound (c ∷ rows) a h = go (test (k c.name.0)) (rows_in_order_kept c.name.0 rows a.1 (rises bound c rows h).rest)
     where
       kept : List Cap
       kept = filter (λ c. k c.name.0) rows
@@ -208,8 +208,8 @@ module _ (k : ℕ → Bool) where
       go : (k c.name.0 ≡ true) ⊎ (k c.name.0 ≡ false) → rows_in_order c.name.0 kept ≡ true → rows_in_order bound (cons_if (k c.name.0) c kept) ≡ true
       go (inl t) ih =
           let r = rises bound c rows h in
-          rw t (risen bound c kept (record { below_bound = r.below_bound; in_place = row_in_order_kept_lem c rows (a.0 t) ∙ r.in_place; rest = ih }))
-      go (inr f) ih = rw f (rows_in_order_wider_lem c.name.0 bound kept (omega (arith, (rises bound c rows h).below_bound)) ih)
+          rw t (risen bound c kept (record { below_bound = r.below_bound; in_place = row_in_order_kept c rows (a.0 t) ∙ r.in_place; rest = ih }))
+      go (inr f) ih = rw f (rows_in_order_wider c.name.0 bound kept (omega (arith, (rises bound c rows h).below_bound)) ih)
 
 -- rows taken away with all below them
 module _ (hit : ℕ → Bool) where
@@ -222,8 +222,8 @@ module _ (hit : ℕ → Bool) where
   pub spreads_kept : (rows : List Cap) → Spreads hit rows → All (λ c. not (hit c.name.0) ≡ true → eqb c.parent.0 0 || not (hit c.parent.0) ≡ true) rows
   spreads_kept rows s = All_map _ _ (λ c up t. rw (unless (hit c.parent.0) (λ e. clash (up e) (not-true (hit c.name.0) t))) (or-true (eqb c.parent.0 0))) rows s
 
-  rows_in_order_left_lem : (bound : ℕ) (rows : List Cap) → Spreads hit rows → rows_in_order bound rows ≡ true → rows_in_order bound (filter left rows) ≡ true
-  rows_in_order_left_lem bound rows s = rows_in_order_kept_lem (λ x. not (hit x)) bound rows (spreads_kept rows s)
+  rows_in_order_left : (bound : ℕ) (rows : List Cap) → Spreads hit rows → rows_in_order bound rows ≡ true → rows_in_order bound (filter left rows) ≡ true
+  rows_in_order_left bound rows s = rows_in_order_kept (λ x. not (hit x)) bound rows (spreads_kept rows s)
 
 -- ---- rows lowered with all below them
 
@@ -255,54 +255,54 @@ module _ (hit : ℕ → Bool) where
       go (inl t) ih = rw t
       go (inr f) ih = rw f (ih (rw f at h))
 
-  row_fits_parent_lower_lem : (c p : Cap) → (hit p.name.0 ≡ true → hit c.name.0 ≡ true) → is_right c.right ≡ true → row_fits_parent c p ≡ true → row_fits_parent (lower c) (lower p) ≡ true
+  row_fits_parent_lower : (c p : Cap) → (hit p.name.0 ≡ true → hit c.name.0 ≡ true) → is_right c.right ≡ true → row_fits_parent c p ≡ true → row_fits_parent (lower c) (lower p) ≡ true
   unfolding row_fits_parent
-  row_fits_parent_lower_lem c p up r h =
+  row_fits_parent_lower c p up r h =
       let o = and_both (inside (span c) (span p) && leb c.right p.right && eqb c.depth (p.depth + 1) && leb c.depth 64) (eqb c.fresh p.fresh) h in
       let q = and_both (inside (span c) (span p) && leb c.right p.right && eqb c.depth (p.depth + 1)) (leb c.depth 64) o.0 in
       let s = and_both (inside (span c) (span p) && leb c.right p.right) (eqb c.depth (p.depth + 1)) q.0 in
       let t = and_both (inside (span c) (span p)) (leb c.right p.right) s.0 in
       rw (t.0, rights_lowered (hit c.name.0) (hit p.name.0) c.right p.right up (right_positive c.right r) t.1, s.1, q.1, o.1)
 
-  parent_in_order_lower_lem : (c : Cap) (earlier : List Cap) → (hit c.parent.0 ≡ true → hit c.name.0 ≡ true) → is_right c.right ≡ true → parent_in_order c earlier ≡ true → parent_in_order (lower c) (map lower earlier) ≡ true
+  parent_in_order_lower : (c : Cap) (earlier : List Cap) → (hit c.parent.0 ≡ true → hit c.name.0 ≡ true) → is_right c.right ≡ true → parent_in_order c earlier ≡ true → parent_in_order (lower c) (map lower earlier) ≡ true
   unfolding parent_in_order
-  parent_in_order_lower_lem c earlier up r h = go (test (eqb c.parent.0 0))
+  parent_in_order_lower c earlier up r h = go (test (eqb c.parent.0 0))
     where
       go : (eqb c.parent.0 0 ≡ true) ⊎ (eqb c.parent.0 0 ≡ false) → parent_in_order (lower c) (map lower earlier) ≡ true
       go (inl t) = rw t (rw t at h)
       go (inr f) =
-          let q = parent_in_order_row_fits_parent_lem c earlier f h in
+          let q = parent_in_order_row_fits_parent c earlier f h in
           rw (f, any_map lower (named c.parent.0) earlier, lookup_lower c.parent.0 earlier q.0, q.0)
-          (row_fits_parent_lower_lem c (lookup c.parent.0 earlier) (λ e. up (ap hit (sym (lookup_named c.parent.0 earlier q.0)) ∙ e)) r q.1)
+          (row_fits_parent_lower c (lookup c.parent.0 earlier) (λ e. up (ap hit (sym (lookup_named c.parent.0 earlier q.0)) ∙ e)) r q.1)
 
-  row_in_order_lower_lem : (c : Cap) (earlier : List Cap) → (hit c.parent.0 ≡ true → hit c.name.0 ≡ true) → row_in_order c earlier ≡ true → row_in_order (lower c) (map lower earlier) ≡ true
+  row_in_order_lower : (c : Cap) (earlier : List Cap) → (hit c.parent.0 ≡ true → hit c.name.0 ≡ true) → row_in_order c earlier ≡ true → row_in_order (lower c) (map lower earlier) ≡ true
   unfolding row_in_order
-  row_in_order_lower_lem c earlier up h =
+  row_in_order_lower c earlier up h =
       let p = place c earlier h in
-      rw (p.is_legal, right_lowered (hit c.name.0) c.right p.has_right, p.has_kind, p.has_terms) (parent_in_order_lower_lem c earlier up p.has_right p.does_hang)
+      rw (p.is_legal, right_lowered (hit c.name.0) c.right p.has_right, p.has_kind, p.has_terms) (parent_in_order_lower c earlier up p.has_right p.does_hang)
 
-  rows_in_order_lower_lem : (bound : ℕ) (rows : List Cap) → Spreads hit rows → rows_in_order bound rows ≡ true → rows_in_order bound (map lower rows) ≡ true
+  rows_in_order_lower : (bound : ℕ) (rows : List Cap) → Spreads hit rows → rows_in_order bound rows ≡ true → rows_in_order bound (map lower rows) ≡ true
   unfolding rows_in_order
-  rows_in_order_lower_lem bound [] s h = refl
-  rows_in_order_lower_lem bound (c ∷ rows) s h =
+  rows_in_order_lower bound [] s h = refl
+  rows_in_order_lower bound (c ∷ rows) s h =
       let r = rises bound c rows h in
-      risen bound (lower c) (map lower rows) (record { below_bound = r.below_bound; in_place = row_in_order_lower_lem c rows s.0 r.in_place; rest = rows_in_order_lower_lem c.name.0 rows s.1 r.rest })
+      risen bound (lower c) (map lower rows) (record { below_bound = r.below_bound; in_place = row_in_order_lower c rows s.0 r.in_place; rest = rows_in_order_lower c.name.0 rows s.1 r.rest })
 
 -- ---- rows taken away, and rows lowered
 
-revoke_rows_in_order_lem : (ends lowers : ℕ → Bool) (bound : ℕ) (rows : List Cap) → Spreads ends rows → Spreads lowers rows → rows_in_order bound rows ≡ true → rows_in_order bound (revoke ends lowers rows) ≡ true
+revoke_rows_in_order : (ends lowers : ℕ → Bool) (bound : ℕ) (rows : List Cap) → Spreads ends rows → Spreads lowers rows → rows_in_order bound rows ≡ true → rows_in_order bound (revoke ends lowers rows) ≡ true
 unfolding revoke
-revoke_rows_in_order_lem ends lowers bound rows e l h = rows_in_order_lower_lem lowers bound (filter (left ends) rows) (All_sub (left ends) _ rows l) (rows_in_order_left_lem ends bound rows e h)
+revoke_rows_in_order ends lowers bound rows e l h = rows_in_order_lower lowers bound (filter (left ends) rows) (All_sub (left ends) _ rows l) (rows_in_order_left ends bound rows e h)
 
 revoke_named : (ends lowers : ℕ → Bool) (rows : List Cap) → Named rows → Named (revoke ends lowers rows)
 unfolding revoke
 revoke_named ends lowers rows h = All_mapped (lower lowers) (λ c. named 0 c ≡ false) (filter (left ends) rows) (All_sub (left ends) (λ c. named 0 c ≡ false) rows h)
 
 -- the rows that an access leaves rise as they did
-pub access_rows_in_order_lem : (sheet : Sheet) (bound : ℕ) (rows : List Cap) → Named rows → rows_in_order bound rows ≡ true → (a : Access) (u : ℕ) (s : Span) → rows_in_order bound (after_access sheet a u s rows) ≡ true
+pub access_rows_in_order : (sheet : Sheet) (bound : ℕ) (rows : List Cap) → Named rows → rows_in_order bound rows ≡ true → (a : Access) (u : ℕ) (s : Span) → rows_in_order bound (after_access sheet a u s rows) ≡ true
 unfolding after_access
-access_rows_in_order_lem sheet bound rows n h a u s =
-    revoke_rows_in_order_lem (struck sheet is_end a (derivations rows) u s) (struck sheet is_lower a (derivations rows) u s) bound rows (struck_spreads bound rows n h sheet is_end a u s) (struck_spreads bound rows n h sheet is_lower a u s) h
+access_rows_in_order sheet bound rows n h a u s =
+    revoke_rows_in_order (struck sheet is_end a (derivations rows) u s) (struck sheet is_lower a (derivations rows) u s) bound rows (struck_spreads bound rows n h sheet is_end a u s) (struck_spreads bound rows n h sheet is_lower a u s) h
 
 pub access_named : (sheet : Sheet) (rows : List Cap) → Named rows → (a : Access) (u : ℕ) (s : Span) → Named (after_access sheet a u s rows)
 unfolding after_access
@@ -353,9 +353,9 @@ module _ (sheet : Sheet) (v : View) (o : Ordered v.table v.issued) where
   names_enough (Mark by k) h = o.names_left
   names_enough (Back by k) h = o.names_left
 
-  row_in_order_root_lem : (by : Caller) (w : NewName) (s : Span) (r : Terms) → judge v (Single by (Create w s r)) ≡ 0 → (earlier : List Cap) → row_in_order (row (root by i s r) r.right 1) earlier ≡ true
+  row_in_order_root : (by : Caller) (w : NewName) (s : Span) (r : Terms) → judge v (Single by (Create w s r)) ≡ 0 → (earlier : List Cap) → row_in_order (row (root by i s r) r.right 1) earlier ≡ true
   unfolding row_in_order parent_in_order terms_in_order refusals
-  row_in_order_root_lem by w s r h earlier =
+  row_in_order_root by w s r h earlier =
       let p = allowed v (Single by (Create w s r)) h in
       let made = root_given v by w s r h in
       let placed = or_neither (not (legal s)) (eqb r.fresh 1 && ltb 65536 (end s)) (p 3) in
@@ -365,9 +365,9 @@ module _ (sheet : Sheet) (v : View) (o : Ordered v.table v.issued) where
       low true x h = le-leb x 65536 (ltb-false 65536 x h)
       low false x h = refl
 
-  row_in_order_child_lem : (by : Caller) (w : NewName) (u : Name) (s : Span) (r : Terms) → judge v (Single by (Borrow w u s r)) ≡ 0 → row_in_order (row (child by i u (lookup u.0 (live_rows t)).fresh s r) r.right (suc (lookup u.0 (live_rows t)).depth)) (live_rows t) ≡ true
+  row_in_order_child : (by : Caller) (w : NewName) (u : Name) (s : Span) (r : Terms) → judge v (Single by (Borrow w u s r)) ≡ 0 → row_in_order (row (child by i u (lookup u.0 (live_rows t)).fresh s r) r.right (suc (lookup u.0 (live_rows t)).depth)) (live_rows t) ≡ true
   unfolding row_in_order parent_in_order row_fits_parent terms_in_order refusals
-  row_in_order_child_lem by w u s r h =
+  row_in_order_child by w u s r h =
       let p = allowed v (Single by (Borrow w u s r)) h in
       let c : Cap = lookup u.0 (live_rows t) in
       let made = child_given v by w s r u h in
@@ -394,26 +394,26 @@ module _ (sheet : Sheet) (v : View) (o : Ordered v.table v.issued) where
       lower_end true x y l h = le-leb x 65536 (omega (arith, leb-true y 65536 h))
       lower_end false x y l h = refl
 
-  used_rows_in_order_lem : (a : Access) (u : ℕ) (s : Span) → rows_in_order (suc i) (after_access sheet a u s (live_rows t)) ≡ true
-  used_rows_in_order_lem = access_rows_in_order_lem sheet (suc i) (live_rows t) (live_named t) o.rise
+  used_rows_in_order : (a : Access) (u : ℕ) (s : Span) → rows_in_order (suc i) (after_access sheet a u s (live_rows t)) ≡ true
+  used_rows_in_order = access_rows_in_order sheet (suc i) (live_rows t) (live_named t) o.rise
 
-  without_rows_in_order_lem : (names : List ℕ) → rows_in_order (suc i) (rows_without names (live_rows t)) ≡ true
+  without_rows_in_order : (names : List ℕ) → rows_in_order (suc i) (rows_without names (live_rows t)) ≡ true
   unfolding rows_without
-  without_rows_in_order_lem names = revoke_rows_in_order_lem _ _ (suc i) (live_rows t) (dropped_spreads (suc i) (live_rows t) (live_named t) o.rise names) (All_of _ (λ c e. e) (live_rows t)) o.rise
+  without_rows_in_order names = revoke_rows_in_order _ _ (suc i) (live_rows t) (dropped_spreads (suc i) (live_rows t) (live_named t) o.rise names) (All_of _ (λ c e. e) (live_rows t)) o.rise
 
-  pub next_rows_in_order_lem : (q : Request) → judge v q ≡ 0 → rows_in_order (suc (issued_after i q)) (rows_after sheet i (live_rows t) q) ≡ true
+  pub next_rows_in_order : (q : Request) → judge v q ≡ 0 → rows_in_order (suc (issued_after i q)) (rows_after sheet i (live_rows t) q) ≡ true
   unfolding rows_after refusals
-  next_rows_in_order_lem (Single by (Create w s r)) h =
+  next_rows_in_order (Single by (Create w s r)) h =
       let left : List Cap = after_access sheet Writing (suc i) s (live_rows t) in
-      risen (suc (suc i)) (row (root by i s r) r.right 1) left (record { below_bound = omega arith; in_place = row_in_order_root_lem by w s r h left; rest = used_rows_in_order_lem Writing (suc i) s })
-  next_rows_in_order_lem (Single by (Borrow w u s r)) h =
-      risen (suc (suc i)) (row (child by i u (lookup u.0 (live_rows t)).fresh s r) r.right (suc (lookup u.0 (live_rows t)).depth)) (live_rows t) (record { below_bound = omega arith; in_place = row_in_order_child_lem by w u s r h; rest = o.rise })
-  next_rows_in_order_lem (Single by (Read u s)) h = used_rows_in_order_lem Reading u.0 s
-  next_rows_in_order_lem (Single by (Write u s)) h = used_rows_in_order_lem Writing u.0 s
-  next_rows_in_order_lem (Single by (Drop u)) h = without_rows_in_order_lem (u.0 ∷ [])
-  next_rows_in_order_lem (Group by names) h = without_rows_in_order_lem names
-  next_rows_in_order_lem (Mark by k) h = o.rise
-  next_rows_in_order_lem (Back by k) h = o.rise
+      risen (suc (suc i)) (row (root by i s r) r.right 1) left (record { below_bound = omega arith; in_place = row_in_order_root by w s r h left; rest = used_rows_in_order Writing (suc i) s })
+  next_rows_in_order (Single by (Borrow w u s r)) h =
+      risen (suc (suc i)) (row (child by i u (lookup u.0 (live_rows t)).fresh s r) r.right (suc (lookup u.0 (live_rows t)).depth)) (live_rows t) (record { below_bound = omega arith; in_place = row_in_order_child by w u s r h; rest = o.rise })
+  next_rows_in_order (Single by (Read u s)) h = used_rows_in_order Reading u.0 s
+  next_rows_in_order (Single by (Write u s)) h = used_rows_in_order Writing u.0 s
+  next_rows_in_order (Single by (Drop u)) h = without_rows_in_order (u.0 ∷ [])
+  next_rows_in_order (Group by names) h = without_rows_in_order names
+  next_rows_in_order (Mark by k) h = o.rise
+  next_rows_in_order (Back by k) h = o.rise
 
   -- a new row over what is left of the rows fits: by an empty row, or by the limits' sum
   new_fits : (limits : Limits) (c : Cap) (left : List Cap) → refused_sheet t limits ≡ false → no_row limits (live_rows t) (length t) ≡ false → limit_reached limits (live_rows t) c.maker ≡ false
@@ -437,11 +437,11 @@ module _ (sheet : Sheet) (v : View) (o : Ordered v.table v.issued) where
   unfolding rows_after after_access rows_without refusals
   next_fits (Single by (Create w s r)) h =
       new_fits by.limits (row (root by i s r) r.right 1) (after_access sheet Writing (suc i) s (live_rows t)) (sheet_allowed v (Single by (Create w s r)) h) (allowed v (Single by (Create w s r)) h 10) (allowed v (Single by (Create w s r)) h 18)
-      (λ d. made_revoke d _ _ (live_rows t)) (access_fits sheet Writing (suc i) s (live_rows t)) (terms_given (suc (suc i)) (row (root by i s r) r.right 1 ∷ after_access sheet Writing (suc i) s (live_rows t)) (next_rows_in_order_lem (Single by (Create w s r)) h))
+      (λ d. made_revoke d _ _ (live_rows t)) (access_fits sheet Writing (suc i) s (live_rows t)) (terms_given (suc (suc i)) (row (root by i s r) r.right 1 ∷ after_access sheet Writing (suc i) s (live_rows t)) (next_rows_in_order (Single by (Create w s r)) h))
   next_fits (Single by (Borrow w u s r)) h =
       let c : Cap = row (child by i u (lookup u.0 (live_rows t)).fresh s r) r.right (suc (lookup u.0 (live_rows t)).depth) in
       new_fits by.limits c (live_rows t) (sheet_allowed v (Single by (Borrow w u s r)) h) (allowed v (Single by (Borrow w u s r)) h 10) (allowed v (Single by (Borrow w u s r)) h 18)
-      (λ d. omega arith) (omega arith) (terms_given (suc (suc i)) (c ∷ live_rows t) (next_rows_in_order_lem (Single by (Borrow w u s r)) h))
+      (λ d. omega arith) (omega arith) (terms_given (suc (suc i)) (c ∷ live_rows t) (next_rows_in_order (Single by (Borrow w u s r)) h))
   next_fits (Single by (Read u s)) h = revoke_fits _ _ (live_rows t) (length t) (length_live t)
   next_fits (Single by (Write u s)) h = revoke_fits _ _ (live_rows t) (length t) (length_live t)
   next_fits (Single by (Drop u)) h = revoke_fits _ _ (live_rows t) (length t) (length_live t)
@@ -481,17 +481,17 @@ module _ (sheet : Sheet) (v : View) (o : Ordered v.table v.issued) where
           rw (p.0, length_lent (length t) (rows_after sheet i (live_rows t) q) (next_fits q z), x.0, live_lent (length t) (rows_after sheet i (live_rows t) q) (next_named q)) (exceeds_next limits q l z x.1)
 
   -- a table as long as this one with rows that fit and rise
-  lent_in_order_lem : (rows : List Cap) (j : ℕ) → length rows ≤ length t → Named rows → leb j 1000000 ≡ true → rows_in_order (suc j) rows ≡ true → in_order (lent_table (length t) rows) j ≡ true
+  lent_in_order : (rows : List Cap) (j : ℕ) → length rows ≤ length t → Named rows → leb j 1000000 ≡ true → rows_in_order (suc j) rows ≡ true → in_order (lent_table (length t) rows) j ≡ true
   unfolding in_order
-  lent_in_order_lem rows j l n b h = rw (length_lent (length t) rows l, o.few, live_rows_first_lent_lem (length t) rows n, b, live_lent (length t) rows n) h
+  lent_in_order rows j l n b h = rw (length_lent (length t) rows l, o.few, live_rows_first_lent (length t) rows n, b, live_lent (length t) rows n) h
 
   pub order_next : (q : Request) → judge v q ≡ 0 → in_order (lent_table (length t) (rows_after sheet i (live_rows t) q)) (issued_after i q) ≡ true
-  order_next q h = lent_in_order_lem (rows_after sheet i (live_rows t) q) (issued_after i q) (next_fits q h) (next_named q) (names_enough q h) (next_rows_in_order_lem q h)
+  order_next q h = lent_in_order (rows_after sheet i (live_rows t) q) (issued_after i q) (next_fits q h) (next_named q) (names_enough q h) (next_rows_in_order q h)
 
   -- an access through any name leaves a table in order; so does the half of a create that takes rows away
-  pub access_in_order_lem : (a : Access) (u : ℕ) (s : Span) → in_order (lent_table (length t) (after_access sheet a u s (live_rows t))) i ≡ true
-  access_in_order_lem a u s =
-      lent_in_order_lem (after_access sheet a u s (live_rows t)) i (omega (arith, access_fits sheet a u s (live_rows t), length_live t)) (access_named sheet (live_rows t) (live_named t) a u s) o.names_left (used_rows_in_order_lem a u s)
+  pub access_in_order : (a : Access) (u : ℕ) (s : Span) → in_order (lent_table (length t) (after_access sheet a u s (live_rows t))) i ≡ true
+  access_in_order a u s =
+      lent_in_order (after_access sheet a u s (live_rows t)) i (omega (arith, access_fits sheet a u s (live_rows t), length_live t)) (access_named sheet (live_rows t) (live_named t) a u s) o.names_left (used_rows_in_order a u s)
 
 -- what a back brings, where it is allowed: a table that is fit with the sheet of limits lent with it, and has as many rows as the present one
 pub record Brought (limits : Limits) (present table : List Cap) (issued : ℕ) : Type 0 where
@@ -611,4 +611,4 @@ order_final sheet (q ∷ qs) h o = order_final sheet qs (Step.after sheet h q) (
 -- Zero rows are in order, up to 1,024 of them.
 pub order_fresh : (n : ℕ) (t : Tally) → n ≤ 1024 → t.issued ≡ 0 → in_order (Step.initial n t).memory.table t.issued ≡ true
 unfolding in_order live_rows rows_in_order
-order_fresh n t l z = rw (z, length-replicate n empty_row, le-leb n 1024 l, live_rows_first_zeros_lem n, filter_none (λ c. not (named 0 c)) empty_row refl n)
+order_fresh n t l z = rw (z, length-replicate n empty_row, le-leb n 1024 l, live_rows_first_zeros n, filter_none (λ c. not (named 0 c)) empty_row refl n)

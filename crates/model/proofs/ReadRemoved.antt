@@ -42,7 +42,7 @@ use Rattle.model.proofs.Ancestries.{Falling, ancestry_zero, ancestry_above, ance
 use Rattle.model.proofs.Notes.{taken_cong}
 use Rattle.model.proofs.Judged.{in_order_lem, counted_issued, works_memory, stores_nothing}
 use Rattle.model.proofs.Match.{count_raised}
-use Rattle.model.proofs.Order.{rows_in_order_falling_lem, live_named, ordered, order_after}
+use Rattle.model.proofs.Order.{rows_in_order_falling, live_named, ordered, order_after}
 use Rattle.model.proofs.Lowered.{lower, allowed_lower, after_lower, rights_table, lowered_right}
 use Rattle.model.proofs.Rows.{table_changed}
 use Rattle.model.proofs.Demand3.{demand3}
@@ -159,7 +159,7 @@ module _ (sheet : Sheet) (h : State) (u : Name) (s : Span) where
     orderly = in_order_lem (view h) (Single by (Read u s)) z
 
     falls : Falling (suc h.tally.issued) (derivations (live_rows h.memory.table))
-    falls = rows_in_order_falling_lem (suc h.tally.issued) (live_rows h.memory.table) (live_named h.memory.table) (ordered h.memory.table h.tally.issued orderly).rise
+    falls = rows_in_order_falling (suc h.tally.issued) (live_rows h.memory.table) (live_named h.memory.table) (ordered h.memory.table h.tally.issued orderly).rise
 
     read_lowers : (rows : List Cap) → rows ≡ live_rows h.memory.table → after_access sheet Reading u.0 s rows ≡ map (lower (read_strikes sheet h u s)) rows
     unfolding after_access revoke struck

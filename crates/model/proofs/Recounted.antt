@@ -162,13 +162,13 @@ Given given = All (λ b. (is_given given b.name ≡ true) × Known given b.paren
 -- ---- what an access takes
 
 module _ (given : List ℕ) (z : is_given given 0 ≡ false) where
-  pub in_subtree_recounted_lem : (u : ℕ) (B : List Derivation) → Known given u → Given given B → in_subtree (ordinal given u) (map (recounted_derivation given) B) ≡ in_subtree u B
-  in_subtree_recounted_lem u [] h a = refl
-  in_subtree_recounted_lem u (b ∷ B) h a = ap₂ ◌||◌ (known_same given z u b.name h a.0.0) (in_subtree_recounted_lem u B h a.1)
+  pub in_subtree_recounted : (u : ℕ) (B : List Derivation) → Known given u → Given given B → in_subtree (ordinal given u) (map (recounted_derivation given) B) ≡ in_subtree u B
+  in_subtree_recounted u [] h a = refl
+  in_subtree_recounted u (b ∷ B) h a = ap₂ ◌||◌ (known_same given z u b.name h a.0.0) (in_subtree_recounted u B h a.1)
 
   cell_recounted : (user holder : List Derivation) → Given given user → Given given holder → in_other_cell (map (recounted_derivation given) user) (map (recounted_derivation given) holder) ≡ in_other_cell user holder
   cell_recounted [] holder u h = refl
-  cell_recounted (d ∷ user) holder u h = ap₂ ◌||◌ (ap (λ (t : Bool). is_cell d && not t) (in_subtree_recounted_lem d.name holder (given_known given z d.name u.0.0) h)) (cell_recounted user holder u.1 h)
+  cell_recounted (d ∷ user) holder u h = ap₂ ◌||◌ (ap (λ (t : Bool). is_cell d && not t) (in_subtree_recounted d.name holder (given_known given z d.name u.0.0) h)) (cell_recounted user holder u.1 h)
 
   -- The law of a strike, by every sheet, that it goes by names alone as they tell apart.
   strike_recounted : (sheet : Sheet) (a : Access) (s : Span) (user holder : List Derivation) → Given given user → Given given holder
@@ -176,7 +176,7 @@ module _ (given : List ℕ) (z : is_given given 0 ≡ false) where
   unfolding strike origin
   strike_recounted sheet a s user [] u h = refl
   strike_recounted sheet a s user (b ∷ above) u h =
-      rw (in_subtree_recounted_lem b.name user (given_known given z b.name h.0.0) u, cell_recounted user (b ∷ above) u h, in_subtree_recounted_lem b.parent user h.0.1 u)
+      rw (in_subtree_recounted b.name user (given_known given z b.name h.0.0) u, cell_recounted user (b ∷ above) u h, in_subtree_recounted b.parent user h.0.1 u)
 
   pub reached_recounted : (sheet : Sheet) (is : Effect → Bool) (a : Access) (s : Span) (user x : List Derivation) → Given given user → Given given x
       → reached sheet is a s (map (recounted_derivation given) user) (map (recounted_derivation given) x) ≡ reached sheet is a s user x

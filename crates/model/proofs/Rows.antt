@@ -24,7 +24,7 @@ use Rattle.model.specs.Table.{empty_row, lookup, derivation, derivations, named,
 use Rattle.model.proofs.Lists.{All, All_map, All_reverse, test, and_both, filter_none, filter_reverse, map_reverse}
 use Rattle.model.proofs.Ancestries.{same, below_differs, ancestry_zero, ancestry_above}
 use Rattle.model.proofs.Lent.{Named}
-use Rattle.model.proofs.Order.{rises, steps, rows_in_order_falling_lem}
+use Rattle.model.proofs.Order.{rises, steps, rows_in_order_falling}
 
 -- ---- the lent table
 
@@ -52,9 +52,9 @@ lent_changed f e n rows =
     zeros zero = refl
     zeros (suc n) = ap₂ {C = List Cap} (λ x xs. x ∷ xs) e (zeros n)
 
-pub empty_row_empty_lem : (c : Cap) → is_empty_row c ≡ true → c ≡ empty_row
+pub empty_row_empty : (c : Cap) → is_empty_row c ≡ true → c ≡ empty_row
 unfolding is_empty_row
-empty_row_empty_lem c h =
+empty_row_empty c h =
     let l = and_both (eqb c.name.0 0 && eqb c.parent.0 0 && eqb c.start.0 0 && eqb c.length 0 && eqb c.right 0 && eqb c.depth 0 && eqb c.kind 0 && eqb c.fresh 0 && eqb c.maker 0) (eqb c.holders 0) h in
     let m = and_both (eqb c.name.0 0 && eqb c.parent.0 0 && eqb c.start.0 0 && eqb c.length 0 && eqb c.right 0 && eqb c.depth 0 && eqb c.kind 0 && eqb c.fresh 0) (eqb c.maker 0) l.0 in
     let n = and_both (eqb c.name.0 0 && eqb c.parent.0 0 && eqb c.start.0 0 && eqb c.length 0 && eqb c.right 0 && eqb c.depth 0 && eqb c.kind 0) (eqb c.fresh 0) m.0 in
@@ -79,7 +79,7 @@ empty_row_empty_lem c h =
 
 blanks : (t : List Cap) → all is_empty_row t ≡ true → replicate (length t) empty_row ≡ t
 blanks [] h = refl
-blanks (c ∷ t) h = let p = and_both (is_empty_row c) (all is_empty_row t) h in ap₂ {C = List Cap} (λ x xs. x ∷ xs) (sym (empty_row_empty_lem c p.0)) (blanks t p.1)
+blanks (c ∷ t) h = let p = and_both (is_empty_row c) (all is_empty_row t) h in ap₂ {C = List Cap} (λ x xs. x ∷ xs) (sym (empty_row_empty c p.0)) (blanks t p.1)
 
 -- an arranged table is its live rows, and zeros
 front : (t : List Cap) → live_rows_first t ≡ true → filter (λ c. not (named 0 c)) t ++ replicate (length t - length (filter (λ c. not (named 0 c)) t)) empty_row ≡ t
@@ -155,8 +155,8 @@ module _ (bound : ℕ) (rows : List Cap) (n : Named rows) (h : rows_in_order bou
 
   -- no parent is struck, and in no subtree
   pub no_ancestry : ancestry (derivations rows) 0 ≡ []
-  no_ancestry = ancestry_zero bound (derivations rows) (rows_in_order_falling_lem bound rows n h)
+  no_ancestry = ancestry_zero bound (derivations rows) (rows_in_order_falling bound rows n h)
 
   -- a name that is not given out is in no subtree
   pub no_ancestry_above : (x : ℕ) → bound ≤ x → ancestry (derivations rows) x ≡ []
-  no_ancestry_above x = ancestry_above bound x (derivations rows) (rows_in_order_falling_lem bound rows n h)
+  no_ancestry_above x = ancestry_above bound x (derivations rows) (rows_in_order_falling bound rows n h)

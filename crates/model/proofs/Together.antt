@@ -28,7 +28,7 @@ use Rattle.model.proofs.Lists.{test, All, All_map, All_of, All_sub, and_both, or
 use Rattle.model.proofs.Ancestries.{Closed, ancestry_kept, ancestry_upto}
 use Rattle.model.proofs.Lent.{Named, live_lent, length_lent}
 use Rattle.model.proofs.Judged.{allowed, Stands, Rising, group_rises, group_held, length_live, in_order_lem, sized, Held, sheet_allowed, eight_slots}
-use Rattle.model.proofs.Order.{lookup_left, group_step, rows_in_order_falling_lem, live_named, ordered, order_final}
+use Rattle.model.proofs.Order.{lookup_left, group_step, rows_in_order_falling, live_named, ordered, order_final}
 use Rattle.model.proofs.Rows.{lent_live}
 use Rattle.model.proofs.Match.{Match, same_judge, run}
 
@@ -143,7 +143,7 @@ module _ (bound : ℕ) (rows : List Cap) (n : Named rows) (h : rows_in_order bou
     ancestry_left : (x : ℕ) → kept x ≡ true → ancestry (derivations left) x ≡ ancestry (derivations rows) x
     ancestry_left x k =
         rw (← filter_map derivation (λ b. kept b.name) rows)
-        (ancestry_kept kept bound (derivations rows) (rows_in_order_falling_lem bound rows n h) parents_kept x (rw k (or-true (eqb x 0))))
+        (ancestry_kept kept bound (derivations rows) (rows_in_order_falling bound rows n h) parents_kept x (rw k (or-true (eqb x 0))))
 
     -- one more name dropped from what is left
     pub without_more : (x : ℕ) → rows_without (x ∷ []) (rows_without names rows) ≡ rows_without (x ∷ names) rows
@@ -162,7 +162,7 @@ module _ (bound : ℕ) (rows : List Cap) (n : Named rows) (h : rows_in_order bou
     smaller_kept x a = ap not (any_false (λ u. in_subtree u (ancestry (derivations rows) x)) names (All_map _ _ off names a))
       where
         off : (u : ℕ) → x < u → in_subtree u (ancestry (derivations rows) x) ≡ false
-        off u l = any_false (λ d. eqb u d.name) (ancestry (derivations rows) x) (All_map _ _ (λ d k. ne_eqb u d.name (λ (e : u ≡ d.name). omega arith)) (ancestry (derivations rows) x) (ancestry_upto bound x (derivations rows) (rows_in_order_falling_lem bound rows n h)))
+        off u l = any_false (λ d. eqb u d.name) (ancestry (derivations rows) x) (All_map _ _ (λ d k. ne_eqb u d.name (λ (e : u ≡ d.name). omega arith)) (ancestry (derivations rows) x) (ancestry_upto bound x (derivations rows) (rows_in_order_falling bound rows n h)))
 
     pub smaller_found : (x : ℕ) → All (λ u. x < u) names → lookup x (rows_without names rows) ≡ lookup x rows
     smaller_found x a = rw (without_left names rows) (lookup_left (λ x. in_subtrees names (ancestry (derivations rows) x)) x (not-true (in_subtrees names (ancestry (derivations rows) x)) (smaller_kept x a)) rows)
@@ -172,8 +172,8 @@ module _ (bound : ℕ) (rows : List Cap) (n : Named rows) (h : rows_in_order bou
 
 -- ---- single drops in falling order
 
-pub single_drops_cons_lem : (by : Caller) (x : ℕ) (names : List ℕ) → single_drops by (x ∷ names) ≡ single_drops by names ++ (Single by (Drop (record { 0 = x })) ∷ [])
-single_drops_cons_lem by x names = rw (reverse-cons x names) (map-append (λ u. Single by (Drop (record { 0 = u }))) (reverse names) (x ∷ []))
+pub single_drops_cons : (by : Caller) (x : ℕ) (names : List ℕ) → single_drops by (x ∷ names) ≡ single_drops by names ++ (Single by (Drop (record { 0 = x })) ∷ [])
+single_drops_cons by x names = rw (reverse-cons x names) (map-append (λ u. Single by (Drop (record { 0 = u }))) (reverse names) (x ∷ []))
 
 -- the rows that a group leaves fit where they stood
 module _ (t : List Cap) (names : List ℕ) where
@@ -258,12 +258,12 @@ module _ (sheet : Sheet) where
       singly_more =
           record {
             each_allowed =
-                rw (single_drops_cons_lem by x names, answers_append (after sheet) answer h (single_drops by names) drop, all_append is_allowed (answers (after sheet) answer h (single_drops by names)) (answers (after sheet) answer then drop), s.each_allowed)
+                rw (single_drops_cons by x names, answers_append (after sheet) answer h (single_drops by names) drop, all_append is_allowed (answers (after sheet) answer h (single_drops by names)) (answers (after sheet) answer then drop), s.each_allowed)
                 (rw answer_allowed);
-            table_left = rw (single_drops_cons_lem by x names, final_append (after sheet) h (single_drops by names) drop) left_then;
-            issued_left = rw (single_drops_cons_lem by x names, final_append (after sheet) h (single_drops by names) drop) issued_then;
-            bits_left = rw (single_drops_cons_lem by x names, final_append (after sheet) h (single_drops by names) drop) bits_then;
-            slots_left = rw (single_drops_cons_lem by x names, final_append (after sheet) h (single_drops by names) drop) slots_then;
+            table_left = rw (single_drops_cons by x names, final_append (after sheet) h (single_drops by names) drop) left_then;
+            issued_left = rw (single_drops_cons by x names, final_append (after sheet) h (single_drops by names) drop) issued_then;
+            bits_left = rw (single_drops_cons by x names, final_append (after sheet) h (single_drops by names) drop) bits_then;
+            slots_left = rw (single_drops_cons by x names, final_append (after sheet) h (single_drops by names) drop) slots_then;
           }
 
     singly_rising : (names : List ℕ) → Rising names → All (λ u. Stands rows h.tally.issued u × Held rows by u) names → Singly h by names
@@ -307,7 +307,7 @@ module _ (sheet : Sheet) where
       → final (History.after sheet n) H (single_drops by names) ≡ record { notes = map Dropped names ++ H.notes; count = H.count; kept = H.kept }
   drops_noted n H by [] a = refl
   drops_noted n H by (x ∷ names) a =
-      rw (single_drops_cons_lem by x names, final_append (History.after sheet n) H (single_drops by names) drop)
+      rw (single_drops_cons by x names, final_append (History.after sheet n) H (single_drops by names) drop)
       (noted_last then p.1 ∙ ap {B = History} (λ K. record { notes = Dropped x ∷ K.notes; count = K.count; kept = K.kept }) (drops_noted n H by names p.0))
     where
       drop : List Request
@@ -319,7 +319,7 @@ module _ (sheet : Sheet) where
       p : (all is_allowed (answers (History.after sheet n) (History.answer sheet n) H (single_drops by names)) ≡ true) × (all is_allowed (answers (History.after sheet n) (History.answer sheet n) then drop) ≡ true)
       p =
           and_both (all is_allowed (answers (History.after sheet n) (History.answer sheet n) H (single_drops by names))) (all is_allowed (answers (History.after sheet n) (History.answer sheet n) then drop))
-          (rw (single_drops_cons_lem by x names, answers_append (History.after sheet n) (History.answer sheet n) H (single_drops by names) drop, all_append is_allowed (answers (History.after sheet n) (History.answer sheet n) H (single_drops by names)) (answers (History.after sheet n) (History.answer sheet n) then drop)) at a)
+          (rw (single_drops_cons by x names, answers_append (History.after sheet n) (History.answer sheet n) H (single_drops by names) drop, all_append is_allowed (answers (History.after sheet n) (History.answer sheet n) H (single_drops by names)) (answers (History.after sheet n) (History.answer sheet n) then drop)) at a)
 
       noted_last : (K : History) → is_allowed (History.answer sheet n K (Single by (Drop (record { 0 = x })))) && true ≡ true
           → History.after sheet n K (Single by (Drop (record { 0 = x }))) ≡ record { notes = Dropped x ∷ K.notes; count = K.count; kept = K.kept }

@@ -38,7 +38,7 @@ use Rattle.model.proofs.Lists.{All, All_map, All_of, All_sub, All_filter, All_un
 use Rattle.model.proofs.Slots.{InSlot, in_stored}
 use Rattle.model.proofs.Ancestries.{Falling, Closed, same, below_differs, ancestry_here, ancestry_past}
 use Rattle.model.proofs.Lent.{Named, no_rows, live_lent, length_lent, lookup_kept, lookup_found, lookup_named, lookup_none}
-use Rattle.model.proofs.Order.{Ordered, ordered, live_rows_first_lent_lem, rows_in_order_kept_lem, rows_in_order_wider_lem, spreads_kept, live_named, next_named, next_rows_in_order_lem, Spreads, struck_spreads, dropped_spreads, access_rows_in_order_lem, access_named, rises, steps, place, found_below, parent_in_order_row_fits_parent_lem, rows_in_order_falling_lem}
+use Rattle.model.proofs.Order.{Ordered, ordered, live_rows_first_lent, rows_in_order_kept, rows_in_order_wider, spreads_kept, live_named, next_named, next_rows_in_order, Spreads, struck_spreads, dropped_spreads, access_rows_in_order, access_named, rises, steps, place, found_below, parent_in_order_row_fits_parent, rows_in_order_falling}
 use Rattle.model.proofs.Judged.{allowed, in_order_lem, fit_order, fit_size, fit_slots, fit_all, no_slot, works_memory, stores_nothing, counted_issued}
 use Rattle.model.proofs.Match.{count_raised}
 use Rattle.model.proofs.Rows.{lookup_each, found_each, no_ancestry}
@@ -138,7 +138,7 @@ rooted_next bound c rows n h ih = (
         let none : ancestry (derivations rows) c.parent.0 ≡ [] = ap (ancestry (derivations rows)) (eqb-true c.parent.0 0 r) ∙ no_ancestry c.name.0 rows n.1 earlier in
         rw none (under_itself c rows r hangs)
     here (inr r) =
-        let q = parent_in_order_row_fits_parent_lem c rows r hangs in
+        let q = parent_in_order_row_fits_parent c rows r hangs in
         let p : Cap = lookup c.parent.0 rows in
         let u : Under rows p (ancestry (derivations rows) c.parent.0) = rw (lookup_named c.parent.0 rows q.0) at (lookup_found (Rooted rows) c.parent.0 rows q.0 ih) in
         under_wider c rows c (derivation c ∷ ancestry (derivations rows) c.parent.0) earlier (under_parent c p rows (ancestry (derivations rows) c.parent.0) (fits_inside c p q.1) u)
@@ -185,7 +185,7 @@ roots_differ (c ∷ rows) a x y e f r t d = go (test (named x c)) (test (named y
 
 module _ (bound : ℕ) (rows : List Cap) (n : Named rows) (h : rows_in_order bound rows ≡ true) where
   falls : Falling bound (derivations rows)
-  falls = rows_in_order_falling_lem bound rows n h
+  falls = rows_in_order_falling bound rows n h
 
   -- what is made from a parent is in its tree
   parent_root : All (λ c. is_root c ≡ false → root_of rows c.parent.0 ≡ root_of rows c.name.0) rows
@@ -353,7 +353,7 @@ module _ (sheet : Sheet) (i : ℕ) (rows : List Cap) (n : Named rows) (h : rows_
   unfolding rows_after last_name
   created by w s t r =
       let c : Cap = row (root by i s t) t.right 1 in
-      let left_in_order = access_rows_in_order_lem sheet (suc i) rows n h Writing (suc i) s in
+      let left_in_order = access_rows_in_order sheet (suc i) rows n h Writing (suc i) s in
       let left_named = access_named sheet rows n Writing (suc i) s in
       tree_new c (rest Writing (suc i) s) r (All_map _ _ (λ d q. q.0) (rest Writing (suc i) s) (lookup_each (suc i) (rest Writing (suc i) s) left_in_order))
       ∙ ap (λ B. cons_if (eqb r (last_name (suc i) B)) c (tree (rest Writing (suc i) s) r)) (no_ancestry (suc i) (rest Writing (suc i) s) left_named left_in_order)
@@ -382,7 +382,7 @@ module _ (sheet : Sheet) (i : ℕ) (rows : List Cap) (n : Named rows) (h : rows_
   unfolding rows_after last_name
   root_created by w s t =
       ap (last_name 0) (ancestry_here (root by i s t) (derivations (rest Writing (suc i) s)) (suc i) (same (suc i)))
-      ∙ ap (last_name (suc i)) (no_ancestry (suc i) (rest Writing (suc i) s) (access_named sheet rows n Writing (suc i) s) (access_rows_in_order_lem sheet (suc i) rows n h Writing (suc i) s))
+      ∙ ap (last_name (suc i)) (no_ancestry (suc i) (rest Writing (suc i) s) (access_named sheet rows n Writing (suc i) s) (access_rows_in_order sheet (suc i) rows n h Writing (suc i) s))
 
   pub root_borrowed : (by : Caller) (w : NewName) (u : Name) (s : Span) (t : Terms) → any (named u.0) rows ≡ true → root_of (rows_after sheet i rows (Single by (Borrow w u s t))) (suc i) ≡ root_of rows u.0
   unfolding rows_after last_name
@@ -456,7 +456,7 @@ pub record Forest (h : State) : Type 0 where
 -- as names are given, it stays so
 planted_later : (i j : ℕ) → i ≤ j → (s : Slot Memory) → Planted i s → Planted j s
 planted_later i j l Nothing p = tt
-planted_later i j l (Stored m) p = (rows_in_order_wider_lem (suc i) (suc j) (live_rows m.table) (omega arith) p.0, p.1)
+planted_later i j l (Stored m) p = (rows_in_order_wider (suc i) (suc j) (live_rows m.table) (omega arith) p.0, p.1)
 
 -- a name is found among some rows as among all
 abbrev pub Found : List Cap → List Cap → ℕ → Type 0
@@ -565,7 +565,7 @@ module _ (sheet : Sheet) (h : State) (f : Forest h) where
   own_rows (Single by (Create w s t)) z r c =
       let new : suc i ≤ r = omega (arith, eqb-true r (suc i) c) in
       let none : tree rows r ≡ [] = no_tree (suc i) rows are_named f.rise r new in
-      let none_left = no_tree (suc i) (after_access sheet Writing (suc i) s rows) (access_named sheet rows are_named Writing (suc i) s) (access_rows_in_order_lem sheet (suc i) rows are_named f.rise Writing (suc i) s) r new in
+      let none_left = no_tree (suc i) (after_access sheet Writing (suc i) s rows) (access_named sheet rows are_named Writing (suc i) s) (access_rows_in_order sheet (suc i) rows are_named f.rise Writing (suc i) s) r new in
       created sheet i rows are_named f.rise by w s t r ∙ ap₂ (λ b l. cons_if b (row (root by i s t) t.right 1) l) c none_left ∙ ap {B = List Cap} (λ l. row (root by i s t) t.right 1 ∷ after_access sheet Writing (suc i) s l) (sym none)
   own_rows (Single by (Borrow w u s t)) z r c =
       borrowed sheet i rows are_named f.rise by w u s t r (not-false (any (named u.0) rows) (allowed (view h) (Single by (Borrow w u s t)) z 5)) ∙ rw (c, lookup_kept (in_tree rows r) u.0 c rows)
@@ -622,13 +622,13 @@ module _ (sheet : Sheet) (h : State) (f : Forest h) where
       own_named = All_sub (λ c. in_tree rows r c.name.0) (λ c. named 0 c ≡ false) rows are_named
 
       own_rise : rows_in_order (suc i) own ≡ true
-      own_rise = rows_in_order_kept_lem (in_tree rows r) (suc i) rows (All_unmap derivation (λ b. in_tree rows r b.name ≡ true → eqb b.parent 0 || in_tree rows r b.parent ≡ true) rows (closed_here r)) f.rise
+      own_rise = rows_in_order_kept (in_tree rows r) (suc i) rows (All_unmap derivation (λ b. in_tree rows r b.name ≡ true → eqb b.parent 0 || in_tree rows r b.parent ≡ true) rows (closed_here r)) f.rise
 
       own_fit : m ≤ 1024 → unfit Unlimited (view h) ≡ false → unfit Unlimited (tree_alone h m r) ≡ false
       unfolding in_order refused_sheet
       own_fit l k =
           let o = ordered h.memory.table i (fit_order Unlimited (view h) k) in
-          fit_all Unlimited (tree_alone h m r) (rw (length_lent m own (omega arith), le-leb m 1024 l, live_rows_first_lent_lem m own own_named, o.names_left, live_lent m own own_named) own_rise) refl (fit_size Unlimited (view h) k) (fit_slots Unlimited (view h) k)
+          fit_all Unlimited (tree_alone h m r) (rw (length_lent m own (omega arith), le-leb m 1024 l, live_rows_first_lent m own own_named, o.names_left, live_lent m own own_named) own_rise) refl (fit_size Unlimited (view h) k) (fit_slots Unlimited (view h) k)
 
       pub answered_alone : (q : Request) → turns_state q ≡ false → (caller_of q).limits ≡ Unlimited → unfit Unlimited (view h) ≡ false → AllFound own rows q → m ≤ 1024 → judge (tree_alone h m r) q ≡ judge (view h) q
       unfolding judge refusals
@@ -720,7 +720,7 @@ module _ (sheet : Sheet) (h : State) (f : Forest h) where
     forest_worked : (q : Request) → turns_state q ≡ false → judge (view h) q ≡ 0 → Forest (outcome sheet 0 h q)
     forest_worked q t z =
         record {
-          rise = rw (left_rows q z t, counted_issued q h.tally) (next_rows_in_order_lem sheet (view h) (in_place q z) q z);
+          rise = rw (left_rows q z t, counted_issued q h.tally) (next_rows_in_order sheet (view h) (in_place q z) q z);
           roots_apart_lem = rw (left_rows q z t) (apart_rows q z);
           stored = rw (stores_nothing h.memory h.slots q t, counted_issued q h.tally) (All_map _ _ (planted_later i (issued_after i q) (count_raised i q)) h.slots f.stored);
         }

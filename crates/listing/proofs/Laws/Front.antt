@@ -14,8 +14,8 @@ use Rattle.model.specs.Table.{named, live_rows, live_rows_first, rows_in_order, 
 use Rattle.table.specs.Words.{rows_in}
 use Rattle.listing.specs.First.{first_rows}
 use Rattle.table.specs.Rows.{Front}
-use Rattle.model.proofs.Offered.{All_reverse, and_both, Named, rows_in_order_wider_lem, live_named}
-use Rattle.table.proofs.Offered.{length_in_lem, before_reverse, live_rows_first_front_lem, live_front}
+use Rattle.model.proofs.Offered.{All_reverse, and_both, Named, rows_in_order_wider, live_named}
+use Rattle.table.proofs.Offered.{length_in_lem, before_reverse, live_rows_first_front, live_front}
 use Rattle.listing.proofs.Laws.First.{length_first}
 use Rattle.listing.specs.Listing.{listed, listing}
 use Rattle.listing.specs.Links.{Live}
@@ -45,7 +45,7 @@ order_live table issued h =
     let o = order h in
     record {
       names = all_named (reverse (live_rows table)) (All_reverse _ (live_rows table) (live_named table));
-      rises = rw (reverse-reverse (live_rows table)) (rows_in_order_wider_lem (suc issued) 1000001 (live_rows table) (omega (arith, o.names)) o.rises);
+      rises = rw (reverse-reverse (live_rows table)) (rows_in_order_wider (suc issued) 1000001 (live_rows table) (omega (arith, o.names)) o.rises);
     }
 
 -- where k of the n rows of a table are live
@@ -56,7 +56,7 @@ module _ (ws : List (List ℕ)) (n k : ℕ) (whole : length ws ≡ n) (f : Front
   pub front_rows : live_rows_first table ≡ true → reverse (live_rows table) ≡ first_rows ws k
   front_rows a =
       let long : length (rows_in ws) ≡ n = length_in_lem ws ∙ whole in
-      ap reverse (live_front (rows_in ws) n k f long (sym (live_rows_first_front_lem (rows_in ws) n k f long) ∙ a) ∙ sym (before_reverse (rows_in ws) k (omega (arith, f.fits))))
+      ap reverse (live_front (rows_in ws) n k f long (sym (live_rows_first_front (rows_in ws) n k f long) ∙ a) ∙ sym (before_reverse (rows_in ws) k (omega (arith, f.fits))))
       ∙ reverse-reverse (first_rows ws k)
 
   pub front_count : live_rows_first table ≡ true → length (live_rows table) ≡ k

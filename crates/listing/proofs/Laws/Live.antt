@@ -17,7 +17,7 @@ use Rattle.table.specs.Words.{rows_in}
 use Rattle.listing.specs.First.{first_rows}
 use Rattle.table.specs.Rows.{name_at, parent_at, Rise}
 use Rattle.listing.proofs.Laws.First.{length_first, first_at}
-use Rattle.model.proofs.Offered.{All, All_map, All_reverse, test, clash, and_both, rises, place, parent_in_order_row_fits_parent_lem, Rises}
+use Rattle.model.proofs.Offered.{All, All_map, All_reverse, test, clash, and_both, rises, place, parent_in_order_row_fits_parent, Rises}
 use Rattle.listing.specs.Links.{Live}
 use Rattle.listing.proofs.Laws.Sorted.{Above, Member, here, there, Ordered, InOrder}
 
@@ -77,7 +77,7 @@ ordered_reverse bound (c ∷ rows) h =
 
     go : (eqb c.parent.0 0 ≡ true) ⊎ (eqb c.parent.0 0 ≡ false) → Rises bound c rows → Member c.parent.0 (0 ∷ []) ⊎ (any (named c.parent.0) (reverse rows) ≡ true)
     go (inl t) r = inl (root c.parent.0 (eqb-true c.parent.0 0 t))
-    go (inr f) r = inr (any_reverse (named c.parent.0) rows (parent_in_order_row_fits_parent_lem c rows f (place c rows r.in_place).does_hang).0)
+    go (inr f) r = inr (any_reverse (named c.parent.0) rows (parent_in_order_row_fits_parent c rows f (place c rows r.in_place).does_hang).0)
 
 above_zero : (rows : List Cap) → all (λ c. not (named 0 c)) rows ≡ true → Above 0 rows
 above_zero [] h = tt

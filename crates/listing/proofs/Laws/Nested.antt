@@ -11,7 +11,7 @@ use borrow.Author.Tests.{leb-true, ltb-true, eqb-true, eqb-false, eq-eqb}
 use Rattle.model.specs.declared.Cap.{Cap}
 use Rattle.model.specs.Values.{inside}
 use Rattle.model.specs.Table.{span, derivation, named, lookup, is_right, is_kind, is_mark, row_fits_parent, parent_in_order, rows_in_order}
-use Rattle.model.proofs.Offered.{All, All_map, All_append, All_reverse, test, and_both, fitting, rises, place, parent_in_order_row_fits_parent_lem, lookup_each, All_zip}
+use Rattle.model.proofs.Offered.{All, All_map, All_append, All_reverse, test, and_both, fitting, rises, place, parent_in_order_row_fits_parent, lookup_each, All_zip}
 use Rattle.listing.specs.Listable.{SmallRows}
 
 -- numbers of 32 bits, a right, a kind, a mark, and a mask of 64 bits
@@ -56,7 +56,7 @@ deeper_than bound c earlier nz r h = All_map _ _ each earlier (All_zip _ _ earli
       where
         go : (eqb c.parent.0 0 ≡ true) ⊎ (eqb c.parent.0 0 ≡ false) → (c.depth ≡ x.depth + 1) × (x.depth < 64)
         go (inl t) = absurd (eqb-false 0 x.name.0 q.0 (sym (eqb-true c.parent.0 0 t) ∙ e))
-        go (inr f) = under_depth c x (subst (λ (d : Cap). row_fits_parent c d ≡ true) (ap (λ (n : ℕ). lookup n earlier) e ∙ q.1.1) (parent_in_order_row_fits_parent_lem c earlier f h).1)
+        go (inr f) = under_depth c x (subst (λ (d : Cap). row_fits_parent c d ≡ true) (ap (λ (n : ℕ). lookup n earlier) e ∙ q.1.1) (parent_in_order_row_fits_parent c earlier f h).1)
 
 root_depth : (c : Cap) (earlier : List Cap) → parent_in_order c earlier ≡ true → c.parent.0 ≡ 0 → c.depth ≡ 1
 unfolding parent_in_order

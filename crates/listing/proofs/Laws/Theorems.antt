@@ -11,7 +11,7 @@ use borrow.Author.Tests.{le-leb, lt-leb}
 use Rattle.model.specs.declared.Cap.{Cap}
 use Rattle.model.specs.Lists.{filter}
 use Rattle.model.specs.Table.{named, live_rows, lent_table, in_order}
-use Rattle.model.proofs.Offered.{length_filter, live_lent, length_lent, live_named, live_rows_first_lent_lem, lent_live}
+use Rattle.model.proofs.Offered.{length_filter, live_lent, length_lent, live_named, live_rows_first_lent, lent_live}
 use Rattle.text.specs.Result.{Result, value, refused}
 use Rattle.text.specs.Read.{same}
 use Rattle.text.specs.Write.{stored}
@@ -39,7 +39,7 @@ module _ (n : ℕ) (table : List Cap) (issued : ℕ) (h : in_order table issued 
   resized_order =
       let o : Order table issued = order h in
       let short : length (lent_table n (live_rows table)) ≤ 1024 = omega (arith, length_lent n (live_rows table) fits) in
-      rw (le-leb (length (lent_table n (live_rows table))) 1024 short, live_rows_first_lent_lem n (live_rows table) (live_named table), le-leb issued 1000000 o.names, same_live) o.rises
+      rw (le-leb (length (lent_table n (live_rows table))) 1024 short, live_rows_first_lent n (live_rows table) (live_named table), le-leb issued 1000000 o.names, same_live) o.rises
 
   resized_listing : listing (lent_table n (live_rows table)) issued ≡ listing table issued
   resized_listing = ap (λ (rows : List Cap). listed (reverse rows) issued) same_live

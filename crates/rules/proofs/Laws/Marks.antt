@@ -28,8 +28,8 @@ use Rattle.model.specs.Effects.{in_subtrees}
 use Rattle.table.specs.Rows.{name_at, parent_at, before, Rise, Found, Places, LiveRows}
 use Rattle.table.specs.Sheets.{weight}
 use Rattle.rules.specs.Engine.{OnAncestry, NearestAt, nearer_of, value_below, inside_of, SetInside, is_apart, Related, origin_of, own, own_of_access, own_of_names, Owned, mark, Marked, Spread, Downward, Most}
-use Rattle.model.proofs.Offered.{test, clash, or_neither, below_differs, ancestry_here, ancestry_past, Named, place, parent_in_order_row_fits_parent_lem, group_none, group_step, struck_step, no_ancestry, steps, rows_in_order_falling_lem, root_has_no_kin, Falling, later_off, nearest_cell_lem, nearest_on, on_line_lem}
-use Rattle.table.proofs.Offered.{extend, last, all_before, at_before, none_named, named_none, place_of, rise_sub, rows_in_order_rise_lem, rows_in_order_at_lem}
+use Rattle.model.proofs.Offered.{test, clash, or_neither, below_differs, ancestry_here, ancestry_past, Named, place, parent_in_order_row_fits_parent, group_none, group_step, struck_step, no_ancestry, steps, rows_in_order_falling, root_has_no_kin, Falling, later_off, nearest_cell_lem, nearest_on, on_line_lem}
+use Rattle.table.proofs.Offered.{extend, last, all_before, at_before, none_named, named_none, place_of, rise_sub, rows_in_order_rise, rows_in_order_at}
 
 -- ---- places and names
 
@@ -267,13 +267,13 @@ module _ (T : List Cap) (k : ℕ) (st : LiveRows T k) where
   B = derivations (before T k)
 
   pub stand_rise : Rise T k
-  stand_rise = rows_in_order_rise_lem T st.bound k st.filled st.rise
+  stand_rise = rows_in_order_rise T st.bound k st.filled st.rise
 
   stand_named : Named (before T k)
   stand_named = all_before (λ c. named 0 c ≡ false) T k (λ i l. below_differs (st.filled i l))
 
   falls : Falling st.bound B
-  falls = rows_in_order_falling_lem st.bound (before T k) stand_named st.rise
+  falls = rows_in_order_falling st.bound (before T k) stand_named st.rise
 
   -- a row's ancestry goes on with its parent's
   line_step : (i : ℕ) → i < k → ancestry B (name_at T i) ≡ derivation (get_or T i empty_row) ∷ ancestry B (parent_at T i)
@@ -284,11 +284,11 @@ module _ (T : List Cap) (k : ℕ) (st : LiveRows T k) where
   rootless i l gone = go (test (eqb (parent_at T i) 0))
     where
       hung : parent_in_order (get_or T i empty_row) (before T i) ≡ true
-      hung = (place (get_or T i empty_row) (before T i) (rows_in_order_at_lem T st.bound k st.rise i l).1).does_hang
+      hung = (place (get_or T i empty_row) (before T i) (rows_in_order_at T st.bound k st.rise i l).1).does_hang
 
       go : (eqb (parent_at T i) 0 ≡ true) ⊎ (eqb (parent_at T i) 0 ≡ false) → parent_at T i ≡ 0
       go (inl t) = eqb-true (parent_at T i) 0 t
-      go (inr f) = clash (parent_in_order_row_fits_parent_lem (get_or T i empty_row) (before T i) f hung).0 gone
+      go (inr f) = clash (parent_in_order_row_fits_parent (get_or T i empty_row) (before T i) f hung).0 gone
 
   -- ---- how rows stand to a user
 
@@ -428,7 +428,7 @@ module _ (T : List Cap) (k : ℕ) (st : LiveRows T k) where
     marked_below (suc n) i m l = go (test (eqb (parent_at T i) 0)) (marked_below n)
       where
         hung : parent_in_order (get_or T i empty_row) (before T i) ≡ true
-        hung = (place (get_or T i empty_row) (before T i) (rows_in_order_at_lem T st.bound k st.rise i l).1).does_hang
+        hung = (place (get_or T i empty_row) (before T i) (rows_in_order_at T st.bound k st.rise i l).1).does_hang
 
         go : (eqb (parent_at T i) 0 ≡ true) ⊎ (eqb (parent_at T i) 0 ≡ false) → ((q : ℕ) → q < n → q < k → get_or marks q 0 ≡ mark ends lowers (name_at T q)) → get_or marks i 0 ≡ mark ends lowers (name_at T i)
         go (inl t) ih =
@@ -439,7 +439,7 @@ module _ (T : List Cap) (k : ℕ) (st : LiveRows T k) where
             let g : max (owned i) 0 ≡ owned i = omega arith in
             d ∙ sym (step i l ∙ ap (max (owned i)) f ∙ g)
         go (inr f) ih =
-            let p = place_of T i (parent_at T i) (parent_in_order_row_fits_parent_lem (get_or T i empty_row) (before T i) f hung).0 in
+            let p = place_of T i (parent_at T i) (parent_in_order_row_fits_parent (get_or T i empty_row) (before T i) f hung).0 in
             s.child i p.0 l p.1.0 p.1.1 ∙ ap (max (owned i)) (ih p.0 (omega (arith, p.1.0)) (omega (arith, p.1.0)) ∙ ap (mark ends lowers) p.1.1) ∙ sym (step i l)
 
     pub marked : Marked T k marks ends lowers

@@ -80,16 +80,16 @@ part_same d e z a n l b h =
 
 -- ---- the slots of a memory
 
-get_d_each_lem : {A : Type 0} (f : ℕ → A) (x n i : ℕ) (z : A) → i < n → get_or (map f (count_from x n)) i z ≡ f (x + i)
+get_d_each : {A : Type 0} (f : ℕ → A) (x n i : ℕ) (z : A) → i < n → get_or (map f (count_from x n)) i z ≡ f (x + i)
 unfolding count_from
-get_d_each_lem f x zero i z l = absurd (not-suc-le-zero l)
-get_d_each_lem f x (suc n) zero z l = ap f (sym (add-zero x))
-get_d_each_lem f x (suc n) (suc i) z l = let e : suc x + i ≡ x + suc i = omega arith in get_d_each_lem f (suc x) n i z (le_of_suc-le-suc l) ∙ ap f e
+get_d_each f x zero i z l = absurd (not-suc-le-zero l)
+get_d_each f x (suc n) zero z l = ap f (sym (add-zero x))
+get_d_each f x (suc n) (suc i) z l = let e : suc x + i ≡ x + suc i = omega arith in get_d_each f (suc x) n i z (le_of_suc-le-suc l) ∙ ap f e
 
 module _ (stored : List (List ℕ)) (copies : List ℕ) (m : is_memory stored copies ≡ true) where
   pub slot_at : (k : ℕ) → k ≤ 7 → get_or (states_in stored copies) k Nothing ≡ state_at stored copies k
   unfolding states_in
-  slot_at k l = rw m (get_d_each_lem (state_at stored copies) 0 8 k Nothing (omega arith) ∙ ap (state_at stored copies) (zero-add k))
+  slot_at k l = rw m (get_d_each (state_at stored copies) 0 8 k Nothing (omega arith) ∙ ap (state_at stored copies) (zero-add k))
 
   pub slot_out : (k : ℕ) → 7 < k → get_or (states_in stored copies) k Nothing ≡ Nothing
   slot_out k l = get_or-eq_default (states_in stored copies) Nothing (omega (arith, states_eight stored copies m))

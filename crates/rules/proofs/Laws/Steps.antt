@@ -45,7 +45,7 @@ use Rattle.table.specs.Known.{Sized}
 use Rattle.table.specs.Rows.{name_at, before, Filled, Front, Found, Places, Orderly}
 use Rattle.rules.specs.Engine.{Marked, kept, Ready, Settled}
 use Rattle.rules.specs.Steps.{lends, Stepped, Worked, AllowedOn}
-use Rattle.model.proofs.Offered.{allowed, judge_slots, works_memory, stores_nothing, none_sized, fit_not_1, fit_all, fit_sheet, fit_after, Named, live_lent, ordered, live_named, access_in_order_lem, access_named, next_fits, order_after}
+use Rattle.model.proofs.Offered.{allowed, judge_slots, works_memory, stores_nothing, none_sized, fit_not_1, fit_all, fit_sheet, fit_after, Named, live_lent, ordered, live_named, access_in_order, access_named, next_fits, order_after}
 use Rattle.table.proofs.Offered.{length_in_lem, before_lent, before_suc, before_same, length_before, extend, Alike, places_more, found_zero, numbered, orderly_live, orderly_rise, orderly_standing, orderly_zeros}
 use Rattle.rules.proofs.Laws.Settle.{kept_revoke}
 
@@ -130,7 +130,7 @@ module _ (ws : List (List ℕ)) (k issued : ℕ) (o : Orderly (rows_in ws) (leng
     front = rw long left.front;
     ordered =
         ap (λ (t : List Cap). in_order t issued) (left.table ∙ ap₂ (λ (m : ℕ) (rows : List Cap). lent_table m (after_access sheet a u s rows)) (sym o.all) (sym live_old))
-        ∙ access_in_order_lem sheet (view_of (rows_in ws) [] unstored issued) (ordered (rows_in ws) issued o.ordered) a u s;
+        ∙ access_in_order sheet (view_of (rows_in ws) [] unstored issued) (ordered (rows_in ws) issued o.ordered) a u s;
   }
 
   pub access_rows : before (rows_in ws') r ≡ after_access sheet a u s old

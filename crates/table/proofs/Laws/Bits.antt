@@ -11,7 +11,7 @@ use lib.Dec.{eqb}
 use lib.ListN.{length, get_or, set}
 use lib.Seq.{get_or-set_same, set-get_or, set-set}
 use Rattle.model.specs.Bits.{has_bit, with_bit, bit_at, put_at, put_from, all_written}
-use Rattle.model.proofs.Offered.{with_bit_worth_lem}
+use Rattle.model.proofs.Offered.{with_bit_worth}
 use Rattle.table.specs.Bytes.{with_bits}
 
 -- ---- one bit of a byte
@@ -29,13 +29,13 @@ beq_other false true e = refl
 beq_other false false e = sym e
 
 pub bit_is : (v : Bool) (j b : ℕ) → has_bit b j ≡ v → b ≡ with_bit v j b
-bit_is v j b e = let w = rw e at (with_bit_worth_lem v j b) in omega arith
+bit_is v j b e = let w = rw e at (with_bit_worth v j b) in omega arith
 
 pub bit_set : (j b : ℕ) → has_bit b j ≡ false → b + 2 ^ j ≡ with_bit true j b
-bit_set j b e = let w = rw e at (with_bit_worth_lem true j b) in omega arith
+bit_set j b e = let w = rw e at (with_bit_worth true j b) in omega arith
 
 pub bit_clear : (j b : ℕ) → has_bit b j ≡ true → with_bit false j b + 2 ^ j ≡ b
-bit_clear j b e = let w = rw e at (with_bit_worth_lem false j b) in omega arith
+bit_clear j b e = let w = rw e at (with_bit_worth false j b) in omega arith
 
 -- what a byte with a bit so is below
 pub bit_fits : (v : Bool) (j n b : ℕ) → j < n → b < 2 ^ n → with_bit v j b < 2 ^ n

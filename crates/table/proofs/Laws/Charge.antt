@@ -21,7 +21,7 @@ use Rattle.model.specs.Lists.{first}
 use Rattle.model.specs.Bits.{has_bit}
 use Rattle.model.specs.Table.{live_rows, lookup, in_order}
 use Rattle.model.specs.Charge.{bits_below, holder_count, charge_checks, shares, charge, Charge}
-use Rattle.model.proofs.Offered.{test, has_bit_first_lem, has_bit_next_lem, has_holder}
+use Rattle.model.proofs.Offered.{test, has_bit_first, has_bit_next, has_holder}
 use Rattle.table.specs.Rows.{before, Orderly}
 use Rattle.table.specs.Stands.{living}
 use Rattle.table.proofs.Laws.Judge.{numbered, orderly_live}
@@ -42,8 +42,8 @@ one_bit b l = go (test (eqb b 1))
 -- counted from the lowest bit
 bits_step : (k mask : ℕ) → bits_below (suc k) mask ≡ mask % 2 + bits_below k (mask / 2)
 unfolding bits_below
-bits_step zero mask = let e : ◌≡◌ {A = ℕ} (cond (has_bit mask 0) 1 0) (mask % 2) = ap (λ (b : Bool). cond b 1 0) (has_bit_first_lem mask) ∙ one_bit (mask % 2) (mod-lt mask (omega arith)) in omega (arith, e)
-bits_step (suc k) mask = let e : ◌≡◌ {A = ℕ} (cond (has_bit mask (suc k)) 1 0) (cond (has_bit (mask / 2) k) 1 0) = ap (λ (b : Bool). cond b 1 0) (has_bit_next_lem mask k) in omega (arith, e, bits_step k mask)
+bits_step zero mask = let e : ◌≡◌ {A = ℕ} (cond (has_bit mask 0) 1 0) (mask % 2) = ap (λ (b : Bool). cond b 1 0) (has_bit_first mask) ∙ one_bit (mask % 2) (mod-lt mask (omega arith)) in omega (arith, e)
+bits_step (suc k) mask = let e : ◌≡◌ {A = ℕ} (cond (has_bit mask (suc k)) 1 0) (cond (has_bit (mask / 2) k) 1 0) = ap (λ (b : Bool). cond b 1 0) (has_bit_next mask k) in omega (arith, e, bits_step k mask)
 
 pub bits_ones : (k mask : ℕ) → mask < 2 ^ k → bits_below k mask ≡ ones mask
 unfolding bits_below ones

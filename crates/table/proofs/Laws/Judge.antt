@@ -33,9 +33,9 @@ use Rattle.model.specs.Requests.{Limits, Request, caller_of, turns_state}
 use Rattle.table.specs.Rows.{before, Rise, LiveRows, Orderly}
 use Rattle.table.specs.Known.{Sized}
 use Rattle.table.specs.Stands.{Passes, Serves, said_of, living, room_for, child_checks, read_checks}
-use Rattle.model.proofs.Offered.{test, no_slot, and_both, or_neither, first_none, empty_row_empty_lem, Ordered, ordered, marked_low, place, right_positive}
+use Rattle.model.proofs.Offered.{test, no_slot, and_both, or_neither, first_none, empty_row_empty, Ordered, ordered, marked_low, place, right_positive}
 use Rattle.table.proofs.Laws.Prefix.{place_of}
-use Rattle.table.proofs.Laws.Ordered.{rows_in_order_rise_lem, rows_in_order_at_lem, lookup_place, live_rows_first_front_lem, live_front}
+use Rattle.table.proofs.Laws.Ordered.{rows_in_order_rise, rows_in_order_at, lookup_place, live_rows_first_front, live_front}
 
 -- the first of two groups, or of the second where none of the first holds
 pub first_append : (cs ds : List (ℕ × Bool)) → all (λ c. ltb 0 c.0) cs ≡ true → first (cs ++ ds) ≡ cond (eqb (first cs) 0) (first ds) (first cs)
@@ -116,7 +116,7 @@ module _ (T : List Cap) (n k issued : ℕ) (o : Orderly T n k issued) where
   is = ordered T issued o.ordered
 
   zeros : all is_empty_row (drop k T) ≡ true
-  zeros = sym (live_rows_first_front_lem T n k o.front o.all) ∙ is.rest_is_empty
+  zeros = sym (live_rows_first_front T n k o.front o.all) ∙ is.rest_is_empty
 
   pub orderly_live : live_rows T ≡ before T k
   orderly_live = live_front T n k o.front o.all zeros
@@ -127,14 +127,14 @@ module _ (T : List Cap) (n k issued : ℕ) (o : Orderly T n k issued) where
   pub orderly_few : k ≤ 1024
   orderly_few = omega (arith, o.few, o.front.fits)
 
-  orderly_rows_in_order_lem : rows_in_order (suc issued) (before T k) ≡ true
-  orderly_rows_in_order_lem = rw orderly_live at is.rise
+  orderly_rows_in_order : rows_in_order (suc issued) (before T k) ≡ true
+  orderly_rows_in_order = rw orderly_live at is.rise
 
   pub orderly_standing : LiveRows T k
-  orderly_standing = record { bound = suc issued; few = orderly_few; filled = o.front.filled; rise = orderly_rows_in_order_lem }
+  orderly_standing = record { bound = suc issued; few = orderly_few; filled = o.front.filled; rise = orderly_rows_in_order }
 
   pub orderly_rise : Rise T k
-  orderly_rise = rows_in_order_rise_lem T (suc issued) k o.front.filled orderly_rows_in_order_lem
+  orderly_rise = rows_in_order_rise T (suc issued) k o.front.filled orderly_rows_in_order
 
   -- judging comes down to the request's own checks, where the bits have their length, there are eight slots, the limits are not refused, and what
   -- a back would bring is not unfit
@@ -149,7 +149,7 @@ module _ (T : List Cap) (n k issued : ℕ) (o : Orderly T n k issued) where
       let e : k + (j - k) ≡ j = omega arith in
       let a : is_empty_row (get_or (drop k T) (j - k) empty_row) ≡ true = all_at (drop k T) (j - k) zeros (omega (arith, length-drop k T, o.all)) in
       let d : get_or (drop k T) (j - k) empty_row ≡ get_or T j empty_row = get_or-drop k T (j - k) empty_row ∙ ap (λ (i : ℕ). get_or T i empty_row) e in
-      empty_row_empty_lem (get_or T j empty_row) (ap is_empty_row (sym d) ∙ a)
+      empty_row_empty (get_or T j empty_row) (ap is_empty_row (sym d) ∙ a)
     where
       all_at : (l : List Cap) (i : ℕ) → all is_empty_row l ≡ true → i < length l → is_empty_row (get_or l i empty_row) ≡ true
       all_at [] i h m = absurd (not-suc-le-zero m)
@@ -158,7 +158,7 @@ module _ (T : List Cap) (n k issued : ℕ) (o : Orderly T n k issued) where
 
   -- each live row fits those before it
   pub orderly_row : (q : ℕ) → q < k → row_in_order (get_or T q empty_row) (before T q) ≡ true
-  orderly_row q m = (rows_in_order_at_lem T (suc issued) k orderly_rows_in_order_lem q m).1
+  orderly_row q m = (rows_in_order_at T (suc issued) k orderly_rows_in_order q m).1
 
   -- the right of a row is 1 or 2
   pub orderly_right : (q : ℕ) → q < k → 1 ≤ (get_or T q empty_row).right

@@ -17,7 +17,7 @@ use Rattle.model.specs.Lists.{filter, any, all}
 use Rattle.model.specs.Table.{empty_row, named, live_rows, lent_table, lookup, is_empty_row, live_rows_first, row_in_order, rows_in_order, in_order}
 use Rattle.table.specs.Words.{rows_in}
 use Rattle.table.specs.Rows.{name_at, before, Filled, Rise, Front}
-use Rattle.model.proofs.Offered.{test, clash, unless, and_both, below_differs, empty_row_empty_lem, Rises, rises, risen, rows_in_order_wider_lem}
+use Rattle.model.proofs.Offered.{test, clash, unless, and_both, below_differs, empty_row_empty, Rises, rises, risen, rows_in_order_wider}
 use Rattle.table.proofs.Laws.Prefix.{last, before_suc, length_before}
 use Rattle.table.proofs.Laws.Words.{length_in_lem}
 
@@ -55,14 +55,14 @@ sorted_in T b (suc k) h i j l m = let r = rises b (get_or T k empty_row) (before
     go r (inl s) ih = ih s
     go r (inr e) ih = rw e (below_bound T (name_at T k) k r.rest i (omega arith))
 
-pub rows_in_order_rise_lem : (T : List Cap) (b k : ℕ) → Filled T k → rows_in_order b (before T k) ≡ true → Rise T k
-rows_in_order_rise_lem T b k f h = record { positive = f; sorted = sorted_in T b k h }
+pub rows_in_order_rise : (T : List Cap) (b k : ℕ) → Filled T k → rows_in_order b (before T k) ≡ true → Rise T k
+rows_in_order_rise T b k f h = record { positive = f; sorted = sorted_in T b k h }
 
 -- what each row of rising rows meets
-pub rows_in_order_at_lem : (T : List Cap) (b k : ℕ) → rows_in_order b (before T k) ≡ true → (i : ℕ) → i < k → (rows_in_order (name_at T i) (before T i) ≡ true) × (row_in_order (get_or T i empty_row) (before T i) ≡ true)
+pub rows_in_order_at : (T : List Cap) (b k : ℕ) → rows_in_order b (before T k) ≡ true → (i : ℕ) → i < k → (rows_in_order (name_at T i) (before T i) ≡ true) × (row_in_order (get_or T i empty_row) (before T i) ≡ true)
 unfolding before
-rows_in_order_at_lem T b zero h i l = absurd (not-suc-le-zero l)
-rows_in_order_at_lem T b (suc k) h i l = let r = rises b (get_or T k empty_row) (before T k) h in go r (last i k (omega arith)) (rows_in_order_at_lem T (name_at T k) k r.rest i)
+rows_in_order_at T b zero h i l = absurd (not-suc-le-zero l)
+rows_in_order_at T b (suc k) h i l = let r = rises b (get_or T k empty_row) (before T k) h in go r (last i k (omega arith)) (rows_in_order_at T (name_at T k) k r.rest i)
   where
     go : Rises b (get_or T k empty_row) (before T k) → (i < k) ⊎ (i ≡ k) → (i < k → (rows_in_order (name_at T i) (before T i) ≡ true) × (row_in_order (get_or T i empty_row) (before T i) ≡ true))
         → (rows_in_order (name_at T i) (before T i) ≡ true) × (row_in_order (get_or T i empty_row) (before T i) ≡ true)
@@ -80,24 +80,24 @@ checked_none T = record { up = refl; tight = λ b l h. l }
 
 pub checked_more : (T : List Cap) (i m : ℕ) → Checked T i m → m < name_at T i → row_in_order (get_or T i empty_row) (before T i) ≡ true → Checked T (i + 1) (name_at T i)
 checked_more T i m s l p = record {
-  up = rw (before_suc T i) (risen (suc (name_at T i)) (get_or T i empty_row) (before T i) (record { below_bound = omega arith; in_place = p; rest = rows_in_order_wider_lem (suc m) (name_at T i) (before T i) l s.up }));
+  up = rw (before_suc T i) (risen (suc (name_at T i)) (get_or T i empty_row) (before T i) (record { below_bound = omega arith; in_place = p; rest = rows_in_order_wider (suc m) (name_at T i) (before T i) l s.up }));
   tight = λ b z h. (rises b (get_or T i empty_row) (before T i) (rw (before_suc T i) at h)).below_bound;
 }
 
 pub fails_name : (T : List Cap) (b k i m : ℕ) → Checked T i m → i < k → Filled T k → name_at T i ≤ m → rows_in_order b (before T k) ≡ false
-fails_name T b k i m s l f h = unless (rows_in_order b (before T k)) (λ t. no (s.tight (name_at T i) (f i l) (rows_in_order_at_lem T b k t i l).0))
+fails_name T b k i m s l f h = unless (rows_in_order b (before T k)) (λ t. no (s.tight (name_at T i) (f i l) (rows_in_order_at T b k t i l).0))
   where
     no : m < name_at T i → ⊥
     no q = omega arith
 
 pub fails_place : (T : List Cap) (b k i : ℕ) → i < k → row_in_order (get_or T i empty_row) (before T i) ≡ false → rows_in_order b (before T k) ≡ false
-fails_place T b k i l h = unless (rows_in_order b (before T k)) (λ t. clash (rows_in_order_at_lem T b k t i l).1 h)
+fails_place T b k i l h = unless (rows_in_order b (before T k)) (λ t. clash (rows_in_order_at T b k t i l).1 h)
 
 pub checked_all : (T : List Cap) (k m issued : ℕ) → Checked T k m → leb m issued ≡ rows_in_order (suc issued) (before T k)
 checked_all T k m issued s = go (test (leb m issued))
   where
     go : (leb m issued ≡ true) ⊎ (leb m issued ≡ false) → leb m issued ≡ rows_in_order (suc issued) (before T k)
-    go (inl t) = t ∙ sym (rows_in_order_wider_lem (suc m) (suc issued) (before T k) (omega (arith, leb-true m issued t)) s.up)
+    go (inl t) = t ∙ sym (rows_in_order_wider (suc m) (suc issued) (before T k) (omega (arith, leb-true m issued t)) s.up)
     go (inr f) = f ∙ sym (unless (rows_in_order (suc issued) (before T k)) (λ t. no (s.tight (suc issued) (omega arith) t)))
       where
         no : m < suc issued → ⊥
@@ -108,20 +108,20 @@ checked_all T k m issued s = go (test (leb m issued))
 full : Cap → Bool
 full c = not (named 0 c)
 
-pub live_rows_first_from_lem : (t : List Cap) (k : ℕ) → Filled t k → (k < length t → name_at t k ≡ 0) → live_rows_first t ≡ all is_empty_row (drop k t)
+pub live_rows_first_from : (t : List Cap) (k : ℕ) → Filled t k → (k < length t → name_at t k ≡ 0) → live_rows_first t ≡ all is_empty_row (drop k t)
 unfolding live_rows_first
-live_rows_first_from_lem [] zero f s = refl
-live_rows_first_from_lem [] (suc k) f s = refl
-live_rows_first_from_lem (c ∷ t) zero f s = rw (eq-eqb 0 c.name.0 (sym (s (omega arith))))
-live_rows_first_from_lem (c ∷ t) (suc k) f s = rw (below_differs (f 0 (omega arith))) (live_rows_first_from_lem t k (λ i l. f (suc i) (omega arith)) (λ l. s (omega arith)))
+live_rows_first_from [] zero f s = refl
+live_rows_first_from [] (suc k) f s = refl
+live_rows_first_from (c ∷ t) zero f s = rw (eq-eqb 0 c.name.0 (sym (s (omega arith))))
+live_rows_first_from (c ∷ t) (suc k) f s = rw (below_differs (f 0 (omega arith))) (live_rows_first_from t k (λ i l. f (suc i) (omega arith)) (λ l. s (omega arith)))
 
-empty_row_zero_lem : (c : Cap) → is_empty_row c ≡ true → named 0 c ≡ true
-empty_row_zero_lem c h = eq-eqb 0 c.name.0 (sym (ap (λ (d : Cap). d.name.0) (empty_row_empty_lem c h)))
+empty_row_zero : (c : Cap) → is_empty_row c ≡ true → named 0 c ≡ true
+empty_row_zero c h = eq-eqb 0 c.name.0 (sym (ap (λ (d : Cap). d.name.0) (empty_row_empty c h)))
 
 filter_from : (t : List Cap) (k : ℕ) → Filled t k → all is_empty_row (drop k t) ≡ true → k ≤ length t → filter (λ c. not (named 0 c)) t ≡ take k t
 filter_from [] zero f b l = refl
 filter_from [] (suc k) f b l = absurd (not-suc-le-zero l)
-filter_from (c ∷ t) zero f b l = let p = and_both (is_empty_row c) (all is_empty_row t) b in rw (empty_row_zero_lem c p.0) (filter_from t zero (λ i m. absurd (omega arith)) p.1 (omega arith))
+filter_from (c ∷ t) zero f b l = let p = and_both (is_empty_row c) (all is_empty_row t) b in rw (empty_row_zero c p.0) (filter_from t zero (λ i m. absurd (omega arith)) p.1 (omega arith))
 filter_from (c ∷ t) (suc k) f b l = rw (below_differs (f 0 (omega arith)), filter_from t k (λ i m. f (suc i) (omega arith)) b (le_of_suc-le-suc l))
 
 pub before_reverse : (T : List Cap) (k : ℕ) → k ≤ length T → reverse (take k T) ≡ before T k
@@ -145,16 +145,16 @@ before_lent T n r b l z =
         get_or-drop r T j empty_row ∙ z (r + j) (omega arith) (omega arith) ∙ sym (get_or-replicate (n - r) j empty_row empty_row s))
 
 -- one row more is all zeros, or not
-pub empty_row_step_lem : (T : List Cap) (i : ℕ) → i < length T → all is_empty_row (drop i T) ≡ is_empty_row (get_or T i empty_row) && all is_empty_row (drop (i + 1) T)
-empty_row_step_lem T i m = rw (drop-cons T i empty_row m, add-one)
+pub empty_row_step : (T : List Cap) (i : ℕ) → i < length T → all is_empty_row (drop i T) ≡ is_empty_row (get_or T i empty_row) && all is_empty_row (drop (i + 1) T)
+empty_row_step T i m = rw (drop-cons T i empty_row m, add-one)
 
-pub empty_row_end_lem : (T : List Cap) (i : ℕ) → i ≡ length T → all is_empty_row (drop i T) ≡ true
-empty_row_end_lem T i e = rw (e, drop-length)
+pub empty_row_end : (T : List Cap) (i : ℕ) → i ≡ length T → all is_empty_row (drop i T) ≡ true
+empty_row_end T i e = rw (e, drop-length)
 
 -- k of the n rows are live
 module _ (T : List Cap) (n k : ℕ) (h : Front T n k) (l : length T ≡ n) where
-  pub live_rows_first_front_lem : live_rows_first T ≡ all is_empty_row (drop k T)
-  live_rows_first_front_lem = live_rows_first_from_lem T k h.filled (λ m. h.stop (omega arith))
+  pub live_rows_first_front : live_rows_first T ≡ all is_empty_row (drop k T)
+  live_rows_first_front = live_rows_first_from T k h.filled (λ m. h.stop (omega arith))
 
   pub live_front : all is_empty_row (drop k T) ≡ true → live_rows T ≡ before T k
   unfolding live_rows
@@ -166,11 +166,11 @@ module _ (T : List Cap) (n k : ℕ) (h : Front T n k) (l : length T ≡ n) where
 
   pub order_zeros : (issued : ℕ) → all is_empty_row (drop k T) ≡ false → in_order T issued ≡ false
   unfolding in_order
-  order_zeros issued b = rw (live_rows_first_front_lem, b, and-false)
+  order_zeros issued b = rw (live_rows_first_front, b, and-false)
 
   pub order_rest : (issued : ℕ) → n ≤ 1024 → issued ≤ 1000000 → all is_empty_row (drop k T) ≡ true → in_order T issued ≡ rows_in_order (suc issued) (before T k)
   unfolding in_order
-  order_rest issued m i b = rw (le-leb (length T) 1024 (omega arith), live_rows_first_front_lem, b, le-leb issued 1000000 i, live_front b)
+  order_rest issued m i b = rw (le-leb (length T) 1024 (omega arith), live_rows_first_front, b, le-leb issued 1000000 i, live_front b)
 
 -- a table of more than 1,024 rows is not in order
 pub too_many : (ws : List (List ℕ)) (issued : ℕ) → 1024 < length ws → in_order (rows_in ws) issued ≡ false

@@ -19,7 +19,7 @@ use Rattle.model.specs.Refusals.{unfit, unfit_slot, unfit_stored, table_in, judg
 use Rattle.model.specs.Slots.{Memory, Slot, Nothing, Stored, unstored}
 use Rattle.model.specs.Step.{State, view, outcome, answer, after, initial}
 use Rattle.model.specs.Table.{live_rows, in_order}
-use Rattle.model.proofs.Offered.{All, All_get_d, All_map, All_replicate, All_set, InSlot, brought, fit_all, fit_not_1, fit_order, fit_sheet, length_lent, next_fits, none_sized, order_after, order_fresh, ordered, rows_in_order_wider_lem}
+use Rattle.model.proofs.Offered.{All, All_get_d, All_map, All_replicate, All_set, InSlot, brought, fit_all, fit_not_1, fit_order, fit_sheet, length_lent, next_fits, none_sized, order_after, order_fresh, ordered, rows_in_order_wider}
 use Rattle.text.specs.Line.{lines_of}
 use Rattle.text.specs.Result.{Result, value, refused}
 use Rattle.text.specs.declared.spelling.Spelling.{Spelling}
@@ -96,7 +96,7 @@ module _ (limits : Limits) where
   ready_later rows issued later more few Nothing r = tt
   ready_later rows issued later more few (Stored m) r =
       let o = ordered m.table issued r.order in
-      record { size = r.size; order = rw (o.few, o.rest_is_empty, few) (rows_in_order_wider_lem (suc issued) (suc later) (live_rows m.table) (omega arith) o.rise); sheet = r.sheet }
+      record { size = r.size; order = rw (o.few, o.rest_is_empty, few) (rows_in_order_wider (suc issued) (suc later) (live_rows m.table) (omega arith) o.rise); sheet = r.sheet }
 
   -- it is so of what is lent, and of what is stored it stays so
   ready_after : (sheet : Sheet) (h : State) (q : Request) → unfit limits (view h) ≡ false → AllReady h h.slots → AllReady (after sheet h q) (after sheet h q).slots

@@ -10,7 +10,7 @@ use Rattle.table.specs.Words.{rows_in}
 use Rattle.table.specs.Rows.{name_at, parent_at, before, Found}
 use Rattle.model.proofs.Offered.{clash}
 use Rattle.table.proofs.Laws.Places.{places_none, places_more}
-use Rattle.table.proofs.Laws.Ordered.{checked_none, checked_more, checked_all, fails_name, fails_place, rows_in_order_rise_lem}
+use Rattle.table.proofs.Laws.Ordered.{checked_none, checked_more, checked_all, fails_name, fails_place, rows_in_order_rise}
 use Rattle.table.proofs.ordered.rows_in_order.Goals as goal
 
 pub loop-i-init : goal.loop-i-init
@@ -35,13 +35,13 @@ pub find_near-q-requires : goal.find_near-q-requires
 find_near-q-requires c = let T = rows_in c.args.table.now in
     let i : ℕ = c.loop-i.i in
     let n : name_at T i ≡ c.row_at-c.result.name.0 = ap (λ (d : Cap). d.name.0) (sym c.row_at-c.ensures) in
-    (omega (arith, c.requires.0, c.loop-i-test.true), rows_in_order_rise_lem T (suc c.loop-i.last) i (λ j l. c.requires.1 j (omega (arith, c.loop-i-test.true, l))) c.loop-i.invariant.1.up)
+    (omega (arith, c.requires.0, c.loop-i-test.true), rows_in_order_rise T (suc c.loop-i.last) i (λ j l. c.requires.1 j (omega (arith, c.loop-i-test.true, l))) c.loop-i.invariant.1.up)
 
 pub row_in_order-requires : goal.row_in_order-requires
 row_in_order-requires c = let T = rows_in c.args.table.now in
     let i : ℕ = c.loop-i.i in
     let n : name_at T i ≡ c.row_at-c.result.name.0 = ap (λ (d : Cap). d.name.0) (sym c.row_at-c.ensures) in
-    (omega (arith, c.requires.0, c.loop-i-test.true), rows_in_order_rise_lem T (suc c.loop-i.last) i (λ j l. c.requires.1 j (omega (arith, c.loop-i-test.true, l))) c.loop-i.invariant.1.up, c.find_near-q.ensures)
+    (omega (arith, c.requires.0, c.loop-i-test.true), rows_in_order_rise T (suc c.loop-i.last) i (λ j l. c.requires.1 j (omega (arith, c.loop-i-test.true, l))) c.loop-i.invariant.1.up, c.find_near-q.ensures)
 
 pub returns-then-not-row_in_order : goal.returns-then-not-row_in_order
 returns-then-not-row_in_order c = let T = rows_in c.args.table.now in
