@@ -72,12 +72,7 @@ pub fn kz_abi_write_event(event: &Words, names: &[u32], out: &mut [u8]) -> u64
 }
 
 // Reads a line: the words of the request, and its names where it drops names together.
-pub fn kz_abi_read_event(
-    named: u32,
-    line: &[u8],
-    event: &mut Words,
-    names: &mut [u32; 64],
-) -> u64
+pub fn kz_abi_read_event(named: u32, line: &[u8], event: &mut Words, names: &mut [u32; 64]) -> u64
     ensures { (result ≡ packed_read (read_request Unlimited (spelling_in named) line.now))
         × (event.new ≡ event_after (read_request Unlimited (spelling_in named) line.now) event.old)
         × (names.new ≡ group_after (read_request Unlimited (spelling_in named) line.now) names.old) }
@@ -125,12 +120,7 @@ pub fn kz_abi_write_sheet(sheet: &[u8], out: &mut [u8]) -> u64
 }
 
 // Writes what `capcheck` prints of an input. The memory for states is lent to work in: it is emptied first, and has then what the run stored.
-pub fn kz_abi_check(
-    input: &[u8],
-    stored: &mut [Row],
-    copies: &mut [u8],
-    out: &mut [u8],
-) -> u64
+pub fn kz_abi_check(input: &[u8], stored: &mut [Row], copies: &mut [u8], out: &mut [u8]) -> u64
     ensures { (result ≡ packed_result (written true (check_with (emptied (states_in stored.old copies.old)) input.now) out.old))
         × (out.new ≡ Write.stored true (check_with (emptied (states_in stored.old copies.old)) input.now) out.old)
         × (states_in stored.new copies.new ≡ stored_with (emptied (states_in stored.old copies.old)) input.now) }
