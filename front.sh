@@ -53,7 +53,7 @@ look_for() {
 build_program() {
     made=$here/crates/$name/out/$name
     (cd "$here/crates/$name" && rt run) </dev/null >/dev/null || return 1
-    [ ! -x "$made" ] || { mkdir -p "${program%/*}" && cp "$made" "$program.new" && mv -f "$program.new" "$program"; }
+    [ ! -x "$made" ] || { mkdir -p "${program%/*}" && cp "$made" "$program.$$" && mv -f "$program.$$" "$program"; }
 }
 
 # find_program: in the tree the program is built first where it is missing or older than a source.

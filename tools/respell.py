@@ -3,8 +3,8 @@
 
     tools/respell.py [--report]
 
-It was run once, after /opt/rattle/port/port.py and before any edit by hand: in specs/ and proofs/, in the clauses and comments of src/, and
-in the documents, a word of antt that was written `rowsIn` or `rows-in` is `rows_in`; types, modules and constructors keep their camel case,
+It was run once, after the kit's port.py and before any edit by hand: in specs/ and proofs/, and in the
+clauses and comments of src/, a word of antt that was written `rowsIn` or `rows-in` is `rows_in`; types, modules and constructors keep their camel case,
 and so does a type's name within a word (`All-map` is `All_map`). Names that a file imports from the kit, functions of src/, and the names
 that the check makes (`returns-2`) stay. With --report it changes nothing, and lists the names that would fall together.
 """
