@@ -54,8 +54,8 @@ returns-then-events-kinds c =
     let p = counted (all is_five a.kinds.now) (ap counted_of (sym c.in-All.is) ∙ c.count_kinds-counted.ensures) in
     let h = lengths_has cols (counts_of a.kinds.now) (lengths_found cols p.1 c.lengths_fit.ensures ∙ not-false c.lengths_fit.result c.if-not-lengths_fit.false-raw) in
     let r = sym c.are_rights.ensures ∙ not-false c.are_rights.result c.if-not-are_rights.false-raw in
-    let t = asks_fits cols (record { few = c.if-kinds-gt4096.false; five = p.0; has = h; rights = r }) in
-    from_short cols out t c.if-events-kinds.true
+    let fit = asks_fits cols (record { few = c.if-kinds-gt4096.false; five = p.0; has = h; rights = r }) in
+    from_short cols out fit c.if-events-kinds.true
 
 pub take_kinds-requires : goal.take_kinds-requires
 take_kinds-requires c =
