@@ -1,9 +1,7 @@
 -- What the contracts of `capsize` cite: a trace that was read is not too long.
 -- Assumes nothing.
-use Rattle.std.specs.Prelude.{◌≤◌}
-use Rattle.console.specs.declared.Input.{Input}
-use Rattle.console.specs.declared.Input.TheVariants.{Read, Failed}
+use Rattle.std.specs.Prelude.{ℕ, ◌≤◌, None, Option, Some}
 
-abbrev pub Short : Input → Type 0
-Short (Read n) = n ≤ 65536
-Short Failed = Unit {0}
+abbrev pub Short : Option ℕ → Type 0
+Short (Some n) = n ≤ 65536
+Short None = Unit {0}

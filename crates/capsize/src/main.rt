@@ -7,7 +7,7 @@ ghost use Rattle.std.specs.Prelude.{◌≤◌, ◌≡◌, length};
 ghost use Rattle.console.specs.Read.{ReadInto};
 ghost use Rattle.capsize.specs.Read.{Short};
 
-use console::{Input, print, read_input};
+use console::{print, read_input};
 use std::env::{Env, FillError};
 use std::fs::File;
 use std::io::Read;
@@ -41,23 +41,28 @@ fn print_text(rt: &HostRuntime, text: &[u8]) -> bool {
 }
 
 // Reads a trace from a reader. Of one that could not be read to its end, or is too long, that is said.
-fn read_trace<R: Read>(rt: &HostRuntime, reader: &mut R, name: &[u8], buf: &mut [u8]) -> Input
+fn read_trace<R: Read>(
+    rt: &HostRuntime,
+    reader: &mut R,
+    name: &[u8],
+    buf: &mut [u8],
+) -> Option<usize>
     ensures { Short result }
 {
     let read = read_input(reader, buf);
     match read {
-        Input::Read(length) => {
+        Some(length) => {
             if length <= LONGEST {
-                return Input::Read(length);
+                return Some(length);
             }
             if print_text(rt, b"(long)\n") {
                 say(rt, name, b" is longer than 65,536 bytes");
             }
-            Input::Failed
+            None
         }
-        Input::Failed => {
+        None => {
             say(rt, name, b" could not be read to its end");
-            Input::Failed
+            None
         }
     }
 }
@@ -74,7 +79,7 @@ fn open_file(rt: &HostRuntime, name: &[u8]) -> Option<File> {
 }
 
 // Reads a trace from the file of this name.
-fn read_file(rt: &HostRuntime, name: &[u8], buf: &mut [u8]) -> Input
+fn read_file(rt: &HostRuntime, name: &[u8], buf: &mut [u8]) -> Option<usize>
     ensures { Short result }
 {
     if is_input(name) {
@@ -84,13 +89,13 @@ fn read_file(rt: &HostRuntime, name: &[u8], buf: &mut [u8]) -> Input
         Some(mut file) => read_trace(rt, &mut file, name, buf),
         None => {
             say(rt, b"cannot open ", name);
-            Input::Failed
+            None
         }
     }
 }
 
 // Reads a client's trace from the file that an argument names. One that is too long for a path is taken as empty, which no file's name is.
-fn read_client(rt: &HostRuntime, argument: usize, buf: &mut [u8]) -> Input
+fn read_client(rt: &HostRuntime, argument: usize, buf: &mut [u8]) -> Option<usize>
     ensures { Short result }
 {
     let mut name = [0u8; PATH];
@@ -100,7 +105,12 @@ fn read_client(rt: &HostRuntime, argument: usize, buf: &mut [u8]) -> Input
 
 // Reads the traces of so many clients end to end, and notes how long each is. The program's own name stands before the arguments, so
 // that the first client's is argument 1.
-fn read_clients(rt: &HostRuntime, count: usize, text: &mut [u8], lengths: &mut [u32]) -> Input
+fn read_clients(
+    rt: &HostRuntime,
+    count: usize,
+    text: &mut [u8],
+    lengths: &mut [u32],
+) -> Option<usize>
     requires { (count ≤ 8) × (length text.old ≡ 524289) × (length lengths.old ≡ 8) }
     ensures { ReadInto result text.new }
 {
@@ -109,14 +119,14 @@ fn read_clients(rt: &HostRuntime, count: usize, text: &mut [u8], lengths: &mut [
         let end = done + LONGEST + 1;
         let read = read_client(rt, client + 1, &mut text[done..end]);
         match read {
-            Input::Read(length) => {
+            Some(length) => {
                 lengths[client] = length as u32;
                 done += length;
             }
-            Input::Failed => return Input::Failed,
+            None => return None,
         }
     }
-    Input::Read(done)
+    Some(done)
 }
 
 fn print_sizes(rt: &HostRuntime, text: &[u8], lengths: &[u32]) {
@@ -141,8 +151,8 @@ fn size_clients(rt: &HostRuntime, count: usize)
     let mut lengths = [0u32; CLIENTS];
     let read = read_clients(rt, count, &mut text, &mut lengths);
     match read {
-        Input::Read(length) => print_sizes(rt, &text[..length], &lengths[..count]),
-        Input::Failed => {}
+        Some(length) => print_sizes(rt, &text[..length], &lengths[..count]),
+        None => {}
     }
 }
 

@@ -1,8 +1,7 @@
 -- Card 12, "traces by column": the columns of a list of events, and the events of a set of columns.
 -- Assumes nothing.
-use Rattle.std.specs.Prelude.{ℕ, Bool, cond, ◌&&◌, leb, ltb, length, get_or, drop}
+use Rattle.std.specs.Prelude.{ℕ, Bool, cond, ◌&&◌, leb, ltb, length, get_or, drop, None}
 use mathlib.Core.List.{List, [], ◌∷◌, map, flat_map}
-use Rattle.model.specs.declared.NewName.TheVariants.{Unwritten}
 use Rattle.model.specs.declared.Event.{Event}
 use Rattle.model.specs.declared.Event.TheVariants.{Create, Borrow, Read, Write, Drop}
 use Rattle.model.specs.Lists.{all}
@@ -87,7 +86,7 @@ has_right k = ltb k 3
 
 -- the event of a kind with these values, of which it has those that its kind has; another kind stands for an event of no form
 abbrev pub event_from : ℕ → ℕ → ℕ → ℕ → ℕ → Event
-event_from kind name start length right = event_with Unwritten kind name start length (plain_terms right)
+event_from kind name start length right = event_with None kind name start length (plain_terms right)
 
 -- what is left of a column behind an event, where that has an entry and where it has none
 abbrev pub behind : Bool → List ℕ → List ℕ

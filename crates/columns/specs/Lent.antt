@@ -1,21 +1,20 @@
 -- Card 12, "traces by column": what either way answers, and what the lent lists then hold.
 -- Assumes nothing.
-use Rattle.std.specs.Prelude.{ℕ, Bool, cond, ◌&&◌, List, [], ◌∷◌, ◌++◌, map, leb, length, drop}
+use Rattle.std.specs.Prelude.{ℕ, Bool, cond, ◌&&◌, List, [], ◌∷◌, ◌++◌, map, leb, length, drop, Err, Ok, Result as Returned}
+use Rattle.model.specs.declared.Refusal.{Refusal}
 use Rattle.model.specs.declared.Event.{Event}
 use Rattle.model.specs.Lists.{all}
 use Rattle.model.specs.Answers.{number}
 use Rattle.text.specs.Result.{Result, value, refused}
 use Rattle.kelzoud_events.specs.Interface.{packed, event_in}
 use Rattle.columns.specs.declared.Used.{Used}
-use Rattle.columns.specs.declared.Moved.{Moved}
-use Rattle.columns.specs.declared.Moved.TheVariants.{All, Refused}
 use Rattle.columns.specs.Form.{event_words, is_event}
 use Rattle.columns.specs.Columns.{Columns, columns, to_columns, from_columns}
 
--- what each case of `Moved` stands for
-abbrev pub moved_of : Moved → Result Used
-moved_of (All u) = value u
-moved_of (Refused r) = refused (number r)
+-- what each case of the code's answer stands for
+abbrev pub moved_of : Returned Used Refusal → Result Used
+moved_of (Ok u) = value u
+moved_of (Err r) = refused (number r)
 
 -- "Each way answers how many entries it used in each list."
 abbrev pub used : ℕ → Columns → Used

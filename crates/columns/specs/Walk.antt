@@ -1,13 +1,11 @@
 -- Columns by their kinds, for the functions below the public calls: how many entries there are, and which words are an event's.
 -- Assumes nothing.
-use Rattle.std.specs.Prelude.{ℕ, ◌+◌, Bool, cond, ◌&&◌, ◌||◌, List, [], ◌∷◌, map, eqb, leb, get_or}
+use Rattle.std.specs.Prelude.{ℕ, ◌+◌, Bool, cond, ◌&&◌, ◌||◌, List, [], ◌∷◌, map, eqb, leb, get_or, None, Option, Some}
 use Rattle.model.specs.Lists.{all}
 use Rattle.model.specs.Table.{is_right}
 use Rattle.text.specs.Result.{Result, value, refused}
 use Rattle.columns.specs.declared.Used.{Used}
 use Rattle.columns.specs.declared.counts.Counts.{Counts}
-use Rattle.columns.specs.declared.counts.Counted.{Counted}
-use Rattle.columns.specs.declared.counts.Counted.TheVariants.{All, Other}
 use Rattle.columns.specs.Form.{is_event}
 use Rattle.columns.specs.Columns.{has_name, has_span, has_right}
 
@@ -59,9 +57,9 @@ counts_of (k ∷ kinds) = with_kind k (counts_of kinds)
 abbrev pub used_by : ℕ → Counts → Used
 used_by events c = record { events = events; kinds = events; names = c.names; starts = c.spans; lengths = c.spans; rights = c.rights }
 
-abbrev pub counted_of : Counted → Result Counts
-counted_of (All c) = value c
-counted_of Other = refused 2
+abbrev pub counted_of : Option Counts → Result Counts
+counted_of (Some c) = value c
+counted_of None = refused 2
 
 -- the counts of a lent list of events, and of a column of kinds
 abbrev pub kinds_in : List (List ℕ) → List ℕ

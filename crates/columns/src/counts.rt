@@ -1,6 +1,6 @@
 // How many entries events of each kind have in each column.
 ghost use Rattle.std.specs.Prelude.{◌≡◌, ◌<◌, ◌≤◌};
-ghost use Rattle.columns.specs.Walk.{count_if, with_kind, used_by};
+ghost use Rattle.columns.specs.Walk.{with_kind, used_by};
 
 use crate::Used;
 
@@ -12,30 +12,16 @@ pub struct Counts {
     pub rights: usize,
 }
 
-// Those of a list, or that it has an event of no form or a kind that is none.
-#[derive(Clone, Copy)]
-pub enum Counted {
-    All(Counts),
-    Other,
-}
-
-// One more, if there is an entry.
-fn count_if(has: bool, count: usize) -> usize
-    requires { count < 4096 }
-    ensures { result ≡ count_if has count }
-{
-    if has { count + 1 } else { count }
-}
-
 // One event more, of a kind from 1 to 5. Internal: the caller keeps the counts below 4,096.
+// The kind stays the number that C lends (`kz_event`, `kz_columns`).
 pub fn with_kind(kind: u32, counts: Counts) -> Counts
     requires { (counts.names < 4096) × (counts.spans < 4096) × (counts.rights < 4096) }
     ensures { result ≡ with_kind kind counts }
 {
     Counts {
-        names: count_if(1 < kind, counts.names),
-        spans: count_if(kind < 5, counts.spans),
-        rights: count_if(kind < 3, counts.rights),
+        names: counts.names + (1 < kind) as usize,
+        spans: counts.spans + (kind < 5) as usize,
+        rights: counts.rights + (kind < 3) as usize,
     }
 }
 

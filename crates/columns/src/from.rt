@@ -1,36 +1,24 @@
 // Columns into events.
+// Kinds and rights stay numbers here (`count_kinds`, `words_from`, `take_kinds`, `from_columns`): C lends columns of any bytes (`kz_columns`), and
+// each gets an answer.
 ghost use Rattle.std.specs.Prelude.{◌≡◌, true, map, ◌<◌, ◌≤◌, length, get_or};
 ghost use Rattle.model.specs.Lists.{all};
 ghost use Rattle.model.specs.Table.{is_right};
 ghost use Rattle.columns.specs.Form.{event_words};
 ghost use Rattle.columns.specs.Columns.{columns, event_from, events_from};
 ghost use Rattle.columns.specs.Lent.{over, moved_of, moved_from, stored_from};
-ghost use Rattle.columns.specs.Walk.{is_five, count_if, counted_of, kind_counts, lengths_fit, kept};
+ghost use Rattle.columns.specs.Walk.{is_five, counted_of, kind_counts, lengths_fit, kept};
 
-use crate::Moved;
-use crate::counts::{Counted, Counts, used_by, with_kind};
+use crate::Used;
+use crate::counts::{Counts, used_by, with_kind};
 use crate::words::is_five;
 use kelzoud_events::events::Words;
 use model::Refusal;
 use table::ordered::is_right;
 
-fn wide(x: u8) -> u32
-    ensures { result ≡ x }
-{
-    x as u32
-}
-
-// One more, if there is an entry, in a number of 16 bits.
-fn count_short(has: bool, count: u16) -> u16
-    requires { count < 4096 }
-    ensures { result ≡ count_if has count }
-{
-    if has { count + 1 } else { count }
-}
-
 // How many entries a column of kinds asks for, if each is one of the five. All are looked at, none ends the loop, and the counts are short, so that
 // many kinds are counted at a time.
-fn count_kinds(kinds: &[u8]) -> Counted
+fn count_kinds(kinds: &[u8]) -> Option<Counts>
     requires { length kinds.now ≤ 4096 }
     ensures { counted_of result ≡ kind_counts kinds.now }
 {
@@ -38,23 +26,21 @@ fn count_kinds(kinds: &[u8]) -> Counted
     let mut spans: u16 = 0;
     let mut rights: u16 = 0;
     let mut five = true;
-    let mut i: usize = 0;
-    while i < kinds.len() {
-        let kind = wide(kinds[i]);
-        five = five & is_five(kind);
-        names = count_short(1 < kind, names);
-        spans = count_short(kind < 5, spans);
-        rights = count_short(kind < 3, rights);
-        i += 1;
+    for byte in kinds {
+        let kind = *byte as u32;
+        five &= is_five(kind);
+        names += (1 < kind) as u16;
+        spans += (kind < 5) as u16;
+        rights += (kind < 3) as u16;
     }
     if five {
-        Counted::All(Counts {
+        Some(Counts {
             names: names as usize,
             spans: spans as usize,
             rights: rights as usize,
         })
     } else {
-        Counted::Other
+        None
     }
 }
 
@@ -71,33 +57,21 @@ fn are_rights(rights: &[u8]) -> bool
     ensures { result ≡ all is_right rights.now }
 {
     let mut good = true;
-    let mut i: usize = 0;
-    while i < rights.len() {
-        good = good & is_right(wide(rights[i]));
-        i += 1;
+    for right in rights {
+        good &= is_right(*right as u32);
     }
     good
 }
 
-// What stands at a place of a column, and 0 behind its end.
-fn word_at(column: &[u32], at: usize) -> u32
-    ensures { result ≡ get_or column.now at 0 }
+// What stands at a place of a column, and the value that is given for it behind the column's end.
+fn entry_at<T: Copy>(column: &[T], at: usize, behind: T) -> T
+    ensures { result ≡ get_or column.now at behind }
 {
-    if at < column.len() { column[at] } else { 0 }
-}
-
-// The same of a column of bytes.
-fn byte_at(column: &[u8], at: usize) -> u32
-    ensures { result ≡ get_or column.now at 0 }
-{
-    if at < column.len() {
-        wide(column[at])
-    } else {
-        0
-    }
+    column.get(at).copied().unwrap_or(behind)
 }
 
 // A value where there is one.
+// A flag and a value, since a word that a kind lacks is 0 in C (`kz_event`; `kept`, columns/specs/Walk).
 fn kept(has: bool, x: u32) -> u32
     ensures { result ≡ kept has x }
 {
@@ -143,16 +117,14 @@ fn take_kinds(
         spans: 0,
         rights: 0,
     };
-    let mut i: usize = 0;
-    while i < kinds.len() {
-        let kind = wide(kinds[i]);
-        let name = word_at(names, at.names);
-        let start = word_at(starts, at.spans);
-        let length = word_at(lengths, at.spans);
-        let right = byte_at(rights, at.rights);
+    for (i, byte) in kinds.iter().enumerate() {
+        let kind = *byte as u32;
+        let name = entry_at(names, at.names, 0);
+        let start = entry_at(starts, at.spans, 0);
+        let length = entry_at(lengths, at.spans, 0);
+        let right = entry_at(rights, at.rights, 0) as u32;
         events[i] = words_from(kind, name, start, length, right);
         at = with_kind(kind, at);
-        i += 1;
     }
 }
 
@@ -164,16 +136,16 @@ pub fn from_columns(
     lengths: &[u32],
     rights: &[u8],
     events: &mut [Words],
-) -> Moved
+) -> Result<Used, Refusal>
     ensures { (moved_of result ≡ moved_from (columns kinds.now names.now starts.now lengths.now rights.now) events.old)
         × (events.new ≡ stored_from (columns kinds.now names.now starts.now lengths.now rights.now) events.old) }
 {
     if kinds.len() > 4096 {
-        return Moved::Refused(Refusal::Misspelt);
+        return Err(Refusal::Misspelt);
     }
     let counted = count_kinds(kinds);
-    let Counted::All(counts) = counted else {
-        return Moved::Refused(Refusal::Misspelt);
+    let Some(counts) = counted else {
+        return Err(Refusal::Misspelt);
     };
     if !lengths_fit(
         counts,
@@ -182,14 +154,14 @@ pub fn from_columns(
         lengths.len(),
         rights.len(),
     ) {
-        return Moved::Refused(Refusal::Misspelt);
+        return Err(Refusal::Misspelt);
     }
     if !are_rights(rights) {
-        return Moved::Refused(Refusal::Misspelt);
+        return Err(Refusal::Misspelt);
     }
     if events.len() < kinds.len() {
-        return Moved::Refused(Refusal::BufferTooShort);
+        return Err(Refusal::BufferTooShort);
     }
     take_kinds(kinds, names, starts, lengths, rights, events);
-    Moved::All(used_by(kinds.len(), counts))
+    Ok(used_by(kinds.len(), counts))
 }

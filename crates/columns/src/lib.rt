@@ -1,6 +1,7 @@
 // Card 12, "traces by column": events with a spelling in document 01's form, put into columns of like values, and back.
 //
 // An event stands in a lent list as the twelve words of the C interface. Kinds and rights are bytes, all other entries are words.
+// C lends them so (`kz_event`, `kz_columns`), of any value, and each gets an answer: so kinds and rights are numbers in all of the crate.
 #![tactic(auto)]
 
 ghost use Rattle.std.specs.Prelude.{◌≡◌};
@@ -29,23 +30,16 @@ pub struct Used {
     pub rights: u32,
 }
 
-// What either way answers: the entries used, or refusal 2 or 11.
-#[derive(Clone, Copy)]
-pub enum Moved {
-    All(Used),
-    Refused(Refusal),
-}
-
 // The answer as one number; the counts go into the words that are lent for them.
-fn answer_moved(moved: Moved, used: &mut [u32; 6]) -> u64
+fn answer_moved(moved: Result<Used, Refusal>, used: &mut [u32; 6]) -> u64
     ensures { (result ≡ packed_moved (moved_of moved)) × (used.new ≡ counts_after (moved_of moved) used.old) }
 {
     match moved {
-        Moved::All(u) => {
+        Ok(u) => {
             *used = [u.events, u.kinds, u.names, u.starts, u.lengths, u.rights];
             pack(0, u.events as u64)
         }
-        Moved::Refused(refusal) => pack_refusal(refusal, 0),
+        Err(refusal) => pack_refusal(refusal, 0),
     }
 }
 

@@ -1,4 +1,5 @@
 // Events into columns.
+// Kinds and rights stay numbers here (`put_events`, `to_columns`), as C lends and takes them (`kz_event`, `kz_columns`).
 ghost use Rattle.std.specs.Prelude.{◌≡◌, true, cond, map, ◌≤◌, ltb, length, set};
 ghost use Rattle.model.specs.Lists.{all};
 ghost use Rattle.kelzoud_events.specs.Interface.{event_in};
@@ -7,14 +8,14 @@ ghost use Rattle.columns.specs.Columns.{columns, columns_of};
 ghost use Rattle.columns.specs.Lent.{room, over_columns, moved_of, moved_to, stored_to};
 ghost use Rattle.columns.specs.Walk.{counts_of, counted_of, kinds_in, event_counts, room_for};
 
-use crate::Moved;
-use crate::counts::{Counted, Counts, used_by, with_kind};
+use crate::Used;
+use crate::counts::{Counts, used_by, with_kind};
 use crate::words::is_event;
 use kelzoud_events::events::Words;
 use model::Refusal;
 
 // How many entries a list of events gets, if each is of document 01's form.
-fn count_events(events: &[Words]) -> Counted
+fn count_events(events: &[Words]) -> Option<Counts>
     requires { length events.now ≤ 4096 }
     ensures { counted_of result ≡ event_counts events.now }
 {
@@ -23,16 +24,13 @@ fn count_events(events: &[Words]) -> Counted
         spans: 0,
         rights: 0,
     };
-    let mut i: usize = 0;
-    while i < events.len() {
-        let w = events[i];
-        if !is_event(w) {
-            return Counted::Other;
+    for w in events {
+        if !is_event(*w) {
+            return None;
         }
         counts = with_kind(w[0], counts);
-        i += 1;
     }
-    Counted::All(counts)
+    Some(counts)
 }
 
 // Whether lists of these lengths have room for the entries of so many events.
@@ -54,17 +52,7 @@ fn has_room(
 
 // A value at a place below those that are used. What is no entry may be put too: the next entry is put over it, and behind the last one there is
 // no such place.
-fn put_below(column: &mut [u32], used: usize, at: usize, x: u32)
-    requires { used ≤ length column.old }
-    ensures { column.new ≡ cond (ltb at used) (set column.old at x) column.old }
-{
-    if at < used {
-        column[at] = x;
-    }
-}
-
-// The same of a column of bytes.
-fn put_byte_below(column: &mut [u8], used: usize, at: usize, x: u8)
+fn put_below<T: Copy>(column: &mut [T], used: usize, at: usize, x: T)
     requires { used ≤ length column.old }
     ensures { column.new ≡ cond (ltb at used) (set column.old at x) column.old }
 {
@@ -92,17 +80,14 @@ fn put_events(
         spans: 0,
         rights: 0,
     };
-    let mut i: usize = 0;
-    while i < events.len() {
-        let w = events[i];
+    for (i, w) in events.iter().enumerate() {
         let kind = w[0];
         kinds[i] = kind as u8;
         put_below(names, used.names, at.names, w[1]);
         put_below(starts, used.spans, at.spans, w[2]);
         put_below(lengths, used.spans, at.spans, w[3]);
-        put_byte_below(rights, used.rights, at.rights, w[4] as u8);
+        put_below(rights, used.rights, at.rights, w[4] as u8);
         at = with_kind(kind, at);
-        i += 1;
     }
 }
 
@@ -114,16 +99,16 @@ pub fn to_columns(
     starts: &mut [u32],
     lengths: &mut [u32],
     rights: &mut [u8],
-) -> Moved
+) -> Result<Used, Refusal>
     ensures { (moved_of result ≡ moved_to events.now (columns kinds.old names.old starts.old lengths.old rights.old))
         × (columns kinds.new names.new starts.new lengths.new rights.new ≡ stored_to events.now (columns kinds.old names.old starts.old lengths.old rights.old)) }
 {
     if events.len() > 4096 {
-        return Moved::Refused(Refusal::Misspelt);
+        return Err(Refusal::Misspelt);
     }
     let counted = count_events(events);
-    let Counted::All(counts) = counted else {
-        return Moved::Refused(Refusal::Misspelt);
+    let Some(counts) = counted else {
+        return Err(Refusal::Misspelt);
     };
     if !has_room(
         events.len(),
@@ -134,8 +119,8 @@ pub fn to_columns(
         lengths.len(),
         rights.len(),
     ) {
-        return Moved::Refused(Refusal::BufferTooShort);
+        return Err(Refusal::BufferTooShort);
     }
     put_events(events, counts, kinds, names, starts, lengths, rights);
-    Moved::All(used_by(events.len(), counts))
+    Ok(used_by(events.len(), counts))
 }

@@ -1,4 +1,5 @@
 // The words of an event with a spelling in document 01's form.
+// Kinds and rights stay numbers, since C lends words of any value (`kz_event`), of which `is_event` (columns/specs/Form) says which are an event's.
 ghost use Rattle.std.specs.Prelude.{◌≡◌};
 ghost use Rattle.columns.specs.Form.{is_event};
 ghost use Rattle.columns.specs.Walk.{is_five, rest_plain, right_plain, holders_plain, name_fits, span_fits};

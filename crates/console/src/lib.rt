@@ -7,13 +7,6 @@ ghost use Rattle.console.specs.Read.{ReadInto};
 use std::io::Read;
 use table::WIDTH;
 
-// What came of reading an input: so many bytes, or a read that failed.
-#[derive(Clone, Copy)]
-pub enum Input {
-    Read(usize),
-    Failed,
-}
-
 // Writes a text to standard output, or this sentence to standard error where it could not be written. Whether it was written.
 pub fn print(rt: &HostRuntime, text: &[u8], sentence: &[u8]) -> bool {
     let is_written = rt.stdout().write_all(text).is_ok();
@@ -38,7 +31,7 @@ pub fn print_check(rt: &HostRuntime, input: &[u8]) {
 }
 
 // Reads until the buffer is full or the input ends. A read that a signal interrupts before it moves a byte counts as one that failed.
-pub fn read_input<R: Read>(reader: &mut R, buf: &mut [u8]) -> Input
+pub fn read_input<R: Read>(reader: &mut R, buf: &mut [u8]) -> Option<usize>
     ensures { ReadInto result buf.new }
 {
     let mut done = 0;
@@ -46,10 +39,10 @@ pub fn read_input<R: Read>(reader: &mut R, buf: &mut [u8]) -> Input
         match reader.read(&mut buf[done..]) {
             Ok(0) => break,
             Ok(more) => done += more,
-            Err(_) => return Input::Failed,
+            Err(_) => return None,
         }
     }
-    Input::Read(done)
+    Some(done)
 }
 
 // Prints what `capcheck` prints of standard input, which is read to its end, or as far as tells that it is too long. Of an input that
@@ -59,8 +52,8 @@ pub fn check_input(rt: &HostRuntime) {
     let mut input = [0u8; 65537];
     let read = read_input(&mut rt.stdin(), &mut input);
     match read {
-        Input::Read(length) => print_check(rt, &input[..length]),
-        Input::Failed => {
+        Some(length) => print_check(rt, &input[..length]),
+        None => {
             let _ = rt
                 .stderr()
                 .write_all(b"capcheck: the input could not be read to its end\n");

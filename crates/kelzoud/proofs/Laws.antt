@@ -1,5 +1,6 @@
 -- The answer of a run, taken apart, how many names a line reads as, and that a mark or back reads as none.
 -- Assumes nothing.
+use Rattle.std.specs.Prelude.{Ok, Err, Result as Returned}
 use mathlib.Core.Path.{◌≡◌, refl, sym, ap, ◌∙◌}
 use mathlib.Core.List.{List}
 use Prim.Native.Nat.{ℕ, ◌≤◌}
@@ -14,15 +15,14 @@ use Rattle.text.specs.Result.{Result, value, refused}
 use Rattle.text.specs.Group.{read_group, count_of}
 use Rattle.text.specs.Request.{state_of}
 use Rattle.text.proofs.Offered.{group_few, read_group_is_spelling}
-use Rattle.trace.specs.declared.run.RunAnswer.{RunAnswer}
-use Rattle.trace.specs.declared.run.RunAnswer.TheVariants.{Allowed, Refused}
+use Rattle.trace.specs.declared.run.RefusedAt.{RefusedAt}
 use Rattle.trace.specs.Run.{Ran, ran_of}
 use Rattle.kelzoud.specs.Interface.{packed_ran, packed_run, group_after}
 
 -- what a run answers and leaves, taken apart
-pub ran_parts : (a : RunAnswer) (h : State) (x : Ran State) → ran_of a h ≡ x → (h ≡ x.state) × (packed_run a ≡ packed_ran x)
-ran_parts (Allowed k) h x e = (ap (λ (r : Ran State). r.state) e, ap packed_ran e)
-ran_parts (Refused r k) h x e = (ap (λ (r : Ran State). r.state) e, ap packed_ran e)
+pub ran_parts : (a : Returned ℕ RefusedAt) (h : State) (x : Ran State) → ran_of a h ≡ x → (h ≡ x.state) × (packed_run a ≡ packed_ran x)
+ran_parts (Ok k) h x e = (ap (λ (r : Ran State). r.state) e, ap packed_ran e)
+ran_parts (Err at) h x e = (ap (λ (r : Ran State). r.state) e, ap packed_ran e)
 
 -- the names that a line reads as, and the domain that drops them
 pub record Counted (line : List ℕ) (actor n : ℕ) : Type 0 where

@@ -1,7 +1,7 @@
 -- What passes between this library and C where texts are read and written: answers, the spelling of lines, and what is left of a request that is
 -- read.
 -- Assumes nothing.
-use Rattle.std.specs.Prelude.{ℕ, cond, List, eqb}
+use Rattle.std.specs.Prelude.{ℕ, cond, List, eqb, Ok, Err, Result as Returned}
 use Rattle.std.proofs.lemmas.List.Edits.{sets}
 use Rattle.model.specs.Answers.{number}
 use Rattle.model.specs.Requests.{Request, Single, Group, Mark, Back}
@@ -9,8 +9,7 @@ use Rattle.model.specs.Step.{State}
 use Rattle.text.specs.Result.{Result, value, refused}
 use Rattle.text.specs.declared.spelling.Spelling.{Spelling}
 use Rattle.text.specs.declared.spelling.Spelling.TheVariants.{Plain, Named}
-use Rattle.trace.specs.declared.run.RunAnswer.{RunAnswer}
-use Rattle.trace.specs.declared.run.RunAnswer.TheVariants.{Allowed, Refused}
+use Rattle.trace.specs.declared.run.RefusedAt.{RefusedAt}
 use Rattle.trace.specs.Run.{Ran}
 use Rattle.kelzoud_events.specs.Interface.{packed, words_of}
 
@@ -28,9 +27,9 @@ packed_read (refused k) = packed k 0
 abbrev pub packed_ran : Ran State → ℕ
 packed_ran r = packed r.refusal r.number
 
-abbrev pub packed_run : RunAnswer → ℕ
-packed_run (Allowed lines) = packed 0 lines
-packed_run (Refused r line) = packed (number r) line
+abbrev pub packed_run : Returned ℕ RefusedAt → ℕ
+packed_run (Ok lines) = packed 0 lines
+packed_run (Err at) = packed (number at.refusal) at.line
 
 -- a line is one of a `(trace 2)` text where `named` is not 0, and else one of document 01
 abbrev pub spelling_in : ℕ → Spelling

@@ -72,6 +72,7 @@ pub fn kz_abi_write_event(event: &Words, names: &[u32], out: &mut [u8]) -> u64
 }
 
 // Reads a line: the words of the request, and its names where it drops names together.
+// `named` stays the word that C hands over, of any value (`kz_read_event`).
 pub fn kz_abi_read_event(named: u32, line: &[u8], event: &mut Words, names: &mut [u32; 64]) -> u64
     ensures { (result ≡ packed_read (read_request Unlimited (spelling_in named) line.now))
         × (event.new ≡ event_after (read_request Unlimited (spelling_in named) line.now) event.old)

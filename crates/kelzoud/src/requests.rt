@@ -10,14 +10,15 @@ ghost use Rattle.kelzoud.specs.Interface.{packed_read, spelling_in, event_after,
 
 use kelzoud_events::answers::{pack, pack_refusal};
 use kelzoud_events::events::{Words, back_words, group_words, mark_words, words_of};
-use model::{Asked, Event, NewName, Work};
-use text::group::{GroupRead, read_group, write_group};
-use text::read::{EventRead, read_event};
+use model::{Asked, Event, Name, Refusal, Work};
+use text::group::{read_group, write_group};
+use text::read::read_event;
 use text::spelling::Spelling;
-use text::states::{StateRead, read_state, write_back, write_mark};
-use text::write::{Written, write_event};
+use text::states::{read_state, write_back, write_mark};
+use text::write::write_event;
 
 // The spelling that C asks for.
+// It asks by a word of any value (`kz_read_event`), and so a number is taken here (`spelling_in`, kelzoud/specs/Interface).
 pub fn spelling_in(named: u32) -> Spelling
     ensures { result ≡ spelling_in named }
 {
@@ -28,12 +29,12 @@ pub fn spelling_in(named: u32) -> Spelling
     }
 }
 
-fn spelling_with(new: NewName) -> Spelling
+fn spelling_with(new: Option<Name>) -> Spelling
     ensures { result ≡ spelling_with new }
 {
     match new {
-        NewName::Unwritten => Spelling::Plain,
-        NewName::Written(_) => Spelling::Named,
+        None => Spelling::Plain,
+        Some(_) => Spelling::Named,
     }
 }
 
@@ -51,7 +52,7 @@ fn spelling_of(event: Event) -> Spelling
 }
 
 // Writes the line of work.
-fn write_work(work: Work, names: &[u32], out: &mut [u8]) -> Written
+fn write_work(work: Work, names: &[u32], out: &mut [u8]) -> Result<usize, Refusal>
     ensures { outcome result out.new ≡ write_request (work_of Unlimited work names.now) out.old }
 {
     match work {
@@ -61,7 +62,7 @@ fn write_work(work: Work, names: &[u32], out: &mut [u8]) -> Written
 }
 
 // Writes the line of what is asked.
-pub fn write_request(asked: Asked, names: &[u32], out: &mut [u8]) -> Written
+pub fn write_request(asked: Asked, names: &[u32], out: &mut [u8]) -> Result<usize, Refusal>
     ensures { outcome result out.new ≡ write_request (request_of Unlimited asked names.now) out.old }
 {
     match asked {
@@ -99,11 +100,11 @@ fn read_slot(line: &[u8], event: &mut Words) -> u64
 {
     let found = read_state(line);
     match found {
-        StateRead::Asked(asked) => {
+        Ok(asked) => {
             *event = asked_words(asked);
             pack(0, 0)
         }
-        StateRead::Refused(refusal) => pack_refusal(refusal, 0),
+        Err(refusal) => pack_refusal(refusal, 0),
     }
 }
 
@@ -115,11 +116,11 @@ fn read_names(line: &[u8], event: &mut Words, names: &mut [u32; 64]) -> u64
 {
     let found = read_group(line, names);
     match found {
-        GroupRead::Count(actor, count) => {
+        Ok((actor, count)) => {
             *event = group_words(actor, count as u32);
             pack(0, 0)
         }
-        GroupRead::Refused(_) => read_slot(line, event),
+        Err(_) => read_slot(line, event),
     }
 }
 
@@ -136,10 +137,10 @@ pub fn read_request(
 {
     let found = read_event(spelling, line);
     match found {
-        EventRead::Event(actor, read) => {
+        Ok((actor, read)) => {
             *event = words_of(actor, read);
             pack(0, 0)
         }
-        EventRead::Refused(_) => read_names(line, event, names),
+        Err(_) => read_names(line, event, names),
     }
 }

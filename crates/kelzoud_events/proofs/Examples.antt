@@ -1,11 +1,11 @@
 -- Examples of events as words, and of a batch, computed by the definitions.
 -- Assumes nothing.
+use Rattle.std.specs.Prelude.{None, Some}
 use mathlib.Core.Path.{◌≡◌, refl}
 use mathlib.Core.List.{List, [], ◌∷◌, map}
 use Prim.Native.Nat.{ℕ}
 use lib.ListN.{length, set, drop, replicate}
 use Rattle.model.specs.declared.Terms.{Terms}
-use Rattle.model.specs.declared.NewName.TheVariants.{Unwritten, Written}
 use Rattle.model.specs.declared.Event.TheVariants.{Create, Borrow, Read, Write, Drop}
 use Rattle.model.specs.Requests.{Unlimited, Limited, Caller, Request, Single, Group, Mark, Back, caller}
 use Rattle.model.specs.Slots.{Memory, Stored, unstored}
@@ -51,10 +51,10 @@ kinds : requests (7 ∷ 8 ∷ 9 ∷ []) (
     ∷ (7 ∷ 5 ∷ 1 ∷ 2 ∷ 2 ∷ 1 ∷ 9 ∷ 0 ∷ 1 ∷ 0 ∷ 1 ∷ 0 ∷ [])
     ∷ (8 ∷ 5 ∷ 1 ∷ 2 ∷ 2 ∷ 1 ∷ 9 ∷ 0 ∷ 1 ∷ 0 ∷ 1 ∷ 0 ∷ [])
     ∷ [])
-    ≡ Single (by 0) (Create Unwritten (span_of 16 64) (terms 2 0 0))
-    ∷ Single (by 0) (Create (Written (name_of 9)) (span_of 16 64) (terms 2 0 1))
-    ∷ Single (by 0) (Borrow Unwritten (name_of 5) (span_of 16 8) (terms 1 0 0))
-    ∷ Single (by 0) (Borrow (Written (name_of 0)) (name_of 5) (span_of 16 8) (terms 1 2 0))
+    ≡ Single (by 0) (Create None (span_of 16 64) (terms 2 0 0))
+    ∷ Single (by 0) (Create (Some (name_of 9)) (span_of 16 64) (terms 2 0 1))
+    ∷ Single (by 0) (Borrow None (name_of 5) (span_of 16 8) (terms 1 0 0))
+    ∷ Single (by 0) (Borrow (Some (name_of 0)) (name_of 5) (span_of 16 8) (terms 1 2 0))
     ∷ Single (by 0) (Read (name_of 5) (span_of 16 8))
     ∷ Single (by 0) (Write (name_of 5) (span_of 16 8))
     ∷ Single (by 0) (Drop (name_of 5))
@@ -67,25 +67,25 @@ kinds = refl
 
 -- an unknown kind, below and above the others, is a create whose right is 0, whatever its mark
 unknown : requests [] ((0 ∷ 0 ∷ 16 ∷ 64 ∷ 2 ∷ 0 ∷ 0 ∷ 0 ∷ 0 ∷ 0 ∷ 1 ∷ 0 ∷ []) ∷ (9 ∷ 0 ∷ 16 ∷ 64 ∷ 2 ∷ 0 ∷ 0 ∷ 0 ∷ 1 ∷ 0 ∷ 1 ∷ 0 ∷ []) ∷ (4294967295 ∷ 0 ∷ 16 ∷ 64 ∷ 2 ∷ 0 ∷ 0 ∷ 0 ∷ 0 ∷ 0 ∷ 1 ∷ 0 ∷ []) ∷ [])
-    ≡ replicate 3 (Single (by 0) (Create Unwritten (span_of 16 64) no_terms))
+    ≡ replicate 3 (Single (by 0) (Create None (span_of 16 64) no_terms))
 unfolding asked_in event_in event_with
 unknown = refl
 
 -- a right above 255 is right 0, whatever its lower byte
 rights : requests [] (map (λ right. 1 ∷ 0 ∷ 16 ∷ 64 ∷ right ∷ 0 ∷ 0 ∷ 0 ∷ 0 ∷ 0 ∷ 1 ∷ 0 ∷ []) (1 ∷ 255 ∷ 258 ∷ []))
-    ≡ map (λ right. Single (by 0) (Create Unwritten (span_of 16 64) (terms right 0 0))) (1 ∷ 255 ∷ 0 ∷ [])
+    ≡ map (λ right. Single (by 0) (Create None (span_of 16 64) (terms right 0 0))) (1 ∷ 255 ∷ 0 ∷ [])
 unfolding asked_in event_in event_with
 rights = refl
 
 -- a kind of capability above 255 is kind 3, whatever its lower byte
 capability_kinds : requests [] (map (λ kind. 2 ∷ 5 ∷ 16 ∷ 8 ∷ 1 ∷ 0 ∷ 0 ∷ kind ∷ 0 ∷ 0 ∷ 1 ∷ 0 ∷ []) (1 ∷ 255 ∷ 256 ∷ 4294967295 ∷ []))
-    ≡ map (λ kind. Single (by 0) (Borrow Unwritten (name_of 5) (span_of 16 8) (terms 1 kind 0))) (1 ∷ 255 ∷ 3 ∷ 3 ∷ [])
+    ≡ map (λ kind. Single (by 0) (Borrow None (name_of 5) (span_of 16 8) (terms 1 kind 0))) (1 ∷ 255 ∷ 3 ∷ 3 ∷ [])
 unfolding asked_in event_in event_with
 capability_kinds = refl
 
 -- a mark above 255 is mark 2, whatever its lower byte
 marks : requests [] (map (λ mark. 1 ∷ 0 ∷ 16 ∷ 64 ∷ 2 ∷ 0 ∷ 0 ∷ 0 ∷ mark ∷ 0 ∷ 1 ∷ 0 ∷ []) (0 ∷ 1 ∷ 2 ∷ 255 ∷ 256 ∷ 4294967295 ∷ []))
-    ≡ map (λ mark. Single (by 0) (Create Unwritten (span_of 16 64) (terms 2 0 mark))) (0 ∷ 1 ∷ 2 ∷ 255 ∷ 2 ∷ 2 ∷ [])
+    ≡ map (λ mark. Single (by 0) (Create None (span_of 16 64) (terms 2 0 mark))) (0 ∷ 1 ∷ 2 ∷ 255 ∷ 2 ∷ 2 ∷ [])
 unfolding asked_in event_in event_with
 marks = refl
 
@@ -98,8 +98,8 @@ domains : requests (7 ∷ 8 ∷ []) (
     ∷ (7 ∷ 0 ∷ 0 ∷ 0 ∷ 0 ∷ 0 ∷ 0 ∷ 0 ∷ 0 ∷ 63 ∷ 0 ∷ 0 ∷ [])
     ∷ (8 ∷ 4294967295 ∷ 0 ∷ 0 ∷ 0 ∷ 0 ∷ 0 ∷ 0 ∷ 0 ∷ 64 ∷ 0 ∷ 0 ∷ [])
     ∷ [])
-    ≡ Single (by 3) (Create Unwritten (span_of 16 64) (record { right = 2; kind = 0; fresh = 0; holders = 9223372036854775816 }))
-    ∷ Single (by 4294967295) (Create Unwritten (span_of 16 64) (record { right = 2; kind = 0; fresh = 0; holders = 0 }))
+    ≡ Single (by 3) (Create None (span_of 16 64) (record { right = 2; kind = 0; fresh = 0; holders = 9223372036854775816 }))
+    ∷ Single (by 4294967295) (Create None (span_of 16 64) (record { right = 2; kind = 0; fresh = 0; holders = 0 }))
     ∷ Single (by 63) (Read (name_of 5) (span_of 16 8))
     ∷ Group (by 5) (7 ∷ 8 ∷ [])
     ∷ Mark (by 63) 0
@@ -122,8 +122,8 @@ groups = refl
 
 -- words of requests: what makes nothing has no mask
 words : map words_of (
-    Single (by 3) (Create (Written (name_of 9)) (span_of 16 64) (record { right = 2; kind = 0; fresh = 1; holders = 9223372036854775816 }))
-    ∷ Single (by 0) (Borrow Unwritten (name_of 5) (span_of 16 8) (terms 1 2 0))
+    Single (by 3) (Create (Some (name_of 9)) (span_of 16 64) (record { right = 2; kind = 0; fresh = 1; holders = 9223372036854775816 }))
+    ∷ Single (by 0) (Borrow None (name_of 5) (span_of 16 8) (terms 1 2 0))
     ∷ Single (by 3) (Read (name_of 5) (span_of 16 8))
     ∷ Single (by 0) (Drop (name_of 5))
     ∷ Group (by 63) (8 ∷ 9 ∷ [])

@@ -1,6 +1,8 @@
 -- The numbers of answers: no refusal's is above 19, and a refusal and a value that are packed into one number are found again in it. And the
 -- words of a request stand for it.
 -- Assumes nothing.
+use Rattle.std.specs.Prelude.{None, Option, Some}
+use Rattle.model.specs.declared.Name.{Name}
 use mathlib.Core.Path.{◌≡◌, refl, sym, ap, ap₂, ◌∙◌}
 use mathlib.Core.List.{List, ◌++◌}
 use Prim.Native.Nat.{ℕ, ◌+◌, ◌*◌, ◌/◌, ◌%◌, ◌<◌, ◌≤◌}
@@ -10,8 +12,6 @@ use lib.ListN.{length, length-append}
 use lib.Seq.{take-append_seam}
 use borrow.Author.Tests.{lt-ltb, le-leb}
 use Rattle.model.specs.declared.Terms.{Terms}
-use Rattle.model.specs.declared.NewName.{NewName}
-use Rattle.model.specs.declared.NewName.TheVariants.{Unwritten, Written}
 use Rattle.model.specs.declared.Event.{Event}
 use Rattle.model.specs.declared.Event.TheVariants.{Create, Borrow, Read, Write, Drop}
 use Rattle.model.specs.Requests.{Limits, Caller, Single, Group, Mark, Back, caller}
@@ -79,9 +79,9 @@ packed_large k n h = rw (min-eq_right h)
 
 -- ---- the words of a request stand for it
 
-new_back : (w : NewName) → new_in (named_of w) (written_of w) ≡ w
-new_back Unwritten = refl
-new_back (Written x) = refl
+new_back : (w : Option Name) → new_in (named_of w) (written_of w) ≡ w
+new_back None = refl
+new_back (Some x) = refl
 
 -- what a create and a borrow give is in their words: bytes, with no kind of a create, and no mark of a borrow
 abbrev pub InWords : Event → Type 0
@@ -108,8 +108,8 @@ module _ (r : Terms) (h : r.right < 256) where
 -- whichever limits come with it, the domain and the event are found again
 pub event_back : (by : Caller) (limits : Limits) (e : Event) (names : List ℕ) → InWords e → request_in limits (words_of (Single by e)) names ≡ Single (caller by.actor limits) e
 unfolding words_of asked_in event_in event_with
-event_back by limits (Create w s r) names h = ap₂ (λ (x : NewName) (t : Terms). Single (caller by.actor limits) (Create x s t)) (new_back w) (root_back r h.0 h.1 h.2)
-event_back by limits (Borrow w n s r) names h = ap₂ (λ (x : NewName) (t : Terms). Single (caller by.actor limits) (Borrow x n s t)) (new_back w) (child_back r h.0 h.1 h.2)
+event_back by limits (Create w s r) names h = ap₂ (λ (x : Option Name) (t : Terms). Single (caller by.actor limits) (Create x s t)) (new_back w) (root_back r h.0 h.1 h.2)
+event_back by limits (Borrow w n s r) names h = ap₂ (λ (x : Option Name) (t : Terms). Single (caller by.actor limits) (Borrow x n s t)) (new_back w) (child_back r h.0 h.1 h.2)
 event_back by limits (Read n s) names h = refl
 event_back by limits (Write n s) names h = refl
 event_back by limits (Drop n) names h = refl

@@ -6,7 +6,7 @@ use mathlib.Core.List.{List, [], ◌∷◌, ◌++◌, map, map-append}
 use Prim.Native.Nat.{ℕ, zero, suc, ◌+◌, ◌≤◌, ◌<◌}
 use native.Mathlib.Numerals.{add-one}
 use native.Mathlib.Omega.{arith}
-use lib.ListN.{length, get_or, set, drop, replicate, length-map, length-replicate, replicate-append-replicate, get_or-map}
+use lib.ListN.{length, get_or, set, drop, replicate, length-map, get_or-map}
 use lib.Seq.{take-suc, drop-cons, set_at, append_snoc, length-take-le}
 use Rattle.model.specs.declared.Asked.{Asked}
 use Rattle.model.specs.declared.Asked.TheVariants as ask
@@ -97,10 +97,6 @@ module _ (sheet : Sheet) (limits : Limits) (h : State) (d : unfit limits (view h
     state = sym (all_unchanged ws names m).0;
     said = q ∙ ap (λ (x : List (List ℕ)). x ++ drop m out) (sym ((all_unchanged ws names m).1 ∙ ap (λ (x : ℕ). replicate x one) (requests_long limits names ws m l)));
   }
-
--- one refusal more
-pub refused_more : (i : ℕ) (out out₁ : List (List ℕ)) → i < length out → out₁ ≡ replicate i one ++ drop i out → set out₁ i one ≡ replicate (i + 1) one ++ drop (i + 1) out
-refused_more i out out₁ l q = put (replicate i one) out out₁ i one (length-replicate {A = List ℕ} i one) l q ∙ ap (λ (x : List (List ℕ)). x ++ drop (i + 1) out) (replicate-append-replicate {A = List ℕ} i 1 one)
 
 -- what a batch leaves, part by part
 abbrev pub Left : Sheet → Limits → State → List (List ℕ) → List ℕ → ℕ → List (List ℕ) → List (List ℕ) → List ℕ → List (List ℕ) → List ℕ → List ℕ → List (List ℕ) → Type 0

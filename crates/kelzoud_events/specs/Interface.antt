@@ -2,12 +2,10 @@
 -- right, whether its new name is written out, that name, the kind of capability that a borrow makes, whether what a create makes is marked, the
 -- domain that acts, and the two halves of the mask of holders that a create or borrow gives. A mark or a back has its slot in the place of a name.
 -- Assumes nothing.
-use Rattle.std.specs.Prelude.{ℕ, ◌+◌, ◌*◌, min, cond, List, [], ◌∷◌, eqb, leb, ltb, length, get_or, take, drop}
+use Rattle.std.specs.Prelude.{ℕ, ◌+◌, ◌*◌, min, cond, List, [], ◌∷◌, eqb, leb, ltb, length, get_or, take, drop, None, Option, Some}
 use Rattle.model.specs.declared.Name.{Name}
 use Rattle.model.specs.declared.Span.{Span}
 use Rattle.model.specs.declared.Terms.{Terms}
-use Rattle.model.specs.declared.NewName.{NewName}
-use Rattle.model.specs.declared.NewName.TheVariants.{Unwritten, Written}
 use Rattle.model.specs.declared.Event.{Event}
 use Rattle.model.specs.declared.Event.TheVariants.{Create, Borrow, Read, Write, Drop}
 use Rattle.model.specs.declared.Work.TheVariants as work
@@ -52,7 +50,7 @@ no_terms = record { right = 0; kind = 0; fresh = 0; holders = 0 }
 
 -- "An event is one of five kinds": create, borrow, read, write and drop are 1 to 5. The values that a kind lacks are not looked at.
 -- Another kind stands for an event that is refused 2 in itself, a create whose right is 0.
-unfoldable pub event_with : NewName → ℕ → ℕ → ℕ → ℕ → Terms → Event
+unfoldable pub event_with : Option Name → ℕ → ℕ → ℕ → ℕ → Terms → Event
 event_with new kind name start length given =
     cond (eqb kind 1) (Create new (span_of start length) (root_terms given))
     (cond (eqb kind 2) (Borrow new (name_of name) (span_of start length) (child_terms given))
@@ -74,8 +72,8 @@ abbrev pub fresh_in : ℕ → ℕ
 fresh_in fresh = cond (ltb fresh 256) fresh 2
 
 -- the new name is written out where `named` is not 0
-abbrev pub new_in : ℕ → ℕ → NewName
-new_in named written = cond (eqb named 0) Unwritten (Written (name_of written))
+abbrev pub new_in : ℕ → ℕ → Option Name
+new_in named written = cond (eqb named 0) None (Some (name_of written))
 
 -- what its words give
 abbrev pub terms_in : List ℕ → Terms
@@ -115,13 +113,13 @@ request_in limits w names = request_of limits (asked_in w) (names_in w names)
 
 -- ---- and back
 
-abbrev pub named_of : NewName → ℕ
-named_of Unwritten = 0
-named_of (Written x) = 1
+abbrev pub named_of : Option Name → ℕ
+named_of None = 0
+named_of (Some x) = 1
 
-abbrev pub written_of : NewName → ℕ
-written_of Unwritten = 0
-written_of (Written x) = x.0
+abbrev pub written_of : Option Name → ℕ
+written_of None = 0
+written_of (Some x) = x.0
 
 -- the words of so many names dropped together, which are the first in a list of their own
 abbrev pub group_words : ℕ → ℕ → List ℕ

@@ -1,6 +1,5 @@
 // Events in turn. What is lent is looked at once; what is known of it goes from each event to the next.
-ghost use Rattle.std.specs.Prelude.{◌≡◌, [], ◌∷◌, ◌++◌, ◌<◌, ◌≤◌, min, length, get_or, set, drop, replicate};
-ghost use Rattle.model.specs.Answers.{verdict_of};
+ghost use Rattle.std.specs.Prelude.{◌≡◌, [], ◌∷◌, ◌++◌, ◌≤◌, length, drop, replicate};
 ghost use Rattle.table.specs.Words.{rows_in};
 ghost use Rattle.table.specs.Sheets.{sheet_in};
 ghost use Rattle.table.specs.Lent.{tally_in, lent};
@@ -8,38 +7,14 @@ ghost use Rattle.table.specs.Known.{FitAll};
 ghost use Rattle.table.specs.Limits.{limits_in};
 ghost use Rattle.table.specs.States.{states_in};
 ghost use Rattle.rules.specs.Steps.{lends};
-ghost use Rattle.kelzoud_events.specs.Interface.{answer_words};
 ghost use Rattle.kelzoud_events.specs.Batch.{taken, after_all, answers_all, Ran};
 
 use crate::answers::answer_words;
 use crate::events::{Words, asked_in, names_in};
-use model::{Answer, Tally};
+use model::Tally;
 use rules::steps::take;
 use table::lent::{look_all, set_tally, tally_at};
-use table::ordered::Look;
 use table::{Row, SheetBytes};
-
-fn fewer(a: usize, b: usize) -> usize
-    ensures { result ≡ min a b }
-{
-    if a < b { a } else { b }
-}
-
-// The words of an event. Internal: the caller keeps i within the events.
-fn words_at(events: &[Words], i: usize) -> Words
-    requires { i < length events.now }
-    ensures { result ≡ get_or events.now i [] }
-{
-    events[i]
-}
-
-// Puts an answer there. Internal, in the same way.
-fn put_answer(answers: &mut [[u32; 2]], i: usize, answer: Answer)
-    requires { i < length answers.old }
-    ensures { answers.new ≡ set answers.old i (answer_words (verdict_of answer)) }
-{
-    answers[i] = answer_words(answer);
-}
 
 // The first m events on what is fit, refused ones too; the answer is the tally after them.
 fn take_turns(
@@ -62,21 +37,16 @@ fn take_turns(
 {
     let mut tally = t;
     let mut alive = live;
-    let mut i: usize = 0;
-    while i < m {
-        let words = words_at(events, i);
+    for i in 0..m {
+        let words = events[i];
         let asked = asked_in(words);
         let part = names_in(words, names);
         let p = take(
             table, alive, places, bits, stored, copies, tally, sheet, limits, asked, part,
         );
-        let outcome = p.outcome;
-        let after = outcome.tally;
-        let answer = outcome.answer;
-        put_answer(answers, i, answer);
-        tally = after;
+        answers[i] = answer_words(p.outcome.answer);
+        tally = p.outcome.tally;
         alive = p.live;
-        i += 1;
     }
     tally
 }
@@ -86,11 +56,7 @@ fn refuse_all(answers: &mut [[u32; 2]], m: usize)
     requires { m ≤ length answers.old }
     ensures { answers.new ≡ replicate m (1 ∷ 0 ∷ []) ++ drop m answers.old }
 {
-    let mut i: usize = 0;
-    while i < m {
-        answers[i] = [1, 0];
-        i += 1;
-    }
+    answers[..m].fill([1, 0]);
 }
 
 // The first m events on anything that is lent: where that is not fit, each is refusal 1.
@@ -114,7 +80,7 @@ fn apply_first(
     let mut places = [0u16; 1024];
     let found = look_all(table, bits, stored, copies, t.issued, limits, &mut places);
     match found {
-        Look::InOrder(live) => {
+        Some(live) => {
             let after = take_turns(
                 table,
                 live,
@@ -132,7 +98,7 @@ fn apply_first(
             );
             set_tally(tally, after);
         }
-        Look::Disordered => refuse_all(answers, m),
+        None => refuse_all(answers, m),
     }
 }
 
@@ -157,7 +123,7 @@ pub fn apply_all(
         × (answers.new ≡ answers_all (sheet_in sheet.now) (limits_in limits.now) (lent table.old bits.old stored.old copies.old tally.old) events.now names.now answers.old)
         × (result ≡ taken events.now answers.old) }
 {
-    let m = fewer(events.len(), answers.len());
+    let m = events.len().min(answers.len());
     apply_first(
         table, bits, stored, copies, tally, sheet, limits, events, names, m, answers,
     );

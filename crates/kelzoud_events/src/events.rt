@@ -1,9 +1,11 @@
 // Events as the words that C lends, and back. Only these functions know the layout.
-ghost use Rattle.std.specs.Prelude.{◌≡◌};
+// Kinds, rights and marks are numbers here (`DROP_ALL`, `MARK`, `BACK`, `event_with`, `byte_or`, `new_in`), as the words of C are (`kz_event`): any
+// value may stand in them, and each is answered (`asked_in`, kelzoud_events/specs/Interface).
+ghost use Rattle.std.specs.Prelude.{◌≡◌, cond, ltb};
 ghost use Rattle.model.specs.Requests.{Unlimited, Single, caller};
-ghost use Rattle.kelzoud_events.specs.Interface.{event_with, right_in, kind_in, fresh_in, new_in, terms_in, event_in, asked_in, part, names_in, named_of, written_of, group_words, mark_words, back_words, words_of};
+ghost use Rattle.kelzoud_events.specs.Interface.{event_with, new_in, terms_in, event_in, asked_in, part, names_in, named_of, written_of, group_words, mark_words, back_words, words_of};
 
-use model::{Addr, Asked, Event, Name, NewName, Span, Terms, Work};
+use model::{Addr, Asked, Event, Name, Span, Terms, Work};
 use table::words::{high_half, joined, low_half};
 
 // How many words an event has.
@@ -21,76 +23,50 @@ const MARK: u32 = 7;
 const BACK: u32 = 8;
 
 // The event of a kind, 1 to 5, with a new name that is written or not. Another kind is an event that is refused 2 in itself.
-fn event_with(new: NewName, kind: u32, name: u32, start: u32, length: u32, given: Terms) -> Event
+fn event_with(
+    new: Option<Name>,
+    kind: u32,
+    name: u32,
+    start: u32,
+    length: u32,
+    given: Terms,
+) -> Event
     ensures { result ≡ event_with new kind name start length given }
 {
     let span = Span {
         start: Addr(start),
         length,
     };
-    if kind == 1 {
-        let terms = Terms {
-            right: given.right,
-            kind: 0,
-            fresh: given.fresh,
-            holders: given.holders,
-        };
-        return Event::Create(new, span, terms);
-    }
-    if kind == 2 {
-        let terms = Terms {
-            right: given.right,
-            kind: given.kind,
-            fresh: 0,
-            holders: given.holders,
-        };
-        return Event::Borrow(new, Name(name), span, terms);
-    }
-    if kind == 3 {
-        return Event::Read(Name(name), span);
-    }
-    if kind == 4 {
-        return Event::Write(Name(name), span);
-    }
-    if kind == 5 {
-        return Event::Drop(Name(name));
-    }
     let none = Terms {
         right: 0,
         kind: 0,
         fresh: 0,
         holders: 0,
     };
-    Event::Create(new, span, none)
+    match kind {
+        1 => Event::Create(new, span, Terms { kind: 0, ..given }),
+        2 => Event::Borrow(new, Name(name), span, Terms { fresh: 0, ..given }),
+        3 => Event::Read(Name(name), span),
+        4 => Event::Write(Name(name), span),
+        5 => Event::Drop(Name(name)),
+        _ => Event::Create(new, span, none),
+    }
 }
 
-fn right_in(right: u32) -> u8
-    ensures { result ≡ right_in right }
+// A word as a right, a kind or a mark: one above 255 is none, as the value that is given for it is none.
+fn byte_or(word: u32, none: u8) -> u8
+    ensures { result ≡ cond (ltb word 256) word none }
 {
-    if right < 256 { right as u8 } else { 0 }
+    u8::try_from(word).unwrap_or(none)
 }
 
-// The kind of what a borrow makes.
-fn kind_in(kind: u32) -> u8
-    ensures { result ≡ kind_in kind }
-{
-    if kind < 256 { kind as u8 } else { 3 }
-}
-
-// The mark of what a create makes.
-fn fresh_in(fresh: u32) -> u8
-    ensures { result ≡ fresh_in fresh }
-{
-    if fresh < 256 { fresh as u8 } else { 2 }
-}
-
-fn new_in(named: u32, written: u32) -> NewName
+fn new_in(named: u32, written: u32) -> Option<Name>
     ensures { result ≡ new_in named written }
 {
     if named == 0 {
-        NewName::Unwritten
+        None
     } else {
-        NewName::Written(Name(written))
+        Some(Name(written))
     }
 }
 
@@ -99,9 +75,9 @@ fn terms_in(w: Words) -> Terms
     ensures { result ≡ terms_in w }
 {
     Terms {
-        right: right_in(w[4]),
-        kind: kind_in(w[7]),
-        fresh: fresh_in(w[8]),
+        right: byte_or(w[4], 0),
+        kind: byte_or(w[7], 3),
+        fresh: byte_or(w[8], 2),
         holders: joined(w[10], w[11]),
     }
 }
@@ -112,19 +88,16 @@ pub fn asked_in(w: Words) -> Asked
 {
     let actor = w[9];
     let slot = w[1];
-    if w[0] == DROP_ALL {
-        return Asked::Work(Work::Group(actor));
+    match w[0] {
+        DROP_ALL => Asked::Work(Work::Group(actor)),
+        MARK => Asked::Mark(actor, slot),
+        BACK => Asked::Back(actor, slot),
+        kind => {
+            let new = new_in(w[5], w[6]);
+            let event = event_with(new, kind, w[1], w[2], w[3], terms_in(w));
+            Asked::Work(Work::Single(actor, event))
+        }
     }
-    if w[0] == MARK {
-        return Asked::Mark(actor, slot);
-    }
-    if w[0] == BACK {
-        return Asked::Back(actor, slot);
-    }
-    let new = new_in(w[5], w[6]);
-    let given = terms_in(w);
-    let event = event_with(new, w[0], w[1], w[2], w[3], given);
-    Asked::Work(Work::Single(actor, event))
 }
 
 // A part of a list of names: none where it reaches past the end.
@@ -134,9 +107,10 @@ fn part_of(names: &[u32], start: u32, size: u32) -> &[u32]
     let from = start as usize;
     let to = from + size as usize;
     if to <= names.len() {
-        return &names[from..to];
+        &names[from..to]
+    } else {
+        &[]
     }
-    &names[..0]
 }
 
 // The names that they point to.
@@ -147,21 +121,18 @@ pub fn names_in(w: Words, names: &[u32]) -> &[u32]
 }
 
 // Whether a new name is written, and which.
-fn named_of(new: NewName) -> u32
+fn named_of(new: Option<Name>) -> u32
     ensures { result ≡ named_of new }
 {
-    match new {
-        NewName::Unwritten => 0,
-        NewName::Written(_) => 1,
-    }
+    new.is_some() as u32
 }
 
-fn written_of(new: NewName) -> u32
+fn written_of(new: Option<Name>) -> u32
     ensures { result ≡ written_of new }
 {
     match new {
-        NewName::Unwritten => 0,
-        NewName::Written(name) => name.0,
+        None => 0,
+        Some(name) => name.0,
     }
 }
 

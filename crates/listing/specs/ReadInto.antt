@@ -1,7 +1,8 @@
 -- Document 01, "The bracket text": what reading a listing into a lent table answers, and what it leaves of the table and the tally. The
 -- written bits of card 9 are not lent with it, so they stay as they are; nor are the limits of card 10, so no listing is judged by them.
 -- Assumes nothing.
-use Rattle.std.specs.Prelude.{◌≡◌, ℕ, cond, List, leb, length}
+use Rattle.std.specs.Prelude.{◌≡◌, ℕ, cond, List, leb, length, Err, Ok, Result as Returned}
+use Rattle.model.specs.declared.Refusal.{Refusal}
 use Rattle.model.specs.declared.Cap.{Cap}
 use Rattle.model.specs.declared.Tally.{Tally}
 use Rattle.model.specs.Answers.{number}
@@ -10,8 +11,6 @@ use Rattle.table.specs.Words.{rows_in}
 use Rattle.table.specs.Lent.{tally_in}
 use Rattle.text.specs.Result.{Result, value, refused}
 use Rattle.listing.specs.ReadListing.{Listed, read_listing}
-use Rattle.listing.specs.declared.reading.ListingRead.{ListingRead}
-use Rattle.listing.specs.declared.reading.ListingRead.TheVariants.{Issued, Refused}
 
 -- "Reading gives refusal 1 for a lent table above 1,024 rows, 2 when no table in order has this listing, 10 when it holds more
 -- capabilities than rows, in that order". "The old contents of that table are not judged": only their number is looked at.
@@ -48,12 +47,12 @@ answer_into s h = issued_read (read_table s (length h.table))
 abbrev pub target_into : List ℕ → Target → Target
 target_into s h = target_read (read_table s (length h.table)) h
 
--- the answer that each case of `ListingRead` stands for
-abbrev pub listing_answer : ListingRead → Result ℕ
-listing_answer (Issued i) = value i
-listing_answer (Refused r) = refused (number r)
+-- the answer that each case of the code's answer stands for
+abbrev pub listing_answer : Returned ℕ Refusal → Result ℕ
+listing_answer (Ok i) = value i
+listing_answer (Err r) = refused (number r)
 
-pub record ReadsInto (s : List ℕ) (before after : Target) (r : ListingRead) : Type 0 where
+pub record ReadsInto (s : List ℕ) (before after : Target) (r : Returned ℕ Refusal) : Type 0 where
   pub answer : listing_answer r ≡ answer_into s before
   pub table : after.table ≡ (target_into s before).table
   pub tally : after.tally ≡ (target_into s before).tally

@@ -28,11 +28,7 @@ fn add_row(table: &mut [Row; 1024], count: usize, row: Cap) -> usize
 pub(crate) fn past(text: &[u8], count: usize) -> &[u8]
     ensures { result.now ≡ drop count text.now }
 {
-    if count < text.len() {
-        &text[count..]
-    } else {
-        &text[text.len()..]
-    }
+    &text[count.min(text.len())..]
 }
 
 // The last bytes of the text.
@@ -142,13 +138,6 @@ fn read_run(text: &[u8], table: &mut [Row; 1024], count: usize, parent: u32, dep
     }
 }
 
-// One byte fewer, where there is one.
-fn one_less(n: usize) -> usize
-    ensures { result ≡ n - 1 }
-{
-    if 0 < n { n - 1 } else { 0 }
-}
-
 // Reads the lines of the roots into a table of zeros, and returns how many rows were stored.
 pub(crate) fn read_lines(text: &[u8], table: &mut [Row; 1024]) -> usize
     requires { Stored table.old 0 }
@@ -161,7 +150,7 @@ pub(crate) fn read_lines(text: &[u8], table: &mut [Row; 1024]) -> usize
             return count;
         }
         let line = read_form(last(text, left), table, count, 0, 1);
-        left = one_less(line.left);
+        left = line.left.saturating_sub(1);
         count = line.count;
     }
     count

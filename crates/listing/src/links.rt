@@ -13,15 +13,14 @@ fn note_rows(table: &[Row], n: usize, seen: &mut [u16; 2048])
     requires { (n ≤ 1024) × (length seen.old ≡ 2048) × (n ≤ length table.now) }
     ensures { length seen.new ≡ 2048 }
 {
-    let mut i = 0;
-    while i < n {
+    for i in 0..n {
         let name = words::row_at(table, i).name.0;
         seen[ordered::slot(name)] = i as u16;
-        i += 1;
     }
 }
 
 // The row of a row's parent; n for a root.
+// `first[n]` is the first root, so the place behind the rows is one like the others (`Linked`, listing/specs/Links), and no `Option`.
 fn parent_row(table: &[Row], n: usize, i: usize, seen: &[u16; 2048]) -> usize
     requires { (i < n) × (n ≤ 1024) × Live (first_rows table.now n) × (length seen.now ≡ 2048) × (n ≤ length table.now) }
     ensures { (result ≤ n) × (name_at (first_rows table.now n) result ≡ parent_at (first_rows table.now n) i) }
@@ -42,9 +41,7 @@ pub(crate) fn link(table: &[Row], n: usize, first: &mut [usize; 1025], next: &mu
 {
     let mut seen = [0u16; 2048];
     note_rows(table, n, &mut seen);
-    let mut i = n;
-    while 0 < i {
-        i -= 1;
+    for i in (0..n).rev() {
         let p = parent_row(table, n, i, &seen);
         next[i] = first[p];
         first[p] = i;

@@ -1,6 +1,6 @@
 // Listings, read: the table that a text can be the listing of is guessed, and accepted when it is in order and writes back to
 // the same bytes.
-ghost use Rattle.std.specs.Prelude.{◌≡◌, true, ◌⊎◌, ◌≤◌, length};
+ghost use Rattle.std.specs.Prelude.{◌≡◌, ◌⊎◌, ◌≤◌, length};
 ghost use Rattle.table.specs.Words.{rows_in};
 ghost use Rattle.text.specs.Read.{same};
 ghost use Rattle.listing.specs.First.{first_rows};
@@ -13,16 +13,9 @@ ghost use Rattle.listing.specs.ReadInto.{with_issued, target, ReadsInto};
 use crate::{forms, sort, writing};
 use model::{Refusal, Tally};
 use table::lent::{set_tally, tally_at};
-use table::{Row, WIDTH, find, ordered, words};
-use text::write::Written;
+use table::{Row, WIDTH, find, ordered};
+use text::pieces::copy_over;
 use text::{classes, lines, numbers};
-
-// What reading answers: the issued number, or refusal 1, 2 or 10. `listing_answer` of specs/ gives document 01's number and values.
-#[derive(Clone, Copy)]
-pub enum ListingRead {
-    Issued(u32),
-    Refused(Refusal),
-}
 
 // Reads the rows of a text into a table of zeros, by rising name, and returns how many there are.
 fn guess_table(text: &[u8], table: &mut [Row; 1024]) -> usize
@@ -35,35 +28,18 @@ fn guess_table(text: &[u8], table: &mut [Row; 1024]) -> usize
     count
 }
 
-// Whether two texts have the same bytes. All of them are compared, with no way out on the way, so that the compiler takes many at once.
-fn same_bytes(a: &[u8], b: &[u8]) -> bool
-    ensures { (result ≡ true → a.now ≡ b.now) × (a.now ≡ b.now → result ≡ true) }
-{
-    if a.len() != b.len() {
-        return false;
-    }
-    let mut equal = true;
-    let mut i = 0;
-    while i < a.len() {
-        if a[i] != b[i] {
-            equal = false;
-        }
-        i += 1;
-    }
-    equal
-}
-
 // Whether the first n rows, all of them live, have a text as their listing. It is written into a buffer that the text fits into, or
 // else every listing of a table in order.
+// The answer is a plain yes or no: `out` is lent as room to write into, since nothing is allocated, and is no value beside it.
 fn writes_back(text: &[u8], table: &[Row], n: usize, issued: u32, out: &mut [u8]) -> bool
     requires { (n ≤ 1024) × Live (first_rows table.now n) × ((length text.now ≤ length out.old) ⊎ (60429 ≤ length out.old)) × (n ≤ length table.now) × (issued ≤ 1000000) }
     ensures { result ≡ same text.now (listed (first_rows table.now n) issued) }
 {
     let written = writing::write_rows(table, n, issued, out);
-    let Written::Length(length) = written else {
+    let Ok(length) = written else {
         return false;
     };
-    same_bytes(text, &out[..length])
+    text == &out[..length]
 }
 
 // Whether a text is the listing of a table in order.
@@ -83,19 +59,6 @@ fn is_listing(text: &[u8], table: &[Row], issued: u32) -> bool
     writes_back(text, table, live, issued, &mut long)
 }
 
-// Copies the first rows of a table into a lent one, as many as it has.
-fn copy_rows(from: &[Row; 1024], to: &mut [Row])
-    requires { (length from.now ≡ 1024) × (length to.old ≤ 1024) }
-    ensures { rows_in to.new ≡ first_rows from.now (length to.old) }
-{
-    let n = to.len();
-    let mut i = 0;
-    while i < n {
-        words::set_row(to, i, words::row_at(from, i));
-        i += 1;
-    }
-}
-
 // The tally with another issued number.
 fn with_issued(tally: Tally, issued: u32) -> Tally
     ensures { result ≡ with_issued issued tally }
@@ -113,23 +76,23 @@ fn with_issued(tally: Tally, issued: u32) -> Tally
 
 // Reads a listing into the table and the tally that are lent: the issued number, or refusal 1, 2 or 10. What is read is put together
 // and judged in a table of its own, so that a refusal changes nothing; a listing that is read fixes the whole lent table.
-pub fn read_listing(text: &[u8], table: &mut [Row], tally: &mut [u32; 7]) -> ListingRead
+pub fn read_listing(text: &[u8], table: &mut [Row], tally: &mut [u32; 7]) -> Result<u32, Refusal>
     ensures { ReadsInto text.now (target table.old tally.old) (target table.new tally.new) result }
 {
     if 1024 < table.len() {
-        return ListingRead::Refused(Refusal::Disordered);
+        return Err(Refusal::Disordered);
     }
     let mut scratch = [[0u32; WIDTH]; 1024];
     let count = guess_table(text, &mut scratch);
     let issued = numbers::number(lines::after_space(text));
     if !is_listing(text, &scratch[..count], issued) {
-        return ListingRead::Refused(Refusal::Misspelt);
+        return Err(Refusal::Misspelt);
     }
     if table.len() < find::live_count(&scratch) {
-        return ListingRead::Refused(Refusal::TableFull);
+        return Err(Refusal::TableFull);
     }
-    copy_rows(&scratch, table);
+    copy_over(table, &scratch[..table.len()]);
     let before = tally_at(tally);
     set_tally(tally, with_issued(before, issued));
-    ListingRead::Issued(issued)
+    Ok(issued)
 }

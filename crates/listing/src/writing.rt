@@ -11,7 +11,6 @@ ghost use Rattle.listing.specs.WriteListing.{WritesListing};
 use crate::links;
 use model::{Cap, Refusal};
 use table::{Row, find, ordered, words};
-use text::write::Written;
 use text::{masks, numbers, pieces};
 
 // How many bytes a capability adds to a listing.
@@ -29,10 +28,8 @@ fn forms_length(table: &[Row], n: usize) -> usize
     ensures { (result ≡ forms_length (first_rows table.now n)) × (result ≤ 77 * n) }
 {
     let mut total = 0;
-    let mut i = 0;
-    while i < n {
+    for i in 0..n {
         total += form_length(words::row_at(table, i));
-        i += 1;
     }
     total
 }
@@ -143,27 +140,32 @@ fn listing_length(table: &[Row], n: usize, issued: u32) -> usize
 }
 
 // Writes the listing of the first n rows, all of them live, where it fits. Internal: it asks for rows in order.
-pub(crate) fn write_rows(table: &[Row], n: usize, issued: u32, out: &mut [u8]) -> Written
+pub(crate) fn write_rows(
+    table: &[Row],
+    n: usize,
+    issued: u32,
+    out: &mut [u8],
+) -> Result<usize, Refusal>
     requires { (n ≤ 1024) × Live (first_rows table.now n) × (n ≤ length table.now) }
     ensures { Writes true (listed (first_rows table.now n) issued) out.old out.new result }
 {
     if out.len() < listing_length(table, n, issued) {
-        return Written::Refused(Refusal::BufferTooShort);
+        return Err(Refusal::BufferTooShort);
     }
-    Written::Length(put_listing(table, n, issued, out))
+    Ok(put_listing(table, n, issued, out))
 }
 
 // Writes the listing of the lent table at the buffer's first bytes: the length, or refusal 1 or 11. Above 1,024 rows it is not in order.
-pub fn write_listing(table: &[Row], issued: u32, out: &mut [u8]) -> Written
+pub fn write_listing(table: &[Row], issued: u32, out: &mut [u8]) -> Result<usize, Refusal>
     ensures { WritesListing (rows_in table.now) issued out.old out.new result }
 {
     let n = table.len();
     if 1024 < n {
-        return Written::Refused(Refusal::Disordered);
+        return Err(Refusal::Disordered);
     }
     let live = find::live_count(table);
     if !ordered::in_order(table, issued) {
-        return Written::Refused(Refusal::Disordered);
+        return Err(Refusal::Disordered);
     }
     write_rows(table, live, issued, out)
 }

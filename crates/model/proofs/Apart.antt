@@ -1,5 +1,6 @@
 -- Card 10: a domain's live rows stand apart from the others', and a request does to them what it would do if they stood alone.
 -- Assumes nothing.
+use Rattle.std.specs.Prelude.{Option}
 use mathlib.Core.Path.{◌≡◌, refl, sym, ap, ap₂, ◌∙◌}
 use mathlib.Core.Logic.{◌⊎◌, inl, inr}
 use mathlib.Core.Bool.{Bool, true, false, not, cond, ◌&&◌, ◌||◌, or-true}
@@ -12,7 +13,6 @@ use borrow.Author.Tests.{eqb-true, eq-eqb, ne_eqb, leb-true, leb-false, le-leb, 
 use Rattle.model.specs.declared.Name.{Name}
 use Rattle.model.specs.declared.Span.{Span}
 use Rattle.model.specs.declared.Cap.{Cap}
-use Rattle.model.specs.declared.NewName.{NewName}
 use Rattle.model.specs.declared.Sheet.{Sheet}
 use Rattle.model.specs.declared.Effect.{Effect}
 use Rattle.model.specs.declared.Event.TheVariants.{Create, Borrow, Read, Write, Drop}
@@ -201,7 +201,7 @@ module _ (n d : ℕ) (given : List ℕ) (i : ℕ) (rows : List Cap) (a : Apart d
       there : 0 < ordinal given u.0 → eqb (ordinal given u.0) 0 || ltb (length given) (ordinal given u.0) ≡ false
       there l = rw (ne_eqb (ordinal given u.0) 0 (λ (e : ordinal given u.0 ≡ 0). omega arith)) (le-ltb (length given) (ordinal given u.0) (ordinal_upto given u.0))
 
-  room_both : (w : NewName) → not (leb 1000000 i) && not (misnamed i w) ≡ true
+  room_both : (w : Option Name) → not (leb 1000000 i) && not (misnamed i w) ≡ true
       → (leb 1000000 i ≡ false) × (misnamed i w ≡ false) × (leb 1000000 (length given) ≡ false)
   room_both w h =
       let b = and_both (not (leb 1000000 i)) (not (misnamed i w)) h in

@@ -1,5 +1,7 @@
 -- Card 4, "reused memory", and card 7, "a create acts as a stranger's write": what an allowed create does to the live rows, by every sheet.
 -- Assumes nothing.
+use Rattle.std.specs.Prelude.{Option}
+use Rattle.model.specs.declared.Name.{Name}
 use mathlib.Core.Path.{◌≡◌, refl, sym, ap, ap₂, ◌∙◌}
 use mathlib.Core.Bool.{Bool, true, false, not, cond, ◌&&◌, ◌||◌, and-true, and-false}
 use mathlib.Core.List.{List, [], ◌∷◌}
@@ -10,7 +12,6 @@ use borrow.Author.Tests.{ne_eqb, not-true}
 use Rattle.model.specs.declared.Span.{Span}
 use Rattle.model.specs.declared.Cap.{Cap}
 use Rattle.model.specs.declared.Terms.{Terms}
-use Rattle.model.specs.declared.NewName.{NewName}
 use Rattle.model.specs.declared.Event.TheVariants.{Create}
 use Rattle.model.specs.Requests.{Caller, Single}
 use Rattle.model.specs.declared.Access.{Access}
@@ -78,7 +79,7 @@ pub stranger_takes_lem : (sheet : Sheet) (issued : ℕ) (rows : List Cap) → Na
 unfolding struck
 stranger_takes_lem sheet issued rows n h s is k x = rw (no_ancestry_above (suc issued) rows n h (suc issued) (omega arith)) (outside_takes sheet is k s (ancestry (derivations rows) x))
 
-module _ (sheet : Sheet) (issued : ℕ) (rows : List Cap) (n : Named rows) (h : rows_in_order (suc issued) rows ≡ true) (by : Caller) (w : NewName) (s : Span) (r : Terms) where
+module _ (sheet : Sheet) (issued : ℕ) (rows : List Cap) (n : Named rows) (h : rows_in_order (suc issued) rows ≡ true) (by : Caller) (w : Option Name) (s : Span) (r : Terms) where
   abbrev taken : (Effect → Bool) → ℕ → Bool
   taken is x = stranger_takes sheet is s (ancestry (derivations rows) x)
 
@@ -174,7 +175,7 @@ pub fresh_lowers : (s : Span) (x : List Derivation) → stranger_takes sheet6 is
 fresh_lowers s [] = refl
 fresh_lowers s (d ∷ above) = rw (stranger_ends d.kind, and-false (touches s d.span)) (fresh_lowers s above)
 
-pub fresh_rows : (issued : ℕ) (rows : List Cap) → Named rows → rows_in_order (suc issued) rows ≡ true → (by : Caller) (w : NewName) (s : Span) (r : Terms)
+pub fresh_rows : (issued : ℕ) (rows : List Cap) → Named rows → rows_in_order (suc issued) rows ≡ true → (by : Caller) (w : Option Name) (s : Span) (r : Terms)
     → rows_after sheet6 issued rows (Single by (Create w s r)) ≡ row (root by issued s r) r.right 1 ∷ filter (λ c. not (touches_any s (ancestry (derivations rows) c.name.0))) rows
 unfolding revoke
 fresh_rows issued rows n h by w s r =

@@ -1,5 +1,6 @@
 -- An allowed request meets none of its refusals, and the rows that it leaves fit the table.
 -- Assumes nothing.
+use Rattle.std.specs.Prelude.{Option}
 use mathlib.Core.Path.{◌≡◌, refl, sym, ap, ◌∙◌}
 use mathlib.Core.Logic.{◌⊎◌, inl, inr}
 use mathlib.Core.Bool.{Bool, true, false, not, ◌&&◌, ◌||◌}
@@ -16,7 +17,6 @@ use Rattle.model.specs.declared.Span.{Span}
 use Rattle.model.specs.declared.Access.{Access}
 use Rattle.model.specs.declared.Terms.{Terms}
 use Rattle.model.specs.declared.Tally.{Tally}
-use Rattle.model.specs.declared.NewName.{NewName}
 use Rattle.model.specs.declared.Event.TheVariants.{Create, Borrow, Read, Write, Drop}
 use Rattle.model.specs.Requests.{Limits, Caller, Request, Single, Group, Mark, Back, caller_of, turns_state, marks, rises_above, rises_strictly, is_group}
 use Rattle.model.specs.Slots.{Memory, Slot, Nothing, Stored}
@@ -201,7 +201,7 @@ pub record Given (by : Caller) (r : Terms) : Type 0 where
   pub domain : is_domain by.actor ≡ true
   pub holder : has_bit r.holders by.actor ≡ true
 
-module _ (v : View) (by : Caller) (w : NewName) (s : Span) (r : Terms) where
+module _ (v : View) (by : Caller) (w : Option Name) (s : Span) (r : Terms) where
   abbrev masked : Bool
   masked = not (is_domain by.actor) || not (has_bit r.holders by.actor)
 

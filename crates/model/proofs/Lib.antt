@@ -39,4 +39,5 @@ mod Allotted
 mod Room
 mod Charge
 mod Tried
+mod Returned
 pub mod Offered

@@ -34,3 +34,4 @@ pub use Rattle.model.proofs.Rows.{empty_row_empty, lent_live, lent_new, lookup_e
 pub use Rattle.model.proofs.Slots.{InSlot, in_stored}
 pub use Rattle.model.proofs.Strikes.{root_has_no_kin}
 pub use Rattle.model.proofs.Together.{group_none, name_passed, name_refused}
+pub use Rattle.model.proofs.Returned.{passed_on}

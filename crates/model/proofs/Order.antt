@@ -1,5 +1,6 @@
 -- A table in order stays in order under every request.
 -- Assumes nothing.
+use Rattle.std.specs.Prelude.{Option}
 use mathlib.Core.Path.{◌≡◌, refl, sym, ap, ◌∙◌}
 use mathlib.Core.Logic.{◌⊎◌, inl, inr}
 use mathlib.Core.Bool.{Bool, true, false, not, cond, ◌&&◌, ◌||◌, or-true}
@@ -14,7 +15,6 @@ use Rattle.model.specs.declared.Span.{Span}
 use Rattle.model.specs.declared.Cap.{Cap}
 use Rattle.model.specs.declared.Tally.{Tally}
 use Rattle.model.specs.declared.Terms.{Terms}
-use Rattle.model.specs.declared.NewName.{NewName}
 use Rattle.model.specs.declared.Event.TheVariants.{Create, Borrow, Read, Write, Drop}
 use Rattle.model.specs.Requests.{Limits, Unlimited, Limited, Caller, Request, Single, Group, Mark, Back, caller_of}
 use Rattle.model.specs.Slots.{Memory, Slot, Nothing, Stored, stored_or, unstored}
@@ -353,7 +353,7 @@ module _ (sheet : Sheet) (v : View) (o : Ordered v.table v.issued) where
   names_enough (Mark by k) h = o.names_left
   names_enough (Back by k) h = o.names_left
 
-  row_in_order_root : (by : Caller) (w : NewName) (s : Span) (r : Terms) → judge v (Single by (Create w s r)) ≡ 0 → (earlier : List Cap) → row_in_order (row (root by i s r) r.right 1) earlier ≡ true
+  row_in_order_root : (by : Caller) (w : Option Name) (s : Span) (r : Terms) → judge v (Single by (Create w s r)) ≡ 0 → (earlier : List Cap) → row_in_order (row (root by i s r) r.right 1) earlier ≡ true
   unfolding row_in_order parent_in_order terms_in_order refusals
   row_in_order_root by w s r h earlier =
       let p = allowed v (Single by (Create w s r)) h in
@@ -365,7 +365,7 @@ module _ (sheet : Sheet) (v : View) (o : Ordered v.table v.issued) where
       low true x h = le-leb x 65536 (ltb-false 65536 x h)
       low false x h = refl
 
-  row_in_order_child : (by : Caller) (w : NewName) (u : Name) (s : Span) (r : Terms) → judge v (Single by (Borrow w u s r)) ≡ 0 → row_in_order (row (child by i u (lookup u.0 (live_rows t)).fresh s r) r.right (suc (lookup u.0 (live_rows t)).depth)) (live_rows t) ≡ true
+  row_in_order_child : (by : Caller) (w : Option Name) (u : Name) (s : Span) (r : Terms) → judge v (Single by (Borrow w u s r)) ≡ 0 → row_in_order (row (child by i u (lookup u.0 (live_rows t)).fresh s r) r.right (suc (lookup u.0 (live_rows t)).depth)) (live_rows t) ≡ true
   unfolding row_in_order parent_in_order row_fits_parent terms_in_order refusals
   row_in_order_child by w u s r h =
       let p = allowed v (Single by (Borrow w u s r)) h in

@@ -1,5 +1,6 @@
 -- Trees apart: no two live roots share an address, so what goes through a name stays in that name's tree.
 -- Assumes nothing.
+use Rattle.std.specs.Prelude.{Option}
 use mathlib.Core.Path.{◌≡◌, refl, sym, ap, ap₂, ◌∙◌}
 use mathlib.Core.Logic.{◌⊎◌, inl, inr}
 use mathlib.Core.Bool.{Bool, true, false, not, cond, ◌&&◌, ◌||◌, or-true}
@@ -14,7 +15,6 @@ use Rattle.model.specs.declared.Cap.{Cap}
 use Rattle.model.specs.declared.Name.{Name}
 use Rattle.model.specs.declared.Terms.{Terms}
 use Rattle.model.specs.declared.Tally.{Tally}
-use Rattle.model.specs.declared.NewName.{NewName}
 use Rattle.model.specs.declared.Sheet.{Sheet}
 use Rattle.model.specs.declared.Event.TheVariants.{Create, Borrow, Read, Write, Drop}
 use Rattle.model.specs.declared.Access.{Access}
@@ -340,7 +340,7 @@ module _ (sheet : Sheet) (i : ℕ) (rows : List Cap) (n : Named rows) (h : rows_
       off u f c t = ne_eqb u c.name.0 (λ (e : u ≡ c.name.0). clash (ap (in_tree rows r) e ∙ t) f)
 
   -- what is borrowed is in the tree of what it is borrowed from
-  borrowed : (by : Caller) (w : NewName) (u : Name) (s : Span) (t : Terms) (r : ℕ) → any (named u.0) rows ≡ true
+  borrowed : (by : Caller) (w : Option Name) (u : Name) (s : Span) (t : Terms) (r : ℕ) → any (named u.0) rows ≡ true
       → tree (rows_after sheet i rows (Single by (Borrow w u s t))) r ≡ cons_if (in_tree rows r u.0) (row (child by i u (lookup u.0 rows).fresh s t) t.right (suc (lookup u.0 rows).depth)) (tree rows r)
   unfolding rows_after
   borrowed by w u s t r e =
@@ -349,7 +349,7 @@ module _ (sheet : Sheet) (i : ℕ) (rows : List Cap) (n : Named rows) (h : rows_
       ∙ ap (λ (x : ℕ). cons_if (eqb r x) c (tree rows r)) (last_grown (suc i) 0 (ancestry (derivations rows) u.0) ((found (suc i) rows n h u.0 e).root_on (λ d. true) refl))
 
   -- what is created is in a tree of its own
-  created : (by : Caller) (w : NewName) (s : Span) (t : Terms) (r : ℕ) → tree (rows_after sheet i rows (Single by (Create w s t))) r ≡ cons_if (eqb r (suc i)) (row (root by i s t) t.right 1) (tree (rest Writing (suc i) s) r)
+  created : (by : Caller) (w : Option Name) (s : Span) (t : Terms) (r : ℕ) → tree (rows_after sheet i rows (Single by (Create w s t))) r ≡ cons_if (eqb r (suc i)) (row (root by i s t) t.right 1) (tree (rest Writing (suc i) s) r)
   unfolding rows_after last_name
   created by w s t r =
       let c : Cap = row (root by i s t) t.right 1 in
@@ -378,13 +378,13 @@ module _ (sheet : Sheet) (i : ℕ) (rows : List Cap) (n : Named rows) (h : rows_
   root_after (Back by k) x e d = (e, refl)
 
   -- a new one is its own root, or has that of what it is borrowed from
-  pub root_created : (by : Caller) (w : NewName) (s : Span) (t : Terms) → root_of (rows_after sheet i rows (Single by (Create w s t))) (suc i) ≡ suc i
+  pub root_created : (by : Caller) (w : Option Name) (s : Span) (t : Terms) → root_of (rows_after sheet i rows (Single by (Create w s t))) (suc i) ≡ suc i
   unfolding rows_after last_name
   root_created by w s t =
       ap (last_name 0) (ancestry_here (root by i s t) (derivations (rest Writing (suc i) s)) (suc i) (same (suc i)))
       ∙ ap (last_name (suc i)) (no_ancestry (suc i) (rest Writing (suc i) s) (access_named sheet rows n Writing (suc i) s) (access_rows_in_order sheet (suc i) rows n h Writing (suc i) s))
 
-  pub root_borrowed : (by : Caller) (w : NewName) (u : Name) (s : Span) (t : Terms) → any (named u.0) rows ≡ true → root_of (rows_after sheet i rows (Single by (Borrow w u s t))) (suc i) ≡ root_of rows u.0
+  pub root_borrowed : (by : Caller) (w : Option Name) (u : Name) (s : Span) (t : Terms) → any (named u.0) rows ≡ true → root_of (rows_after sheet i rows (Single by (Borrow w u s t))) (suc i) ≡ root_of rows u.0
   unfolding rows_after last_name
   root_borrowed by w u s t e =
       ap (last_name 0) (ancestry_here (child by i u (lookup u.0 rows).fresh s t) (derivations rows) (suc i) (same (suc i)))
@@ -421,7 +421,7 @@ module _ (sheet : Sheet) (i : ℕ) (rows : List Cap) (n : Named rows) (h : rows_
           ends c e k = ended_below c.name.0 e (ap (λ (x : ℕ). touches s (span (lookup x rows))) (sym (eqb-true r (root_of rows c.name.0) k)) ∙ t)
 
       -- so the roots that are left share no address with the new one
-      apart_created : (by : Caller) (w : NewName) (t : Terms) → roots_apart rows ≡ true → roots_apart (rows_after sheet i rows (Single by (Create w s t))) ≡ true
+      apart_created : (by : Caller) (w : Option Name) (t : Terms) → roots_apart rows ≡ true → roots_apart (rows_after sheet i rows (Single by (Create w s t))) ≡ true
       unfolding rows_after after_access revoke
       apart_created by w t a =
           apart_root (row (root by i s t) t.right 1) (rest Writing (suc i) s)
@@ -598,7 +598,7 @@ module _ (sheet : Sheet) (h : State) (f : Forest h) where
     own = tree rows r
 
     module _ (here_room : length rows < length h.memory.table) (Own_room : length own < m) where
-      same_room : (by : Caller) → by.limits ≡ Unlimited → (w : NewName) → first (room own i by m w) ≡ first (room rows i by (length h.memory.table) w)
+      same_room : (by : Caller) → by.limits ≡ Unlimited → (w : Option Name) → first (room own i by m w) ≡ first (room rows i by (length h.memory.table) w)
       unfolding no_row limit_reached
       same_room by l w = rw (l, lt-leb (length h.memory.table) (length rows) here_room, lt-leb m (length own) Own_room)
 
@@ -639,7 +639,7 @@ module _ (sheet : Sheet) (h : State) (f : Forest h) where
   -- ---- roots stay apart
 
   module _ (strangers_end : StrangersEnd sheet) where
-    created_ends : (by : Caller) (w : NewName) (s : Span) (t : Terms) (r : ℕ) → judge (view h) (Single by (Create w s t)) ≡ 0 → touches s (span (lookup r rows)) ≡ true → tree (live (after sheet h (Single by (Create w s t)))) r ≡ []
+    created_ends : (by : Caller) (w : Option Name) (s : Span) (t : Terms) (r : ℕ) → judge (view h) (Single by (Create w s t)) ≡ 0 → touches s (span (lookup r rows)) ≡ true → tree (live (after sheet h (Single by (Create w s t)))) r ≡ []
     created_ends by w s t r z k =
         ap (λ l. tree l r) (live_after (Single by (Create w s t)) refl z)
         ∙ created sheet i rows are_named f.rise by w s t r

@@ -1,10 +1,9 @@
 -- Document 01, "Eleven ways to be turned down", and cards 1, 5, 7 and 9 to 11: the number of each refusal, and the number and name of each answer.
 -- Assumes nothing.
-use Rattle.std.specs.Prelude.{ℕ}
+use Rattle.std.specs.Prelude.{ℕ, Err, Ok, Result}
+use Rattle.model.specs.declared.Name.{Name}
 use Rattle.model.specs.declared.Refusal.{Refusal}
 use Rattle.model.specs.declared.Refusal.TheVariants.{Disordered, Misspelt, IllegalSpan, Unissued, Ended, OutsideSpan, ReadOnly, TooDeep, NamesSpent, TableFull, BufferTooShort, Misnamed, Misgrouped, GivenTwice, NotGiven, NotWritten, NoHolder, LimitReached, NothingStored}
-use Rattle.model.specs.declared.Answer.{Answer}
-use Rattle.model.specs.declared.Answer.TheVariants.{Allowed, Refused}
 use Rattle.model.specs.Step.{Verdict}
 
 abbrev pub number : Refusal → ℕ
@@ -29,6 +28,6 @@ number LimitReached = 18
 number NothingStored = 19
 
 -- allowed is 0, with the name; a refusal carries name 0
-abbrev pub verdict_of : Answer → Verdict
-verdict_of (Allowed x) = record { refusal = 0; name = x.0 }
-verdict_of (Refused r) = record { refusal = number r; name = 0 }
+abbrev pub verdict_of : Result Name Refusal → Verdict
+verdict_of (Ok x) = record { refusal = 0; name = x.0 }
+verdict_of (Err r) = record { refusal = number r; name = 0 }

@@ -3,14 +3,12 @@
 -- of one size, that differ only in others' events, provided these touch no span of its live capabilities, drop none and borrow from none."
 -- What it gets is what it would get alone: that is the theorem (`Alone`), and two sequences are compared by it (`Independent`).
 -- Assumes nothing.
-use Rattle.std.specs.Prelude.{ℕ, suc, ◌≡◌, Bool, true, false, not, cond, ◌&&◌, ◌||◌, List, [], ◌∷◌, map, eqb, length}
+use Rattle.std.specs.Prelude.{ℕ, suc, ◌≡◌, Bool, true, false, not, cond, ◌&&◌, ◌||◌, List, [], ◌∷◌, map, eqb, length, None, Option}
 use Rattle.model.specs.declared.Name.{Name}
 use Rattle.model.specs.declared.Span.{Span}
 use Rattle.model.specs.declared.Cap.{Cap}
 use Rattle.model.specs.declared.Tally.{Tally}
 use Rattle.model.specs.declared.Sheet.{Sheet}
-use Rattle.model.specs.declared.NewName.{NewName}
-use Rattle.model.specs.declared.NewName.TheVariants.{Unwritten}
 use Rattle.model.specs.declared.Event.TheVariants.{Create, Borrow, Read, Write, Drop}
 use Rattle.model.specs.Lists.{cons_if, filter, any, all, answers, final}
 use Rattle.model.specs.Values.{touches}
@@ -37,8 +35,8 @@ own_name given u = record { 0 = ordinal given u.0 }
 
 -- a request with its names so, and none written out
 unfoldable pub recounted : List ℕ → Request → Request
-recounted given (Single by (Create w s r)) = Single by (Create Unwritten s r)
-recounted given (Single by (Borrow w u s r)) = Single by (Borrow Unwritten (own_name given u) s r)
+recounted given (Single by (Create w s r)) = Single by (Create None s r)
+recounted given (Single by (Borrow w u s r)) = Single by (Borrow None (own_name given u) s r)
 recounted given (Single by (Read u s)) = Single by (Read (own_name given u) s)
 recounted given (Single by (Write u s)) = Single by (Write (own_name given u) s)
 recounted given (Single by (Drop u)) = Single by (Drop (own_name given u))
@@ -92,7 +90,7 @@ rows_of d p = map (recounted_row p.given) (filter (made_by d) (live_rows p.lent.
 -- ---- what is supposed of the domain's own requests
 
 -- "While names last, names written as in card 1 are right": no create or borrow of its own meets 9 or 12. (9 looks at no row.)
-abbrev right_new : ℕ → NewName → Bool
+abbrev right_new : ℕ → Option Name → Bool
 right_new issued w = not (names_spent [] issued) && not (misnamed issued w)
 
 -- "a domain that uses only capabilities it made": all names that it uses were given to it. They may have ended since.

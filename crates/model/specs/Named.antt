@@ -1,15 +1,14 @@
 -- Card 1, "names written out": requests with their right names, and without names. Names dropped together make none.
 -- Assumes nothing.
-use Rattle.std.specs.Prelude.{ℕ, suc, List, [], ◌∷◌}
-use Rattle.model.specs.declared.NewName.TheVariants.{Unwritten, Written}
+use Rattle.std.specs.Prelude.{ℕ, suc, List, [], ◌∷◌, None, Some}
 use Rattle.model.specs.declared.Event.TheVariants.{Create, Borrow, Read, Write, Drop}
 use Rattle.model.specs.Requests.{Request, Single, Group, Mark, Back}
 use Rattle.model.specs.Effects.{issued_after}
 
 -- a request that writes no name
 unfoldable pub unnamed : Request → Request
-unnamed (Single by (Create w s r)) = Single by (Create Unwritten s r)
-unnamed (Single by (Borrow w u s r)) = Single by (Borrow Unwritten u s r)
+unnamed (Single by (Create w s r)) = Single by (Create None s r)
+unnamed (Single by (Borrow w u s r)) = Single by (Borrow None u s r)
 unnamed (Single by (Read u s)) = Single by (Read u s)
 unnamed (Single by (Write u s)) = Single by (Write u s)
 unnamed (Single by (Drop u)) = Single by (Drop u)
@@ -19,8 +18,8 @@ unnamed (Back by k) = Back by k
 
 -- the same that writes the right name, "the issued number plus one", when so many names have been issued
 unfoldable pub rightly_named : ℕ → Request → Request
-rightly_named issued (Single by (Create w s r)) = Single by (Create (Written (record { 0 = suc issued })) s r)
-rightly_named issued (Single by (Borrow w u s r)) = Single by (Borrow (Written (record { 0 = suc issued })) u s r)
+rightly_named issued (Single by (Create w s r)) = Single by (Create (Some (record { 0 = suc issued })) s r)
+rightly_named issued (Single by (Borrow w u s r)) = Single by (Borrow (Some (record { 0 = suc issued })) u s r)
 rightly_named issued (Single by (Read u s)) = Single by (Read u s)
 rightly_named issued (Single by (Write u s)) = Single by (Write u s)
 rightly_named issued (Single by (Drop u)) = Single by (Drop u)

@@ -1,13 +1,11 @@
 -- Document 01, "Eleven ways to be turned down", of a request, and cards 1, 5, 6 and 9 to 11: the conditions 1 to 10, 12, 13 and 16 to 19, and which
 -- of them each request meets.
 -- Assumes nothing. (2 is here in its half about events; its other half, and 11, are of the text.)
-use Rattle.std.specs.Prelude.{ℕ, suc, Bool, false, not, cond, ◌&&◌, ◌||◌, List, [], ◌∷◌, ◌++◌, leb, ltb, eqb, length, get_or}
+use Rattle.std.specs.Prelude.{ℕ, suc, Bool, false, not, cond, ◌&&◌, ◌||◌, List, [], ◌∷◌, ◌++◌, leb, ltb, eqb, length, get_or, None, Option, Some}
 use Rattle.model.specs.declared.Name.{Name}
 use Rattle.model.specs.declared.Span.{Span}
 use Rattle.model.specs.declared.Cap.{Cap}
 use Rattle.model.specs.declared.Terms.{Terms}
-use Rattle.model.specs.declared.NewName.{NewName}
-use Rattle.model.specs.declared.NewName.TheVariants.{Unwritten, Written}
 use Rattle.model.specs.declared.Event.TheVariants.{Create, Borrow, Read, Write, Drop}
 use Rattle.model.specs.Lists.{any, first}
 use Rattle.model.specs.Values.{end, legal, inside}
@@ -62,9 +60,9 @@ abbrev pub not_a_slot : ℕ → ℕ → Bool
 not_a_slot actor k = not_a_domain actor || ltb 7 k
 
 -- 12. "the written name is not the issued number plus one"
-abbrev pub misnamed : ℕ → NewName → Bool
-misnamed issued Unwritten = false
-misnamed issued (Written x) = not (eqb x.0 (suc issued))
+abbrev pub misnamed : ℕ → Option Name → Bool
+misnamed issued None = false
+misnamed issued (Some x) = not (eqb x.0 (suc issued))
 
 -- 13. "a call whose lent list of names is empty, longer than 64 or not strictly rising"
 abbrev pub misgrouped : List ℕ → Bool
@@ -120,7 +118,7 @@ module _ (rows : List Cap) (issued : ℕ) where
   abbrev pub usable : ℕ → Name → Span → ℕ → List (ℕ × Bool)
   usable actor u s r = within actor u s ++ ((7, read_only u r) ∷ [])
 
-  abbrev pub room : Caller → ℕ → NewName → List (ℕ × Bool)
+  abbrev pub room : Caller → ℕ → Option Name → List (ℕ × Bool)
   room by size w = (9, names_spent) ∷ (12, misnamed issued w) ∷ (10, no_row by.limits rows size) ∷ (18, limit_reached by.limits rows by.actor) ∷ []
 
   -- those that each request meets after 1; of a group, "the first name refused gives the number". 19, "after 2": "a back finds nothing stored"

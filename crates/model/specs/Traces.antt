@@ -2,12 +2,11 @@
 -- to 11; and capcheck's example.
 -- One table, and one computed proof over it (proofs/Traces).
 -- Assumes nothing.
-use Rattle.std.specs.Prelude.{ℕ, zero, suc, Bool, true, false, ◌&&◌, List, [], ◌∷◌, ◌++◌, map, reverse, eqb, replicate, set}
+use Rattle.std.specs.Prelude.{ℕ, zero, suc, Bool, true, false, ◌&&◌, List, [], ◌∷◌, ◌++◌, map, reverse, eqb, replicate, set, None, Some}
 use Rattle.model.specs.declared.Span.{Span}
 use Rattle.model.specs.declared.Cap.{Cap}
 use Rattle.model.specs.declared.Tally.{Tally}
 use Rattle.model.specs.declared.Terms.{Terms}
-use Rattle.model.specs.declared.NewName.TheVariants.{Unwritten, Written}
 use Rattle.model.specs.declared.Event.TheVariants.{Create, Borrow, Read, Write, Drop}
 use Rattle.model.specs.declared.Effect.TheVariants.{Keep, Lower, End}
 use Rattle.model.specs.declared.Sheet.{Sheet}
@@ -38,10 +37,10 @@ abbrev terms : ℕ → ℕ → ℕ → Terms
 terms right kind fresh = record { right = right; kind = kind; fresh = fresh; holders = 1 }
 
 abbrev create : ℕ → ℕ → ℕ → Request
-create start length right = Single by (Create Unwritten (span start length) (terms right 0 0))
+create start length right = Single by (Create None (span start length) (terms right 0 0))
 
 abbrev borrow : ℕ → ℕ → ℕ → ℕ → Request
-borrow name start length right = Single by (Borrow Unwritten (record { 0 = name }) (span start length) (terms right 0 0))
+borrow name start length right = Single by (Borrow None (record { 0 = name }) (span start length) (terms right 0 0))
 
 abbrev read : ℕ → ℕ → ℕ → Request
 read name start length = Single by (Read (record { 0 = name }) (span start length))
@@ -54,14 +53,14 @@ drop name = Single by (Drop (record { 0 = name }))
 
 -- with a kind
 abbrev borrow_as : ℕ → ℕ → ℕ → ℕ → ℕ → Request
-borrow_as kind name start length right = Single by (Borrow Unwritten (record { 0 = name }) (span start length) (terms right kind 0))
+borrow_as kind name start length right = Single by (Borrow None (record { 0 = name }) (span start length) (terms right kind 0))
 
 -- with the name written out
 abbrev create_named : ℕ → ℕ → ℕ → ℕ → Request
-create_named new start length right = Single by (Create (Written (record { 0 = new })) (span start length) (terms right 0 0))
+create_named new start length right = Single by (Create (Some (record { 0 = new })) (span start length) (terms right 0 0))
 
 abbrev borrow_named : ℕ → ℕ → ℕ → ℕ → ℕ → Request
-borrow_named new name start length right = Single by (Borrow (Written (record { 0 = new })) (record { 0 = name }) (span start length) (terms right 0 0))
+borrow_named new name start length right = Single by (Borrow (Some (record { 0 = new })) (record { 0 = name }) (span start length) (terms right 0 0))
 
 -- ---- traces
 
@@ -281,7 +280,7 @@ thinned =
 
 -- Card 9
 abbrev create_fresh : ℕ → ℕ → ℕ → Request
-create_fresh start length right = Single by (Create Unwritten (span start length) (terms right 0 1))
+create_fresh start length right = Single by (Create None (span start length) (terms right 0 1))
 
 abbrev marked_row : ℕ → ℕ → ℕ → ℕ → ℕ → ℕ → Cap
 marked_row mark name parent start length depth = row (record { name = name; parent = parent; span = span start length; kind = 0; fresh = mark; maker = 0; holders = 1 }) RW depth
@@ -304,7 +303,7 @@ written_first =
     ((2, ro) ∷ (3, RW) ∷ [])
     -- 2: another mark, a kind in a create, a mark in a borrow; 3: an end above 65,536
     ∷ trace 4
-    ((Single by (Create Unwritten (span 0 8) (terms RW 0 2)), 2, 0) ∷ (Single by (Create Unwritten (span 0 8) (terms RW 1 0)), 2, 0) ∷ (create_fresh 65528 9 RW, 3, 0) ∷ (create_fresh 65528 8 RW, 0, 1) ∷ (Single by (Borrow Unwritten (record { 0 = 1 }) (span 65528 8) (terms RW 0 1)), 2, 0) ∷ (create_fresh 65536 0 RW, 0, 2) ∷ [])
+    ((Single by (Create None (span 0 8) (terms RW 0 2)), 2, 0) ∷ (Single by (Create None (span 0 8) (terms RW 1 0)), 2, 0) ∷ (create_fresh 65528 9 RW, 3, 0) ∷ (create_fresh 65528 8 RW, 0, 1) ∷ (Single by (Borrow None (record { 0 = 1 }) (span 65528 8) (terms RW 0 1)), 2, 0) ∷ (create_fresh 65536 0 RW, 0, 2) ∷ [])
     ((1, RW) ∷ (2, RW) ∷ [])
     -- 1: a marked row that ends above 65,536, marks that differ from the parent's, no mark, and 8,191 bytes
     ∷ from (lending (marked_row 1 1 0 65530 7 1 ∷ []) 1) ((read 1 65530 0, 1, 0) ∷ []) ((1, RW) ∷ [])
@@ -338,14 +337,14 @@ abbrev holding : ℕ → Terms
 holding mask = record { right = RW; kind = 0; fresh = 0; holders = mask }
 
 abbrev create_by : Caller → ℕ → ℕ → ℕ → Request
-create_by q mask start length = Single q (Create Unwritten (span start length) (holding mask))
+create_by q mask start length = Single q (Create None (span start length) (holding mask))
 
 -- with a name that is written out
 abbrev named_by : Caller → ℕ → ℕ → ℕ → ℕ → Request
-named_by q name mask start length = Single q (Create (Written (record { 0 = name })) (span start length) (holding mask))
+named_by q name mask start length = Single q (Create (Some (record { 0 = name })) (span start length) (holding mask))
 
 abbrev borrow_by : Caller → ℕ → ℕ → ℕ → ℕ → Request
-borrow_by q mask name start length = Single q (Borrow Unwritten (record { 0 = name }) (span start length) (holding mask))
+borrow_by q mask name start length = Single q (Borrow None (record { 0 = name }) (span start length) (holding mask))
 
 abbrev read_by : Caller → ℕ → ℕ → ℕ → Request
 read_by q name start length = Single q (Read (record { 0 = name }) (span start length))

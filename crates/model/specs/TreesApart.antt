@@ -1,11 +1,11 @@
 -- Trees apart. Since card 4 a create ends what it touches, so no two live roots share an address. What goes through a name stays in that
 -- name's tree, and does there what it would do if the tree stood alone: a maker may keep one small table for each allocation.
 -- Assumes nothing.
-use Rattle.std.specs.Prelude.{ℕ, suc, ◌<◌, ◌≤◌, ◌≡◌, Bool, true, false, not, cond, ◌&&◌, ◌||◌, List, [], ◌∷◌, eqb, length}
+use Rattle.std.specs.Prelude.{ℕ, suc, ◌<◌, ◌≤◌, ◌≡◌, Bool, true, false, not, cond, ◌&&◌, ◌||◌, List, [], ◌∷◌, eqb, length, Option}
+use Rattle.model.specs.declared.Name.{Name}
 use Rattle.model.specs.declared.Span.{Span}
 use Rattle.model.specs.declared.Cap.{Cap}
 use Rattle.model.specs.declared.Sheet.{Sheet}
-use Rattle.model.specs.declared.NewName.{NewName}
 use Rattle.model.specs.declared.Terms.{Terms}
 use Rattle.model.specs.declared.Event.TheVariants.{Create, Borrow, Read, Write, Drop}
 use Rattle.model.specs.declared.Access.TheVariants.{Writing}
@@ -112,7 +112,7 @@ pub record TreesApart (sheet : Sheet) (h : State) : Type 0 where
   -- A request leaves every tree that it does not concern exactly as it was: no row of it ends, loses its right or is made.
   pub others_stay : (q : Request) (r : ℕ) → concerns (live h) (issued h) r q ≡ false → tree (live (after sheet h q)) r ≡ tree (live h) r
   -- An allowed create ends the whole of every tree whose root it touches.
-  pub create_ends : (by : Caller) (w : NewName) (s : Span) (t : Terms) (r : ℕ) → judge (view h) (Single by (Create w s t)) ≡ 0 → touches s (span_of h r) ≡ true → tree (live (after sheet h (Single by (Create w s t)))) r ≡ []
+  pub create_ends : (by : Caller) (w : Option Name) (s : Span) (t : Terms) (r : ℕ) → judge (view h) (Single by (Create w s t)) ≡ 0 → touches s (span_of h r) ≡ true → tree (live (after sheet h (Single by (Create w s t)))) r ≡ []
   -- An allowed request that stays in one tree does to it what it would do if the tree stood alone. So what is borrowed is in the tree of what it
   -- is borrowed from, and what is created in a tree of its own.
   pub as_alone : (q : Request) (r : ℕ) → judge (view h) q ≡ 0 → stays_in (live h) (issued h) r q ≡ true → tree (live (after sheet h q)) r ≡ rows_after sheet (issued h) (tree (live h) r) q

@@ -1,12 +1,11 @@
 -- Card 10, tried, with the states of card 11: two sequences that differ only in another domain's events, and meet all that independence supposes; why it supposes that limits
 -- are lent; and trees apart, with a sheet by which they are not. What is said of them is computed in proofs/Tried.
 -- Assumes nothing.
-use Rattle.std.specs.Prelude.{ℕ, List, [], ◌∷◌, map, replicate, set}
+use Rattle.std.specs.Prelude.{ℕ, List, [], ◌∷◌, map, replicate, set, None}
 use Rattle.model.specs.declared.Span.{Span}
 use Rattle.model.specs.declared.Cap.{Cap}
 use Rattle.model.specs.declared.Tally.{Tally}
 use Rattle.model.specs.declared.Terms.{Terms}
-use Rattle.model.specs.declared.NewName.TheVariants.{Unwritten}
 use Rattle.model.specs.declared.Event.TheVariants.{Create, Borrow, Read, Write, Drop}
 use Rattle.model.specs.declared.Effect.TheVariants.{Keep, Lower, End}
 use Rattle.model.specs.declared.Sheet.{Sheet}
@@ -27,10 +26,10 @@ abbrev give : ℕ → ℕ → ℕ → Terms
 give kind fresh holders = record { right = 2; kind = kind; fresh = fresh; holders = holders }
 
 abbrev create : Caller → ℕ → ℕ → ℕ → ℕ → Request
-create by fresh mask start length = Single by (Create Unwritten (span start length) (give 0 fresh mask))
+create by fresh mask start length = Single by (Create None (span start length) (give 0 fresh mask))
 
 abbrev borrow : Caller → ℕ → ℕ → ℕ → ℕ → ℕ → Request
-borrow by kind mask name start length = Single by (Borrow Unwritten (record { 0 = name }) (span start length) (give kind 0 mask))
+borrow by kind mask name start length = Single by (Borrow None (record { 0 = name }) (span start length) (give kind 0 mask))
 
 abbrev pub read : Caller → ℕ → ℕ → ℕ → Request
 read by name start length = Single by (Read (record { 0 = name }) (span start length))

@@ -24,6 +24,7 @@ pub struct Span {
 // 2 cell"; card 9: borrows below a `fresh` create "carry that mark in their records", 1 where they do and 0 else; card 10: "the maker's
 // domain and a 64-bit mask of holders", domain D being worth 2^D. In a table in order the right is 1 (`ro`) or 2 (`rw`), the kind at most 2,
 // and the maker at most 63. In C the mask is two words, so that a row is eleven words of 32 bits and no byte of it is padding.
+// Right, kind and mark stay words, since C lends any (`kz_cap`): `in_order` (specs/Table) is false of a row with one that is no right, kind or mark.
 #[repr(C)]
 #[derive(Clone, Copy)]
 pub struct Cap {
@@ -52,16 +53,10 @@ pub struct Tally {
     pub refused: u32,
 }
 
-// Card 1, "names written out": the name that a create or borrow writes out for what it makes, any 32-bit number; or none.
-#[derive(Clone, Copy)]
-pub enum NewName {
-    Unwritten,
-    Written(Name),
-}
-
 // What a create or borrow gives to what it makes besides a span: the right; by card 6 the kind, which is 0 in a create ("Creates make
 // references"); and by card 9 whether it is `fresh`, 1, or not, 0, as in every borrow. Each may be any byte. Card 10: "a 64-bit mask of
 // holders, given by the maker at creation or borrowing and including itself".
+// They stay numbers, since `unfit_root` and `unfit_child` (specs/Refusals) say refusal 2 of those that are no right, kind or mark.
 #[derive(Clone, Copy)]
 pub struct Terms {
     pub right: u8,
@@ -70,11 +65,12 @@ pub struct Terms {
     pub holders: u64,
 }
 
-// "Values", an event: one of five kinds, each with its own values. The names, starts and lengths may be any 32-bit numbers.
+// "Values", an event: one of five kinds, each with its own values. The names, starts and lengths may be any 32-bit numbers. Card 1, "names
+// written out": a create or borrow has first the name that it writes out for what it makes, any 32-bit number; or none.
 #[derive(Clone, Copy)]
 pub enum Event {
-    Create(NewName, Span, Terms),
-    Borrow(NewName, Name, Span, Terms),
+    Create(Option<Name>, Span, Terms),
+    Borrow(Option<Name>, Name, Span, Terms),
     Read(Name, Span),
     Write(Name, Span),
     Drop(Name),
@@ -140,7 +136,8 @@ pub struct Sheet {
     pub cell: Conflicts,
 }
 
-// "Eleven ways to be turned down", and those of the cards: each is named for its condition.
+// "Eleven ways to be turned down", and those of the cards: each is named for its condition. The answer to an event is a
+// `Result<Name, Refusal>`: allowed, with the new name of a create or borrow and name 0 of the others; or refused.
 #[derive(Clone, Copy)]
 pub enum Refusal {
     // 1: table not in order, written bits of another length than 8,192 bytes, a sheet of limits that is refused, memory for other than eight
@@ -183,11 +180,4 @@ pub enum Refusal {
     LimitReached,
     // 19, after 2: a back finds nothing stored.
     NothingStored,
-}
-
-// The answer to an event: allowed, with the new name of a create or borrow and name 0 of the others; or refused.
-#[derive(Clone, Copy)]
-pub enum Answer {
-    Allowed(Name),
-    Refused(Refusal),
 }

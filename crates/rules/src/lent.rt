@@ -10,7 +10,7 @@ ghost use Rattle.table.specs.States.{states_in};
 ghost use Rattle.table.specs.Lent.{tally_in, lent};
 
 use crate::steps::step;
-use model::{Answer, Asked};
+use model::{Asked, Name, Refusal};
 use table::lent::{set_tally, tally_at};
 use table::{Row, SheetBytes};
 
@@ -26,7 +26,7 @@ pub fn apply(
     limits: &[u32],
     asked: Asked,
     names: &[u32],
-) -> Answer
+) -> Result<Name, Refusal>
     ensures { (rows_in table.new ≡ (Step.after (sheet_in sheet.now) (lent table.old bits.old stored.old copies.old tally.old) (request_of (limits_in limits.now) asked names.now)).memory.table)
         × (bits.new ≡ (Step.after (sheet_in sheet.now) (lent table.old bits.old stored.old copies.old tally.old) (request_of (limits_in limits.now) asked names.now)).memory.bits)
         × (states_in stored.new copies.new ≡ (Step.after (sheet_in sheet.now) (lent table.old bits.old stored.old copies.old tally.old) (request_of (limits_in limits.now) asked names.now)).slots)

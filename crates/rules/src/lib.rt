@@ -1,7 +1,7 @@
 // The rules engine: one request on a lent table, its written bits and a tally, proved equal to the definitions of the crate `model`. It works in place.
 #![tactic(auto)]
 
-use model::{Answer, Tally};
+use model::{Name, Refusal, Tally};
 
 pub mod answers;
 pub mod count;
@@ -16,7 +16,7 @@ pub mod steps;
 #[derive(Clone, Copy)]
 pub struct Outcome {
     pub tally: Tally,
-    pub answer: Answer,
+    pub answer: Result<Name, Refusal>,
 }
 
 // The same, and how many rows live then.

@@ -24,12 +24,6 @@ fn origin_of(apart: bool, kin: bool) -> Origin
     if kin { Origin::Kin } else { Origin::Stranger }
 }
 
-fn larger(a: u8, b: u8) -> u8
-    ensures { result ≡ max a b }
-{
-    if a < b { b } else { a }
-}
-
 // The place of the nearest cell, where `found` was found further down, k if none, and the row at i is the next.
 fn nearer(table: &[Row], k: usize, found: usize, i: usize) -> usize
     requires { i < length table.now }
@@ -88,10 +82,8 @@ fn set_inside(k: usize, places: &[u16; 1024], cell: usize, relation: &mut [u8; 1
     requires { (k ≤ 1024) × (cell < k) × (length relation.old ≡ 1024) }
     ensures { SetInside k cell places.now relation.old relation.new }
 {
-    let mut i = cell + 1;
-    while i < k {
+    for i in cell + 1..k {
         relation[i] = inside_mark(relation, cell, wide(places[i]), i);
-        i += 1;
     }
 }
 
@@ -120,7 +112,7 @@ pub(crate) fn relate(
 fn is_apart(in_cell: bool, relation: u8) -> bool
     ensures { result ≡ is_apart in_cell relation }
 {
-    if in_cell { relation != 2 } else { false }
+    in_cell && relation != 2
 }
 
 // A holder's own mark: what an access to s gives it by a sheet.
@@ -158,23 +150,22 @@ fn mark_below(marks: &[u8; 1024], q: usize, i: usize) -> u8
 fn is_struck(s: Span, t: Span, on: bool) -> bool
     ensures { result ≡ (touches s t && not on) }
 {
-    if do_touch(s, t) { !on } else { false }
+    do_touch(s, t) && !on
 }
 
 // How many rows stand in front of the first that an access to s touches and that is not on the user's ancestry.
+// No `position`, which would be no plainer: a row and its relation stand at the same place of two lists.
 pub(crate) fn first_struck(table: &[Row], k: usize, relation: &[u8; 1024], s: Span) -> usize
     requires { (k ≤ 1024) × Rise (rows_in table.now) k }
     ensures { Spared (rows_in table.now) k relation.now s result }
 {
-    let mut i: usize = 0;
-    while i < k {
+    for i in 0..k {
         let c = row_at(table, i);
         if is_struck(s, span_of(c), relation[i] == 1) {
             return i;
         }
-        i += 1;
     }
-    i
+    k
 }
 
 // Each row's mark is the greater of its own and its parent's: an access to s. Those in front of the first that is struck have none.
@@ -195,17 +186,15 @@ pub(crate) fn spread_access(
     ensures { Spread (rows_in table.now) k (own_of_access (sheet_in sheet.now) (rows_in table.now) in_cell relation.now places.now a s) marks.new × Quiet k first marks.new × Most k marks.new result }
 {
     let mut most: u8 = 0;
-    let mut i = first;
-    while i < k {
+    for i in first..k {
         let c = row_at(table, i);
         let q = wide(places[i]);
         let kin = mark_below(relation, q, i) == 1;
         let owned = own_mark(sheet, a, s, c, in_cell, relation[i], kin);
         let up = mark_below(marks, q, i);
-        let mark = larger(owned, up);
+        let mark = up.max(owned);
         marks[i] = mark;
-        most = larger(most, mark);
-        i += 1;
+        most = mark.max(most);
     }
     most
 }
@@ -215,10 +204,8 @@ pub(crate) fn own_of_names(table: &[Row], k: usize, names: &[u32], owned: &mut [
     requires { LiveRows (rows_in table.now) k × (owned.old ≡ replicate 1025 0) }
     ensures { Owned (rows_in table.now) k names.now owned.new }
 {
-    let mut i = names.len();
-    while 0 < i {
-        i -= 1;
-        let q = find(table, k, names[i]);
+    for name in names {
+        let q = find(table, k, *name);
         owned[q] = 2;
     }
 }
@@ -228,14 +215,7 @@ pub(crate) fn first_owned(owned: &[u8; 1025], k: usize) -> usize
     requires { k ≤ 1024 }
     ensures { Quiet k result owned.now }
 {
-    let mut i: usize = 0;
-    while i < k {
-        if owned[i] != 0 {
-            return i;
-        }
-        i += 1;
-    }
-    i
+    owned[..k].iter().position(|mark| *mark != 0).unwrap_or(k)
 }
 
 // The marks of a drop of all rows that have 2: their subtrees go, in one pass from the first of them on.
@@ -250,10 +230,8 @@ pub(crate) fn spread_names(
     requires { (k ≤ 1024) × Rise (rows_in table.now) k × Places (rows_in table.now) k places.now × Quiet k first owned.now × (marks.old ≡ replicate 1024 0) }
     ensures { Spread (rows_in table.now) k (λ i. get_or owned.now i 0) marks.new × Quiet k first marks.new }
 {
-    let mut i = first;
-    while i < k {
+    for i in first..k {
         let up = mark_below(marks, wide(places[i]), i);
-        marks[i] = larger(owned[i], up);
-        i += 1;
+        marks[i] = up.max(owned[i]);
     }
 }

@@ -15,7 +15,7 @@ ghost use Rattle.rules.specs.Records.{Requested};
 
 use crate::Outcome;
 use crate::steps::step_work;
-use model::{Answer, Cap, Refusal, Sheet, Tally, Work};
+use model::{Cap, Name, Refusal, Sheet, Tally, Work};
 use table::sheets::bytes_of;
 use table::words::{row_at, set_row};
 use table::{Row, SheetBytes, WIDTH};
@@ -48,10 +48,8 @@ fn load(table: &[Cap], n: usize, rows: &mut [Row; 1024])
     requires { (n ≤ length table.now) × (n ≤ 1024) }
     ensures { rows.new ≡ map words_of (take n table.now) ++ drop n rows.old }
 {
-    let mut i: usize = 0;
-    while i < n {
+    for i in 0..n {
         put(rows, i, table[i]);
-        i += 1;
     }
 }
 
@@ -60,10 +58,8 @@ fn store(table: &mut [Cap], n: usize, rows: &[Row; 1024])
     requires { (n ≤ length table.old) × (n ≤ 1024) × (length rows.now ≡ 1024) }
     ensures { table.new ≡ take n (rows_in rows.now) ++ drop n table.old }
 {
-    let mut i: usize = 0;
-    while i < n {
+    for i in 0..n {
         table[i] = get(rows, i);
-        i += 1;
     }
 }
 
@@ -86,7 +82,7 @@ fn request_first(
     }
     Outcome {
         tally: t,
-        answer: Answer::Refused(Refusal::Disordered),
+        answer: Err(Refusal::Disordered),
     }
 }
 
@@ -118,7 +114,7 @@ pub fn apply(
     limits: &[u32],
     work: Work,
     names: &[u32],
-) -> Answer
+) -> Result<Name, Refusal>
     ensures { (table.new ≡ (Step.after sheet (lends table.old bits.old unstored tally.old) (work_of (limits_in limits.now) work names.now)).memory.table)
         × (bits.new ≡ (Step.after sheet (lends table.old bits.old unstored tally.old) (work_of (limits_in limits.now) work names.now)).memory.bits)
         × (tally.new ≡ (Step.after sheet (lends table.old bits.old unstored tally.old) (work_of (limits_in limits.now) work names.now)).tally)

@@ -53,10 +53,8 @@ pub(crate) fn lower(table: &mut [Row], first: usize, k: usize, marks: &[u8; 1024
     requires { (k ≤ 1024) × (k ≤ length table.old) × Quiet k first marks.now }
     ensures { Lowers marks.now (rows_in table.old) (rows_in table.new) k }
 {
-    let mut i = first;
-    while i < k {
+    for i in first..k {
         lower_row(table, i, marks[i]);
-        i += 1;
     }
 }
 
@@ -86,10 +84,8 @@ fn stay_put(first: usize) -> [u16; 1024]
     ensures { Stays first result }
 {
     let mut moved = [0u16; 1024];
-    let mut i: usize = 0;
-    while i < first {
+    for i in 0..first {
         moved[i] = i as u16;
-        i += 1;
     }
     moved
 }
@@ -109,26 +105,23 @@ fn close(
     // Where each row goes. A root has its own place, and a parent stays where a child of it does.
     let mut moved = stay_put(first);
     let mut left = first;
-    let mut i = first;
-    while i < k {
+    for i in first..k {
         moved[i] = left as u16;
         let q = wide(places[i]);
         places[left] = moved[q];
         left = move_row(table, i, left, marks[i]);
-        i += 1;
     }
     left
 }
 
 // Zeros from one row up to another.
+// Each row is put by `set_row`, and not all by `fill`, since only `table::words` knows a row's words.
 pub(crate) fn clear(table: &mut [Row], from: usize, to: usize)
     requires { (from ≤ to) × (to ≤ length table.old) }
     ensures { Clears (rows_in table.old) (rows_in table.new) from to }
 {
-    let mut i = from;
-    while i < to {
+    for i in from..to {
         set_row(table, i, empty_row());
-        i += 1;
     }
 }
 

@@ -1,7 +1,6 @@
 // Marks and backs: the table and its written bits are stored in a slot, and brought back. What is copied is the live rows and the bits.
-ghost use Rattle.std.specs.Prelude.{◌≡◌, true, not, cond, ℕ, ◌+◌, ◌*◌, ◌<◌, ◌≤◌, length, set};
+ghost use Rattle.std.specs.Prelude.{◌≡◌, true, not, cond, ℕ, ◌+◌, ◌*◌, ◌<◌, ◌≤◌, length, set, Err};
 ghost use Rattle.std.proofs.Math.Seq.{paste};
-ghost use Rattle.model.specs.declared.Answer.TheVariants.{Refused};
 ghost use Rattle.model.specs.Answers.{number};
 ghost use Rattle.model.specs.Counts;
 ghost use Rattle.model.specs.Refusals.{not_a_domain, not_a_slot};
@@ -15,32 +14,19 @@ ghost use Rattle.rules.specs.States.{Stores, Brings, Marks, Backs};
 use crate::count::count_refused;
 use crate::settle::clear;
 use crate::{Outcome, Progress};
-use model::{Answer, Name, Refusal, Tally};
+use model::{Name, Refusal, Tally};
 use table::Row;
 use table::masks::is_domain;
 use table::states::{Stock, head_at, look_back};
 
-// Puts the first n rows of one list from a place of another on. Internal: the caller shows that there are so many of both.
-fn copy_rows(to: &mut [Row], at: usize, from: &[Row], n: usize)
+// Puts the first n of one list, rows or bytes, from a place of another on. Internal: the caller shows that there are so many of both.
+fn copy_into<T: Copy>(to: &mut [T], at: usize, from: &[T], n: usize)
     requires { (at + n ≤ length to.old) × (n ≤ length from.now) }
     ensures { to.new ≡ paste to.old at from.now n }
 {
-    let mut i: usize = 0;
-    while i < n {
+    // No `copy_from_slice`: it is a `memmove`, and of the C library the archives need `memset` and `memcpy` alone.
+    for i in 0..n {
         to[at + i] = from[i];
-        i += 1;
-    }
-}
-
-// The same of bytes.
-fn copy_bytes(to: &mut [u8], at: usize, from: &[u8], n: usize)
-    requires { (at + n ≤ length to.old) × (n ≤ length from.now) }
-    ensures { to.new ≡ paste to.old at from.now n }
-{
-    let mut i: usize = 0;
-    while i < n {
-        to[at + i] = from[i];
-        i += 1;
     }
 }
 
@@ -75,14 +61,8 @@ fn store(
 {
     let at = head_at(slot);
     put_head(stored, at, k, table.len() - k);
-    copy_rows(stored, at + 1, table, k);
-    copy_bytes(copies, bytes_at(slot), bits, 8192);
-}
-
-fn larger(a: usize, b: usize) -> usize
-    ensures { (a ≤ result) × (b ≤ result) × ((m : ℕ) → a ≤ m → b ≤ m → result ≤ m) }
-{
-    if a < b { b } else { a }
+    copy_into(stored, at + 1, table, k);
+    copy_into(copies, bytes_at(slot), bits, 8192);
 }
 
 // Brings back the table that is stored in a slot, of which so many rows live, where k rows live now; and its bits.
@@ -100,24 +80,24 @@ fn bring(
     ensures { Brings table.old stored.now copies.now slot live table.new bits.new }
 {
     let first = head_at(slot) + 1;
-    copy_rows(table, 0, &stored[first..], live);
-    clear(table, live, larger(live, k));
-    copy_bytes(bits, 0, &copies[bytes_at(slot)..], 8192);
+    copy_into(table, 0, &stored[first..], live);
+    clear(table, live, live.max(k));
+    copy_into(bits, 0, &copies[bytes_at(slot)..], 8192);
 }
 
 // What a refusal other than 1 leaves.
 fn refused(t: Tally, k: usize, x: Refusal) -> Progress
-    ensures { (result.live ≡ k) × (result.outcome.tally ≡ Counts.count_refused t) × (result.outcome.answer ≡ Refused x) }
+    ensures { (result.live ≡ k) × (result.outcome.tally ≡ Counts.count_refused t) × (result.outcome.answer ≡ Err x) }
 {
     let outcome = Outcome {
         tally: count_refused(t),
-        answer: Answer::Refused(x),
+        answer: Err(x),
     };
     Progress { outcome, live: k }
 }
 
 // What is allowed, or refused 1, leaves: the tally as it is.
-fn uncounted(t: Tally, live: usize, answer: Answer) -> Progress
+fn uncounted(t: Tally, live: usize, answer: Result<Name, Refusal>) -> Progress
     ensures { (result.live ≡ live) × (result.outcome.tally ≡ t) × (result.outcome.answer ≡ answer) }
 {
     let outcome = Outcome { tally: t, answer };
@@ -153,7 +133,7 @@ pub(crate) fn take_mark(
         return refused(t, k, Refusal::Misspelt);
     }
     store(table, k, t.issued, bits, stored, copies, slot);
-    uncounted(t, k, Answer::Allowed(Name(0)))
+    uncounted(t, k, Ok(Name(0)))
 }
 
 // The refusal of a back that finds nothing stored: 2 where no domain acts, and else 19.
@@ -191,7 +171,7 @@ pub(crate) fn take_back(
     let mut brought = [0u16; 1024];
     let found = look_back(stored, slot, table.len(), t.issued, limits, &mut brought);
     match found {
-        Stock::Unfit => uncounted(t, k, Answer::Refused(Refusal::Disordered)),
+        Stock::Unfit => uncounted(t, k, Err(Refusal::Disordered)),
         Stock::Empty => refused(t, k, nothing_stored(actor)),
         Stock::Fit(live) => {
             if !is_domain(actor) {
@@ -199,7 +179,7 @@ pub(crate) fn take_back(
             }
             bring(table, k, t.issued, bits, stored, copies, slot, live);
             *places = brought;
-            uncounted(t, live, Answer::Allowed(Name(0)))
+            uncounted(t, live, Ok(Name(0)))
         }
     }
 }

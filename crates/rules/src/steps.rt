@@ -20,16 +20,16 @@ use crate::marks::{first_owned, first_struck, own_of_names, relate, spread_acces
 use crate::settle::{lower, settle};
 use crate::states::{take_back, take_mark};
 use crate::{Outcome, Progress};
-use model::{Access, Answer, Asked, Cap, Event, Name, Refusal, Span, Tally, Terms, Work};
+use model::{Access, Asked, Cap, Event, Name, Refusal, Span, Tally, Terms, Work};
 use table::bits::put_span;
 use table::find::find;
 use table::lent::{look, look_all};
-use table::ordered::Look;
 use table::requests::judge_request;
 use table::words::{row_at, set_row};
 use table::{Row, SheetBytes};
 
 // The row of a new capability.
+// Its kind and its mark are numbers, as the words of a row are (`Cap`).
 fn new_row(
     name: u32,
     parent: u32,
@@ -231,19 +231,19 @@ pub fn take_work(
 {
     let a = judge_request(table, k, bits, t.issued, limits, work, names);
     match a {
-        Answer::Refused(x) => {
+        Err(x) => {
             let outcome = Outcome {
                 tally: count_refused(t),
-                answer: Answer::Refused(x),
+                answer: Err(x),
             };
             Progress { outcome, live: k }
         }
-        Answer::Allowed(x) => {
+        Ok(x) => {
             let live = change(table, k, places, sheet, t.issued, work, names);
             change_bits(bits, work);
             let outcome = Outcome {
                 tally: count_allowed(work, t),
-                answer: Answer::Allowed(x),
+                answer: Ok(x),
             };
             Progress { outcome, live }
         }
@@ -285,7 +285,7 @@ fn disordered(t: Tally) -> Outcome
 {
     Outcome {
         tally: t,
-        answer: Answer::Refused(Refusal::Disordered),
+        answer: Err(Refusal::Disordered),
     }
 }
 
@@ -305,7 +305,7 @@ pub(crate) fn step_work(
     let mut places = [0u16; 1024];
     let found = look(table, bits, t.issued, limits, &mut places);
     match found {
-        Look::InOrder(live) => {
+        Some(live) => {
             let p = take_work(
                 table,
                 live,
@@ -320,7 +320,7 @@ pub(crate) fn step_work(
             let outcome = p.outcome;
             outcome
         }
-        Look::Disordered => disordered(t),
+        None => disordered(t),
     }
 }
 
@@ -341,7 +341,7 @@ pub(crate) fn step(
     let mut places = [0u16; 1024];
     let found = look_all(table, bits, stored, copies, t.issued, limits, &mut places);
     match found {
-        Look::InOrder(live) => {
+        Some(live) => {
             let p = take(
                 table,
                 live,
@@ -358,6 +358,6 @@ pub(crate) fn step(
             let outcome = p.outcome;
             outcome
         }
-        Look::Disordered => disordered(t),
+        None => disordered(t),
     }
 }

@@ -1,12 +1,11 @@
 -- Card 7: reading a sheet's text. "A refused sheet changes nothing."
 -- Assumes nothing.
-use Rattle.std.specs.Prelude.{ℕ, cond, List, map, eqb}
+use Rattle.std.specs.Prelude.{ℕ, cond, List, map, eqb, Ok, Err, Result}
+use Rattle.model.specs.declared.Refusal.{Refusal}
 use Rattle.model.specs.Answers.{number}
 use Rattle.text.specs.Line.{lines_of}
 use Rattle.sheet.specs.Rule.{Rule, read_rule}
 use Rattle.sheet.specs.Rules.{judge_rules, bytes_given}
-use Rattle.sheet.specs.declared.read.SheetRead.{SheetRead}
-use Rattle.sheet.specs.declared.read.SheetRead.TheVariants.{Sheet, Refused}
 
 -- what its lines say
 abbrev pub rules_in : List ℕ → List Rule
@@ -21,6 +20,6 @@ unfoldable pub sheet_into : List ℕ → List ℕ → List ℕ
 sheet_into text lent = cond (eqb (judge_text text) 0) (bytes_given (rules_in text)) lent
 
 -- the number of each answer
-abbrev pub sheet_answer : SheetRead → ℕ
-sheet_answer Sheet = 0
-sheet_answer (Refused f) = number f
+abbrev pub sheet_answer : Result (Unit {0}) Refusal → ℕ
+sheet_answer (Ok done) = 0
+sheet_answer (Err f) = number f

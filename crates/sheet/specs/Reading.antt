@@ -23,6 +23,10 @@ word_code own w =
     cond (ltb (number_among (inside own) w) (length own)) (number_among (inside own) w)
     (cond (ltb (number_among (closing own) w) (length own)) (3 + number_among (closing own) w) 6)
 
+-- the same of a word among those behind which a bracket goes on, and those that close it
+abbrev pub code_among : List (List ℕ) → List (List ℕ) → List ℕ → ℕ
+code_among going last w = cond (ltb (number_among going w) (length going)) (number_among going w) (cond (ltb (number_among last w) (length last)) (3 + number_among last w) 6)
+
 -- the words from a place of a line on
 abbrev pub words_from : List ℕ → ℕ → List (List ℕ)
 words_from line at = words_of (drop at line)

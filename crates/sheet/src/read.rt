@@ -10,38 +10,24 @@ use model::Refusal;
 use table::SheetBytes;
 use text::lines;
 
-// What reading a sheet answers: it is one, or the refusal.
-#[derive(Clone, Copy)]
-pub enum SheetRead {
-    Sheet,
-    Refused(Refusal),
-}
-
-// The smaller of a number and 2.
-fn up_to_2(n: u8) -> u8
-    ensures { result ≡ min n 2 }
-{
-    if n < 2 { n } else { 2 }
-}
-
 // How often a line gives the combination at a place, up to twice.
 fn given_by(rule: Counted, place: usize) -> u8
     requires { place < 18 }
     ensures { result ≡ counts_at rule place }
 {
-    let holder = up_to_2(rule.holders[place / 6]);
-    let access = up_to_2(rule.accesses[place / 3 % 2]);
-    let origin = up_to_2(rule.origins[place % 3]);
-    up_to_2(holder * access * origin)
+    let holder = rule.holders[place / 6].min(2);
+    let access = rule.accesses[place / 3 % 2].min(2);
+    let origin = rule.origins[place % 3].min(2);
+    (holder * access * origin).min(2)
 }
 
 // What a line adds: how often each combination is given, up to twice, and the result of the first line that gives it.
+// Results are numbers here and in `read_lines`: the bytes of a sheet, as C lends it (`kz_sheet`), which may have any value.
 fn add_rule(rule: Counted, seen: &mut [u8; 18], results: &mut [u8; 18])
     requires { Ready seen.old results.old }
     ensures { Adds rule seen.old results.old seen.new results.new }
 {
-    let mut p: usize = 0;
-    while p < 18 {
+    for p in 0..18 {
         let times = given_by(rule, p);
         let before = seen[p];
         if before == 0 {
@@ -49,8 +35,7 @@ fn add_rule(rule: Counted, seen: &mut [u8; 18], results: &mut [u8; 18])
                 results[p] = rule.result;
             }
         }
-        seen[p] = up_to_2(before + times);
-        p += 1;
+        seen[p] = (before + times).min(2);
     }
 }
 
@@ -59,7 +44,7 @@ fn read_lines(text: &[u8], seen: &mut [u8; 18], results: &mut [u8; 18]) -> bool
     requires { Noted [] seen.old results.old }
     ensures { ReadsLines text.now result seen.new results.new }
 {
-    let mut at: usize = 0;
+    let mut at = 0;
     while at < text.len() {
         let line = lines::next_line(&text[at..]);
         let rule = read_rule(line);
@@ -76,45 +61,31 @@ fn read_lines(text: &[u8], seen: &mut [u8; 18], results: &mut [u8; 18]) -> bool
 fn some_twice(seen: &[u8; 18]) -> bool
     ensures { result ≡ any (λ p. ltb 1 (get_or seen.now p 0)) places }
 {
-    let mut p: usize = 0;
-    while p < 18 {
-        if 1 < seen[p] {
-            return true;
-        }
-        p += 1;
-    }
-    false
+    seen.iter().any(|times| 1 < *times)
 }
 
 // Whether a combination is missing.
 fn some_missing(seen: &[u8; 18]) -> bool
     ensures { result ≡ any (λ p. eqb (get_or seen.now p 0) 0) places }
 {
-    let mut p: usize = 0;
-    while p < 18 {
-        if seen[p] == 0 {
-            return true;
-        }
-        p += 1;
-    }
-    false
+    seen.contains(&0)
 }
 
 // Reads a sheet's text into the sheet that is lent, unless it is refused.
-pub fn read_sheet(text: &[u8], sheet: &mut SheetBytes) -> SheetRead
+pub fn read_sheet(text: &[u8], sheet: &mut SheetBytes) -> Result<(), Refusal>
     ensures { (sheet_answer result ≡ judge_text text.now) × (sheet.new ≡ sheet_into text.now sheet.old) }
 {
     let mut seen = [0u8; 18];
     let mut results = [2u8; 18];
     if !read_lines(text, &mut seen, &mut results) {
-        return SheetRead::Refused(Refusal::Misspelt);
+        return Err(Refusal::Misspelt);
     }
     if some_twice(&seen) {
-        return SheetRead::Refused(Refusal::GivenTwice);
+        return Err(Refusal::GivenTwice);
     }
     if some_missing(&seen) {
-        return SheetRead::Refused(Refusal::NotGiven);
+        return Err(Refusal::NotGiven);
     }
     *sheet = results;
-    SheetRead::Sheet
+    Ok(())
 }

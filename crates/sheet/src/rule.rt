@@ -29,7 +29,7 @@ fn behind(line: &[u8], at: usize, expected: &[u8]) -> usize
     ensures { Behind line.now at expected.now result }
 {
     let word = lines::next_word(&line[at..]);
-    if check::same(word, expected) {
+    if word == expected {
         at + word.len()
     } else {
         line.len()
@@ -40,7 +40,7 @@ fn behind(line: &[u8], at: usize, expected: &[u8]) -> usize
 fn once_more(count: u8) -> u8
     ensures { result ≡ min (count + 1) 2 }
 {
-    if count == 0 { 1 } else { 2 }
+    count.saturating_add(1).min(2)
 }
 
 // One more of a number.

@@ -1,7 +1,7 @@
 // The words of a sheet's lines by their numbers.
-ghost use Rattle.std.specs.Prelude.{◌≡◌};
-ghost use Rattle.sheet.specs.Words.{holder_words, access_words, origin_words, result_words, ending, number_among};
-ghost use Rattle.sheet.specs.Reading.{word_code, words_for};
+ghost use Rattle.std.specs.Prelude.{◌≡◌, ◌≤◌, map, length};
+ghost use Rattle.sheet.specs.Words.{result_words, ending, number_among};
+ghost use Rattle.sheet.specs.Reading.{code_among, word_code, words_for};
 
 // The lists that a bracket's words are taken from.
 #[derive(Clone, Copy)]
@@ -11,78 +11,49 @@ pub enum Bracket {
     From,
 }
 
-// A holder's word: 0 to 2 where the bracket goes on behind it, 3 to 5 where it closes, 6 for any other.
-fn holder_code(word: &[u8]) -> u8
-    ensures { result ≡ word_code holder_words word.now }
+// The place of a word among others, from 0; how many they are where it is none of them.
+fn number_among(words: &[&[u8]], word: &[u8]) -> usize
+    ensures { (result ≡ number_among (map (λ w. w.now) words.now) word.now) × (result ≤ length words.now) }
 {
-    if check::same(word, b"reference ") {
-        return 0;
-    }
-    if check::same(word, b"raw ") {
-        return 1;
-    }
-    if check::same(word, b"cell ") {
-        return 2;
-    }
-    if check::same(word, b"reference) ") {
-        return 3;
-    }
-    if check::same(word, b"raw) ") {
-        return 4;
-    }
-    if check::same(word, b"cell) ") { 5 } else { 6 }
+    words
+        .iter()
+        .position(|own| word == *own)
+        .unwrap_or(words.len())
 }
 
-// An access's word, in the same way.
-fn access_code(word: &[u8]) -> u8
-    ensures { result ≡ word_code access_words word.now }
+// A word's place among those behind which a bracket goes on, 3 more among those that close it, 6 for any other.
+fn code_among(inside: &[&[u8]], closing: &[&[u8]], word: &[u8]) -> u8
+    requires { (length inside.now ≤ 3) × (length closing.now ≤ 3) }
+    ensures { result ≡ code_among (map (λ w. w.now) inside.now) (map (λ w. w.now) closing.now) word.now }
 {
-    if check::same(word, b"read ") {
-        return 0;
+    let going_on = number_among(inside, word);
+    if going_on < inside.len() {
+        return going_on as u8;
     }
-    if check::same(word, b"write ") {
-        return 1;
-    }
-    if check::same(word, b"read) ") {
-        return 3;
-    }
-    if check::same(word, b"write) ") { 4 } else { 6 }
-}
-
-// A word for where an access comes from, in the same way.
-fn origin_code(word: &[u8]) -> u8
-    ensures { result ≡ word_code origin_words word.now }
-{
-    if check::same(word, b"cell ") {
-        return 0;
-    }
-    if check::same(word, b"kin ") {
-        return 1;
-    }
-    if check::same(word, b"stranger ") {
-        return 2;
-    }
-    if check::same(word, b"cell) ") {
-        return 3;
-    }
-    if check::same(word, b"kin) ") {
-        return 4;
-    }
-    if check::same(word, b"stranger) ") {
-        5
+    let last = number_among(closing, word);
+    if last < closing.len() {
+        3 + last as u8
     } else {
         6
     }
 }
 
-// A word of a bracket.
+// A word of a bracket: 0 to 2 where the bracket goes on behind it, 3 to 5 where it closes, 6 for any other.
 pub fn word_code(bracket: Bracket, word: &[u8]) -> u8
     ensures { result ≡ word_code (words_for bracket) word.now }
 {
     match bracket {
-        Bracket::Holder => holder_code(word),
-        Bracket::Access => access_code(word),
-        Bracket::From => origin_code(word),
+        Bracket::Holder => code_among(
+            &[b"reference ", b"raw ", b"cell "],
+            &[b"reference) ", b"raw) ", b"cell) "],
+            word,
+        ),
+        Bracket::Access => { code_among(&[b"read ", b"write "], &[b"read) ", b"write) "], word) }
+        Bracket::From => code_among(
+            &[b"cell ", b"kin ", b"stranger "],
+            &[b"cell) ", b"kin) ", b"stranger) "],
+            word,
+        ),
     }
 }
 
@@ -90,11 +61,5 @@ pub fn word_code(bracket: Bracket, word: &[u8]) -> u8
 pub fn result_number(word: &[u8]) -> u8
     ensures { result ≡ number_among (ending result_words) word.now }
 {
-    if check::same(word, b"keep)\n") {
-        return 0;
-    }
-    if check::same(word, b"lower)\n") {
-        return 1;
-    }
-    if check::same(word, b"end)\n") { 2 } else { 3 }
+    number_among(&[b"keep)\n", b"lower)\n", b"end)\n"], word) as u8
 }

@@ -1,4 +1,6 @@
 // Writing a sheet: a line for each combination.
+// A word is a number here (`put_holder`, `put_access`, `put_origin`, `put_result`, `put_rule`), its place in its list (`word_at`, sheet/specs/Rule),
+// as a sheet's bytes have it (`kz_sheet`), which may have any value.
 ghost use Rattle.std.specs.Prelude.{◌≡◌, ◌≤◌, ◌<◌, min, length};
 ghost use Rattle.text.specs.Put.{Room, Put};
 ghost use Rattle.text.specs.Write.{outcome};
@@ -10,24 +12,25 @@ ghost use Rattle.sheet.specs.Writing.{front_at};
 use model::Refusal;
 use table::SheetBytes;
 use text::pieces;
-use text::write::Written;
 
 // A line has at most 63 bytes.
 const MOST: usize = 1134;
+
+// The words of a line's lists, by their numbers.
+const HOLDERS: [&[u8]; 3] = [b"reference", b"raw", b"cell"];
+
+const ACCESSES: [&[u8]; 2] = [b"read", b"write"];
+
+const ORIGINS: [&[u8]; 3] = [b"cell", b"kin", b"stranger"];
+
+const RESULTS: [&[u8]; 3] = [b"keep", b"lower", b"end"];
 
 // Writes a holder's word at a position, and returns the position behind it.
 fn put_holder(out: &mut [u8], at: usize, holder: usize) -> usize
     requires { (holder < 3) × Room out.old at (word_at holder_words holder) }
     ensures { Put out.old at (word_at holder_words holder) out.new result }
 {
-    if holder == 0 {
-        return pieces::put_bytes(out, at, b"reference");
-    }
-    if holder == 1 {
-        pieces::put_bytes(out, at, b"raw")
-    } else {
-        pieces::put_bytes(out, at, b"cell")
-    }
+    pieces::put_bytes(out, at, HOLDERS[holder])
 }
 
 // The same of an access.
@@ -35,11 +38,7 @@ fn put_access(out: &mut [u8], at: usize, access: usize) -> usize
     requires { (access < 2) × Room out.old at (word_at access_words access) }
     ensures { Put out.old at (word_at access_words access) out.new result }
 {
-    if access == 0 {
-        pieces::put_bytes(out, at, b"read")
-    } else {
-        pieces::put_bytes(out, at, b"write")
-    }
+    pieces::put_bytes(out, at, ACCESSES[access])
 }
 
 // The same of where an access comes from.
@@ -47,14 +46,7 @@ fn put_origin(out: &mut [u8], at: usize, origin: usize) -> usize
     requires { (origin < 3) × Room out.old at (word_at origin_words origin) }
     ensures { Put out.old at (word_at origin_words origin) out.new result }
 {
-    if origin == 0 {
-        return pieces::put_bytes(out, at, b"cell");
-    }
-    if origin == 1 {
-        pieces::put_bytes(out, at, b"kin")
-    } else {
-        pieces::put_bytes(out, at, b"stranger")
-    }
+    pieces::put_bytes(out, at, ORIGINS[origin])
 }
 
 // The same of a result; a byte above 1 is `end`.
@@ -62,14 +54,7 @@ fn put_result(out: &mut [u8], at: usize, res: u8) -> usize
     requires { Room out.old at (word_at result_words (min res 2)) }
     ensures { Put out.old at (word_at result_words (min res 2)) out.new result }
 {
-    if res == 0 {
-        return pieces::put_bytes(out, at, b"keep");
-    }
-    if res == 1 {
-        pieces::put_bytes(out, at, b"lower")
-    } else {
-        pieces::put_bytes(out, at, b"end")
-    }
+    pieces::put_bytes(out, at, RESULTS[res.min(2) as usize])
 }
 
 // Writes a line's first two brackets but for their end, of the combination at a place.
@@ -101,24 +86,22 @@ fn put_rules(sheet: &SheetBytes, out: &mut [u8]) -> usize
     requires { 1134 ≤ length out.old }
     ensures { Put out.old 0 (sheet_text sheet.now) out.new result × (result ≤ 1134) }
 {
-    let mut at: usize = 0;
-    let mut place: usize = 0;
-    while place < 18 {
-        at = put_rule(out, at, place, sheet[place]);
-        place += 1;
+    let mut at = 0;
+    for (place, res) in sheet.iter().enumerate() {
+        at = put_rule(out, at, place, *res);
     }
     at
 }
 
 // Writes a sheet at the buffer's first bytes, a line for each combination; the text is put together first, so that nothing is written
 // where it does not fit.
-pub fn write_sheet(sheet: &SheetBytes, out: &mut [u8]) -> Written
+pub fn write_sheet(sheet: &SheetBytes, out: &mut [u8]) -> Result<usize, Refusal>
     ensures { outcome result out.new ≡ write_sheet sheet.now out.old }
 {
     let mut text = [0u8; MOST];
     let length = put_rules(sheet, &mut text);
     if out.len() < length {
-        return Written::Refused(Refusal::BufferTooShort);
+        return Err(Refusal::BufferTooShort);
     }
-    Written::Length(pieces::put_bytes(out, 0, &text[..length]))
+    Ok(pieces::put_bytes(out, 0, &text[..length]))
 }

@@ -1,12 +1,11 @@
 -- Card 13, "trying table sizes": the report.
 -- Assumes nothing.
-use Rattle.std.specs.Prelude.{ℕ, zero, suc, min, Bool, cond, ◌&&◌, List, [], ◌∷◌, leb, eqb, length}
+use Rattle.std.specs.Prelude.{ℕ, zero, suc, min, Bool, cond, ◌&&◌, List, [], ◌∷◌, leb, eqb, length, Ok, Err, Result}
 use Rattle.model.specs.Limits.{sum}
 use Rattle.model.specs.Answers.{number}
 use Rattle.text.specs.Event.{bytes, line}
 use Rattle.kelzoud_events.specs.Interface.{packed}
-use Rattle.sizes.specs.declared.Sizing.{Sizing}
-use Rattle.sizes.specs.declared.Sizing.TheVariants.{Rows, Refused}
+use Rattle.sizes.specs.declared.RefusedAt.{RefusedAt}
 use Rattle.sizes.specs.Turns.{Turn, turns}
 use Rattle.sizes.specs.Clients.{Stop, stop, fresh, outcome}
 
@@ -15,10 +14,10 @@ pub data Report : Type 0 where
   rows : ℕ → Report
   refused : Stop → Report
 
--- what each case of `Sizing` stands for
-abbrev pub report_of : Sizing → Report
-report_of (Rows n) = rows n
-report_of (Refused r client line) = refused (stop (number r) client line)
+-- what each case of the code's answer stands for: the fewest rows, or where the first refusal is
+abbrev pub report_of : Result ℕ RefusedAt → Report
+report_of (Ok n) = rows n
+report_of (Err at) = refused (stop (number at.refusal) at.client at.line)
 
 -- "Up to 8 simulated clients": "above 8 of these, or a sum that isn't the text's"
 unfoldable pub fits : List ℕ → List ℕ → Bool

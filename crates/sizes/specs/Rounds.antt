@@ -1,10 +1,8 @@
 -- Card 13, "trying table sizes": what the code knows of the clients' texts, and what some lines come to.
 -- Assumes nothing.
-use Rattle.std.specs.Prelude.{ℕ, zero, suc, ◌-◌, ◌<◌, ◌≤◌, ◌≡◌, Bool, true, false, List, [], ◌∷◌, ◌++◌, length, get_or, take, drop}
+use Rattle.std.specs.Prelude.{ℕ, zero, suc, ◌-◌, ◌<◌, ◌≤◌, ◌≡◌, Bool, true, false, List, [], ◌∷◌, ◌++◌, length, get_or, take, drop, Err, Ok, Result}
 use Rattle.model.specs.declared.Name.{Name}
 use Rattle.model.specs.declared.Refusal.{Refusal}
-use Rattle.model.specs.declared.Answer.{Answer}
-use Rattle.model.specs.declared.Answer.TheVariants.{Allowed, Refused}
 use Rattle.model.specs.Answers.{number}
 use Rattle.model.specs.Limits.{sum}
 use Rattle.text.specs.Line.{lines_of}
@@ -64,9 +62,9 @@ pub record Reached (h : Shared) (ts more : List Turn) (most : ℕ) (m' : Memory)
   pub same : sized h most (ts ++ more) ≡ sized shared s'.most more
 
 -- lines whose number is so, from whatever the clients share: all are allowed, or one of a client is the first that is refused
-pub record Runs (m : Memory) (s : Standing) (ts : ℕ → List Turn) (m' : Memory) (answer : Answer) (client : ℕ) (s' : Standing) : Type 0 where
-  pub on : (h : Shared) (line : ℕ) (more : List Turn) → HoldsAt h m s → (x : Name) → answer ≡ Allowed x → Reached h (ts line) more s.most m' s'
-  pub stops : (h : Shared) (line : ℕ) (more : List Turn) → HoldsAt h m s → (x : Refusal) → answer ≡ Refused x
+pub record Runs (m : Memory) (s : Standing) (ts : ℕ → List Turn) (m' : Memory) (answer : Result Name Refusal) (client : ℕ) (s' : Standing) : Type 0 where
+  pub on : (h : Shared) (line : ℕ) (more : List Turn) → HoldsAt h m s → (x : Name) → answer ≡ Ok x → Reached h (ts line) more s.most m' s'
+  pub stops : (h : Shared) (line : ℕ) (more : List Turn) → HoldsAt h m s → (x : Refusal) → answer ≡ Err x
       → sized h s.most (ts line ++ more) ≡ report.refused (stop (number x) client line)
 
 -- the next line of one client, and of each

@@ -17,20 +17,28 @@ mod report;
 mod rounds;
 mod turn;
 
-// What clients' texts are answered: the fewest rows, up to 1,024, with which every line is allowed; or the first refusal with 1,024 rows,
-// with its client and the line within that client's trace, both from 1, or 0 where the lengths do not fit the texts.
+// The first refusal with 1,024 rows, with its client and the line within that client's trace, both from 1, or 0 where the lengths do not fit
+// the texts.
 #[derive(Clone, Copy)]
-pub enum Sizing {
-    Rows(usize),
-    Refused(Refusal, usize, usize),
+pub struct RefusedAt {
+    pub refusal: Refusal,
+    pub client: usize,
+    pub line: usize,
 }
+
+// What clients' texts are answered: the fewest rows, up to 1,024, with which every line is allowed; or the first refusal.
+pub type Sizing = Result<usize, RefusedAt>;
 
 // The report on clients whose texts stand end to end, by their lengths. All lines are taken once, on 1,024 rows; nothing is allocated.
 pub fn sizes(text: &[u8], lengths: &[u32]) -> Sizing
     ensures { report_of result ≡ sizing text.now lengths.now }
 {
     if !do_fit(text, lengths) {
-        return Sizing::Refused(Refusal::Misspelt, 0, 0);
+        return Err(RefusedAt {
+            refusal: Refusal::Misspelt,
+            client: 0,
+            line: 0,
+        });
     }
     let mut at = [0usize; 8];
     let mut ends = [0usize; 8];

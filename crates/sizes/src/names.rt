@@ -16,15 +16,14 @@ pub type Entries = [u32; 2048];
 pub type Note = [u16; 4096];
 
 // The name that an event uses; 0 for a create, which uses none.
+// 0 is no name that a client was given, and not an `Option`: the engine is asked with it where `meant` and `beside` know no name, and refuses it 4
+// (`name_in`, `Beside` and `Meant`, sizes/specs/Names).
 pub fn name_in(event: Event) -> u32
     ensures { result ≡ name_in event }
 {
     match event {
-        Event::Create(_, _, _) => 0,
-        Event::Borrow(_, u, _, _) => u.0,
-        Event::Read(u, _) => u.0,
-        Event::Write(u, _) => u.0,
-        Event::Drop(u) => u.0,
+        Event::Create(..) => 0,
+        Event::Borrow(_, u, ..) | Event::Read(u, _) | Event::Write(u, _) | Event::Drop(u) => u.0,
     }
 }
 
@@ -33,7 +32,7 @@ pub fn rename(event: Event, name: u32) -> Event
     ensures { result ≡ renamed name event }
 {
     match event {
-        Event::Create(w, s, r) => Event::Create(w, s, r),
+        Event::Create(..) => event,
         Event::Borrow(w, _, s, r) => Event::Borrow(w, Name(name), s, r),
         Event::Read(_, s) => Event::Read(Name(name), s),
         Event::Write(_, s) => Event::Write(Name(name), s),
@@ -45,10 +44,7 @@ pub fn rename(event: Event, name: u32) -> Event
 pub fn is_given(count: u32, local: u32) -> bool
     ensures { result ≡ is_given count local }
 {
-    if local == 0 {
-        return false;
-    }
-    local <= count
+    local != 0 && local <= count
 }
 
 fn key_of(client: u32, local: u32) -> u32
@@ -71,9 +67,7 @@ fn search(keys: &Entries, used: usize, key: u32) -> usize
     requires { used ≤ 2048 }
     ensures { KeyFound used keys.now key result }
 {
-    let mut i = used;
-    while 0 < i {
-        i -= 1;
+    for i in (0..used).rev() {
         if keys[i] == key {
             return i;
         }
@@ -88,10 +82,8 @@ fn find_key(keys: &Entries, used: usize, note: &mut Note, key: u32) -> usize
 {
     let slot = slot_of(key);
     let guess = wide(note[slot]);
-    if guess < used {
-        if keys[guess] == key {
-            return guess;
-        }
+    if guess < used && keys[guess] == key {
+        return guess;
     }
     let found = search(keys, used, key);
     note[slot] = found as u16;
@@ -132,13 +124,11 @@ fn past(table: &[Row], live: usize, j: usize, name: u32) -> usize
     requires { live ≤ length table.now }
     ensures { result ≡ cond (ltb j live && eqb (name_at (rows_in table.now) j) name) (j + 1) j }
 {
-    if j < live {
-        let c = row_at(table, j);
-        if c.name.0 == name {
-            return j + 1;
-        }
+    if j < live && row_at(table, j).name.0 == name {
+        j + 1
+    } else {
+        j
     }
-    j
 }
 
 // Only the names that live stay in the list, in their order; the answer is how many they are. Rows and names both rise, so one pass finds
@@ -154,14 +144,11 @@ fn keep_living(
     ensures { Kept (rows_in table.now) live names.old keys.old used names.new keys.new result × (result ≤ live) }
 {
     let mut j: usize = 0;
-    let mut i: usize = 0;
-    while i < used {
+    for i in 0..used {
         let name = names[i];
-        let key = keys[i];
         names[j] = name;
-        keys[j] = key;
+        keys[j] = keys[i];
         j = past(table, live, j, name);
-        i += 1;
     }
     j
 }

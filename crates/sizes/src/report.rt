@@ -11,7 +11,7 @@ use text::pieces::put_line;
 fn word_of(n: usize) -> u32
     ensures { result ≡ word n }
 {
-    if n < 4294967295 { n as u32 } else { 4294967295 }
+    n.min(4294967295) as u32
 }
 
 // The four words of a report.
@@ -19,12 +19,12 @@ pub fn words_of(sizing: Sizing) -> [u32; 4]
     ensures { result ≡ report_words (report_of sizing) }
 {
     match sizing {
-        Sizing::Rows(rows) => [0, word_of(rows), 0, 0],
-        Sizing::Refused(refusal, client, line) => [
-            number_of(refusal),
+        Ok(rows) => [0, word_of(rows), 0, 0],
+        Err(at) => [
+            number_of(at.refusal),
             0,
-            word_of(client),
-            word_of(line),
+            word_of(at.client),
+            word_of(at.line),
         ],
     }
 }
@@ -34,8 +34,8 @@ pub fn packed_report(sizing: Sizing) -> u64
     ensures { result ≡ packed_report (report_of sizing) }
 {
     match sizing {
-        Sizing::Rows(rows) => pack(0, rows as u64),
-        Sizing::Refused(refusal, _, _) => pack_refusal(refusal, 0),
+        Ok(rows) => pack(0, rows as u64),
+        Err(at) => pack_refusal(at.refusal, 0),
     }
 }
 
@@ -45,12 +45,12 @@ pub fn put_report(sizing: Sizing, out: &mut [u8]) -> usize
     ensures { Put out.old 0 (report_line (report_of sizing)) out.new result }
 {
     match sizing {
-        Sizing::Rows(rows) => {
+        Ok(rows) => {
             let numbers = [word_of(rows)];
             put_line(b"(rows", &numbers, out)
         }
-        Sizing::Refused(refusal, client, line) => {
-            let numbers = [number_of(refusal), word_of(client), word_of(line)];
+        Err(at) => {
+            let numbers = [number_of(at.refusal), word_of(at.client), word_of(at.line)];
             put_line(b"(refused", &numbers, out)
         }
     }

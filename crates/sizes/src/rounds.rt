@@ -1,7 +1,6 @@
 // The clients' lines in turn.
-ghost use Rattle.std.specs.Prelude.{◌≡◌, suc, ◌<◌, ◌≤◌, length, get_or};
+ghost use Rattle.std.specs.Prelude.{◌≡◌, suc, ◌<◌, ◌≤◌, length, get_or, Ok};
 ghost use Rattle.model.specs.declared.Name.{Name};
-ghost use Rattle.model.specs.declared.Answer.TheVariants.{Allowed};
 ghost use Rattle.sizes.specs.Turns.{rounds, longest};
 ghost use Rattle.sizes.specs.Clients.{Shared};
 ghost use Rattle.sizes.specs.Report.{report_of};
@@ -9,17 +8,17 @@ ghost use Rattle.sizes.specs.Peak.{sized};
 ghost use Rattle.sizes.specs.Taken.{memory, HoldsAt, SoundAt};
 ghost use Rattle.sizes.specs.Rounds.{lines_from, Places, Advanced, AllAdvanced, Left, Runs, turn_of, round_of};
 
-use crate::Sizing;
 use crate::names::{Entries, Note};
 use crate::turn::{Standing, Turned, take_line};
-use model::{Answer, Name};
+use crate::{RefusedAt, Sizing};
+use model::{Name, Refusal};
 use table::Row;
 use text::lines::next_line;
 
 // What came of a round: its answer, the client of a refused line, from 1, and what stands after it.
 #[derive(Clone, Copy)]
 pub struct Round {
-    pub answer: Answer,
+    pub answer: Result<Name, Refusal>,
     pub client: usize,
     pub standing: Standing,
 }
@@ -54,7 +53,7 @@ fn take_turn(
         );
     }
     Turned {
-        answer: Answer::Allowed(Name(0)),
+        answer: Ok(Name(0)),
         standing: from,
     }
 }
@@ -75,28 +74,26 @@ fn one_round(
     from: Standing,
 ) -> Round
     requires { SoundAt (memory table.old bits.old places.old names.old keys.old counts.old) from × (clients ≤ 8) × Places text.now at.old ends.now clients }
-    ensures { ((x : Name) → result.answer ≡ Allowed x → AllAdvanced text.now at.old ends.now at.new clients)
+    ensures { ((x : Name) → result.answer ≡ Ok x → AllAdvanced text.now at.old ends.now at.new clients)
         × Runs (memory table.old bits.old places.old names.old keys.old counts.old) from (round_of text.now at.old ends.now clients) (memory table.new bits.new places.new names.new keys.new counts.new) result.answer result.client result.standing }
 {
     let mut now = from;
-    let mut client: usize = 0;
-    while client < clients {
+    for client in 0..clients {
         let turned = take_turn(
             text, at, ends, table, places, bits, names, keys, note, counts, now, client,
         );
         let answer = turned.answer;
         now = turned.standing;
-        client += 1;
-        if let Answer::Refused(refusal) = answer {
+        if let Err(refusal) = answer {
             return Round {
-                answer: Answer::Refused(refusal),
-                client,
+                answer: Err(refusal),
+                client: client + 1,
                 standing: now,
             };
         }
     }
     Round {
-        answer: Answer::Allowed(Name(0)),
+        answer: Ok(Name(0)),
         client: 0,
         standing: now,
     }
@@ -107,14 +104,7 @@ fn is_left(at: &[usize; 8], ends: &[usize; 8], clients: usize) -> bool
     requires { clients ≤ 8 }
     ensures { Left at.now ends.now clients result }
 {
-    let mut k: usize = 0;
-    while k < clients {
-        if at[k] < ends[k] {
-            return true;
-        }
-        k += 1;
-    }
-    false
+    (0..clients).any(|k| at[k] < ends[k])
 }
 
 // Rounds, until no client has a line left or one is refused: the most rows that were needed, or the first refusal.
@@ -145,10 +135,14 @@ pub fn run_clients(
         let answer = round.answer;
         let client = round.client;
         now = round.standing;
-        if let Answer::Refused(refusal) = answer {
-            return Sizing::Refused(refusal, client, line);
+        if let Err(refusal) = answer {
+            return Err(RefusedAt {
+                refusal,
+                client,
+                line,
+            });
         }
         line += 1;
     }
-    Sizing::Rows(now.most)
+    Ok(now.most)
 }

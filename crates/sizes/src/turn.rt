@@ -1,5 +1,5 @@
 // One line of one client.
-ghost use Rattle.std.specs.Prelude.{◌≡◌, true, false, cond, [], suc, ◌<◌, ◌≤◌, max};
+ghost use Rattle.std.specs.Prelude.{◌≡◌, true, false, cond, [], suc, ◌<◌, ◌≤◌};
 ghost use Rattle.model.specs.Answers.{number, verdict_of};
 ghost use Rattle.table.specs.Known.{Fit};
 ghost use Rattle.text.specs.Result.{value};
@@ -9,13 +9,12 @@ ghost use Rattle.sizes.specs.Peak.{needs};
 ghost use Rattle.sizes.specs.Taken.{memory, Sound, SoundAt, Asks, Takes};
 
 use crate::names::{Entries, Note, give, is_given, make_room, meant, name_in, rename};
-use model::{Answer, Event, Refusal, Tally, Work};
-use rules::answers::number_of;
+use model::{Event, Name, Refusal, Tally, Work};
 use rules::steps::take_work;
 use rules::{Outcome, Progress};
 use table::Row;
 use table::sheets::card6;
-use text::form::{FormRead, read_form};
+use text::form::read_form;
 
 // What is counted, how many rows live, how many names are in the list, and the most rows that a line has needed.
 #[derive(Clone, Copy)]
@@ -29,7 +28,7 @@ pub struct Standing {
 // A line's answer, and what stands after it.
 #[derive(Clone, Copy)]
 pub struct Turned {
-    pub answer: Answer,
+    pub answer: Result<Name, Refusal>,
     pub standing: Standing,
 }
 
@@ -37,31 +36,26 @@ pub struct Turned {
 fn has_ended(name: u32, count: u32, local: u32) -> bool
     ensures { result ≡ has_ended name count local }
 {
-    if name != 0 {
-        return false;
-    }
-    is_given(count, local)
+    name == 0 && is_given(count, local)
 }
 
 // A refusal of a name that is called 0, for one that has ended.
 fn refusal_for(ended: bool, refusal: Refusal) -> Refusal
     ensures { number result ≡ cond ended (ended_for (number refusal)) (number refusal) }
 {
-    if ended {
-        if number_of(refusal) == 4 {
-            return Refusal::Ended;
-        }
+    match refusal {
+        Refusal::Unissued if ended => Refusal::Ended,
+        _ => refusal,
     }
-    refusal
 }
 
 // An answer to the name 0, for one that has ended.
-fn answer_for(ended: bool, answer: Answer) -> Answer
+fn answer_for(ended: bool, answer: Result<Name, Refusal>) -> Result<Name, Refusal>
     ensures { (ended ≡ false → verdict_of result ≡ verdict_of answer) × (ended ≡ true → (verdict_of result).refusal ≡ ended_for (verdict_of answer).refusal) }
 {
     match answer {
-        Answer::Allowed(x) => Answer::Allowed(x),
-        Answer::Refused(x) => Answer::Refused(refusal_for(ended, x)),
+        Ok(_) => answer,
+        Err(x) => Err(refusal_for(ended, x)),
     }
 }
 
@@ -111,27 +105,18 @@ fn need_of(event: Event, live: usize) -> usize
     ensures { result ≡ needs live event }
 {
     match event {
-        Event::Create(_, _, _) => live + 1,
-        Event::Borrow(_, _, _, _) => live + 1,
-        Event::Read(_, _) => 0,
-        Event::Write(_, _) => 0,
-        Event::Drop(_) => 0,
+        Event::Create(..) | Event::Borrow(..) => live + 1,
+        Event::Read(..) | Event::Write(..) | Event::Drop(_) => 0,
     }
 }
 
-fn larger(a: usize, b: usize) -> usize
-    ensures { result ≡ max a b }
-{
-    if a < b { b } else { a }
-}
-
 // The new name that an answer carries; 0 where there is none.
-fn new_name(answer: Answer) -> u32
+fn new_name(answer: Result<Name, Refusal>) -> u32
     ensures { result ≡ (verdict_of answer).name }
 {
     match answer {
-        Answer::Allowed(x) => x.0,
-        Answer::Refused(_) => 0,
+        Ok(x) => x.0,
+        Err(_) => 0,
     }
 }
 
@@ -154,7 +139,7 @@ fn take_event(
     let live = from.live;
     let tally = from.tally;
     let used = make_room(table, live, names, keys, from.used);
-    let most = larger(from.most, need_of(event, live));
+    let most = from.most.max(need_of(event, live));
     let asked = ask(
         table, live, places, bits, tally, names, keys, used, note, counts, client, event,
     );
@@ -189,13 +174,13 @@ pub fn take_line(
 {
     let read = read_form(line);
     match read {
-        FormRead::Event(event) => {
+        Ok(event) => {
             take_event(
                 table, places, bits, names, keys, note, counts, from, client, event,
             )
         }
-        FormRead::Refused(why) => Turned {
-            answer: Answer::Refused(why),
+        Err(why) => Turned {
+            answer: Err(why),
             standing: from,
         },
     }

@@ -1,10 +1,10 @@
--- Card 10: what each case of `Charged` stands for.
+-- Card 10: what each case of the code's answer stands for: the share of each holder and what is left over, or why there is none.
 -- Assumes nothing.
+use Rattle.std.specs.Prelude.{ℕ, Err, Ok, Result}
+use Rattle.model.specs.declared.Refusal.{Refusal}
 use Rattle.model.specs.Answers.{number}
 use Rattle.model.specs.Charge.{Charge}
-use Rattle.table.specs.declared.charge.Charged.{Charged}
-use Rattle.table.specs.declared.charge.Charged.TheVariants.{Shares, Refused}
 
-abbrev pub charge_of : Charged → Charge
-charge_of (Shares share rest) = record { refusal = 0; share = share; rest = rest }
-charge_of (Refused r) = record { refusal = number r; share = 0; rest = 0 }
+abbrev pub charge_of : Result (ℕ × ℕ) Refusal → Charge
+charge_of (Ok (share, rest)) = record { refusal = 0; share = share; rest = rest }
+charge_of (Err r) = record { refusal = number r; share = 0; rest = 0 }

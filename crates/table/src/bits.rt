@@ -48,28 +48,20 @@ fn some_written(bits: &[u8], from: usize, to: usize) -> bool
     requires { Sized bits.now × (from ≤ to) × (to ≤ 65536) }
     ensures { result ≡ all_written (bit_at bits.now) from (to - from) }
 {
-    let mut a = from;
-    while a < to {
-        if !has_bit(bits[a / 8], a % 8) {
-            return false;
-        }
-        a += 1;
-    }
-    true
+    (from..to).all(|a| has_bit(bits[a / 8], a % 8))
 }
 
 // The same of whole bytes. All of them are looked at, with no way out on the way, so that the compiler takes many at once.
+// (A `fold` was tried, and is slower.)
 fn bytes_written(bits: &[u8], from: usize, to: usize) -> bool
     requires { Sized bits.now × (from ≤ to) × (to ≤ 8192) }
     ensures { result ≡ all_written (bit_at bits.now) (from * 8) ((to - from) * 8) }
 {
     let mut full = true;
-    let mut i = from;
-    while i < to {
+    for i in from..to {
         if !is_full(bits[i]) {
             full = false;
         }
-        i += 1;
     }
     full
 }
@@ -79,23 +71,20 @@ fn put_some(bits: &mut [u8], v: bool, from: usize, to: usize)
     requires { Sized bits.old × (from ≤ to) × (to ≤ 65536) }
     ensures { bits.new ≡ put_from v from (to - from) bits.old }
 {
-    let mut a = from;
-    while a < to {
+    for a in from..to {
         let i = a / 8;
         bits[i] = with_bit(v, a % 8, bits[i]);
-        a += 1;
     }
 }
 
 // The same of whole bytes.
+// (Tried with `fill`: the proof did not close, since after it nothing says that the bytes before were below 256.)
 fn put_bytes(bits: &mut [u8], v: bool, from: usize, to: usize)
     requires { Sized bits.old × (from ≤ to) × (to ≤ 8192) }
     ensures { bits.new ≡ put_from v (from * 8) ((to - from) * 8) bits.old }
 {
-    let mut i = from;
-    while i < to {
+    for i in from..to {
         bits[i] = filled(v, bits[i]);
-        i += 1;
     }
 }
 
@@ -124,11 +113,7 @@ pub(crate) fn span_written(bits: &[u8], s: Span) -> bool
 fn low_end(s: Span) -> usize
     ensures { result ≡ min (Values.end s) 65536 }
 {
-    if end(s) < 65536 {
-        end(s) as usize
-    } else {
-        65536
-    }
+    end(s).min(65536) as usize
 }
 
 // Sets the bit of each address of a span that is below 65,536, or clears it. Internal: the caller shows that there are as many bits as there

@@ -4,21 +4,16 @@ ghost use Rattle.table.specs.Words.{rows_in};
 ghost use Rattle.table.specs.Rows.{name_at, Rise, Front, Found};
 
 use crate::Row;
-use crate::words::row_at;
+use crate::words::{cap_of, row_at};
 
 // How many rows stand before the first with name 0.
 pub fn live_count(table: &[Row]) -> usize
     ensures { Front (rows_in table.now) (length table.now) result }
 {
-    let mut i: usize = 0;
-    while i < table.len() {
-        let c = row_at(table, i);
-        if c.name.0 == 0 {
-            return i;
-        }
-        i += 1;
-    }
-    i
+    table
+        .iter()
+        .position(|row| cap_of(row).name.0 == 0)
+        .unwrap_or(table.len())
 }
 
 // The place `half` further on, unless the name there is above x. It is computed with no branch, because no processor foresees this one.
@@ -32,6 +27,8 @@ fn not_above(table: &[Row], base: usize, half: usize, x: u32) -> usize
 }
 
 // Where the name x stands among the first k rows; k if nowhere. Internal: the caller shows that their names rise.
+// The place behind the rows is what `places` holds of a root, in 16 bits (memory is of fixed size), and where the names of a drop are noted that are
+// not there: so it is a number, and no `Option`. A row is looked for by its name, and so by no `binary_search`, which takes the whole element.
 pub fn find(table: &[Row], k: usize, x: u32) -> usize
     requires { (k ≤ 1024) × Rise (rows_in table.now) k }
     ensures { Found (rows_in table.now) k x result }

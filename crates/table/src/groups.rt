@@ -10,9 +10,9 @@ ghost use Rattle.table.specs.Rows.{before, Rise};
 ghost use Rattle.table.specs.Stands.{group_checks};
 
 use crate::Row;
-use crate::judge::{Place, place_of};
+use crate::judge::place_of;
 use crate::masks::is_domain;
-use model::{Answer, Name, Refusal};
+use model::{Name, Refusal};
 
 // Whether names are a group: 1 to 64 of them, strictly rising.
 pub fn is_group(names: &[u32]) -> bool
@@ -24,42 +24,42 @@ pub fn is_group(names: &[u32]) -> bool
     if 64 < names.len() {
         return false;
     }
-    let mut i = 1;
-    while i < names.len() {
-        if names[i] <= names[i - 1] {
-            return false;
-        }
-        i += 1;
-    }
-    true
+    names.is_sorted_by(|a, b| a < b)
 }
 
 // Refusals 4, 5 and 17, of the first name that gets one.
-fn judge_names(table: &[Row], k: usize, issued: u32, actor: u32, names: &[u32]) -> Answer
+fn judge_names(
+    table: &[Row],
+    k: usize,
+    issued: u32,
+    actor: u32,
+    names: &[u32],
+) -> Result<Name, Refusal>
     requires { (k ≤ 1024) × Rise (rows_in table.now) k × (actor < 64) }
     ensures { verdict_of result ≡ verdict (first (standings (before (rows_in table.now) k) issued actor names.now)) 0 }
 {
-    let mut i = 0;
-    while i < names.len() {
-        let place = place_of(table, k, issued, actor, Name(names[i]));
-        if let Place::Not(x) = place {
-            return Answer::Refused(x);
-        }
-        i += 1;
+    for name in names {
+        place_of(table, k, issued, actor, Name(*name))?;
     }
-    Answer::Allowed(Name(0))
+    Ok(Name(0))
 }
 
 // The answer to a group of names.
-pub(crate) fn judge_group(table: &[Row], k: usize, issued: u32, actor: u32, names: &[u32]) -> Answer
+pub(crate) fn judge_group(
+    table: &[Row],
+    k: usize,
+    issued: u32,
+    actor: u32,
+    names: &[u32],
+) -> Result<Name, Refusal>
     requires { (k ≤ 1024) × Rise (rows_in table.now) k }
     ensures { verdict_of result ≡ verdict (first (group_checks (before (rows_in table.now) k) issued actor names.now)) 0 }
 {
     if !is_group(names) {
-        return Answer::Refused(Refusal::Misgrouped);
+        return Err(Refusal::Misgrouped);
     }
     if !is_domain(actor) {
-        return Answer::Refused(Refusal::Misspelt);
+        return Err(Refusal::Misspelt);
     }
     judge_names(table, k, issued, actor, names)
 }

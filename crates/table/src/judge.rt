@@ -23,53 +23,45 @@ use crate::masks::{has_bit, is_domain};
 use crate::spans::{end, is_inside, is_legal, span_of};
 use crate::terms::{fit_child, fit_root};
 use crate::words::row_at;
-use model::{Answer, Event, Name, NewName, Refusal, Span, Terms};
-
-// The place of a name, or why it has none.
-#[derive(Clone, Copy)]
-pub enum Place {
-    At(usize),
-    Not(Refusal),
-}
+use model::{Event, Name, Refusal, Span, Terms};
 
 // Internal. Refusals 4 and 5.
-pub(crate) fn living_place(table: &[Row], k: usize, issued: u32, u: Name) -> Place
+pub(crate) fn living_place(table: &[Row], k: usize, issued: u32, u: Name) -> Result<usize, Refusal>
     requires { (k ≤ 1024) × Rise (rows_in table.now) k }
     ensures { Lives (rows_in table.now) k issued u result }
 {
     if u.0 == 0 {
-        return Place::Not(Refusal::Unissued);
+        return Err(Refusal::Unissued);
     }
     if issued < u.0 {
-        return Place::Not(Refusal::Unissued);
+        return Err(Refusal::Unissued);
     }
     let q = find(table, k, u.0);
-    if q < k {
-        Place::At(q)
-    } else {
-        Place::Not(Refusal::Ended)
-    }
+    if q < k { Ok(q) } else { Err(Refusal::Ended) }
 }
 
 // Internal. Refusals 4, 5 and 17.
-pub(crate) fn place_of(table: &[Row], k: usize, issued: u32, actor: u32, u: Name) -> Place
+pub(crate) fn place_of(
+    table: &[Row],
+    k: usize,
+    issued: u32,
+    actor: u32,
+    u: Name,
+) -> Result<usize, Refusal>
     requires { (k ≤ 1024) × Rise (rows_in table.now) k × (actor < 64) }
     ensures { Stands (rows_in table.now) k issued actor u result }
 {
-    match living_place(table, k, issued, u) {
-        Place::Not(x) => Place::Not(x),
-        Place::At(q) => {
-            let c = row_at(table, q);
-            if has_bit(c.holders, actor) {
-                Place::At(q)
-            } else {
-                Place::Not(Refusal::NoHolder)
-            }
-        }
+    let q = living_place(table, k, issued, u)?;
+    let c = row_at(table, q);
+    if has_bit(c.holders, actor) {
+        Ok(q)
+    } else {
+        Err(Refusal::NoHolder)
     }
 }
 
 // Refusals 3 to 7 and 17: a name to be used by a domain on a span, with a right.
+// The right is a number, here and in `judge_child`, since it is compared with the word of a row (`usable`, model/specs/Refusals).
 fn usable_place(
     table: &[Row],
     k: usize,
@@ -78,65 +70,57 @@ fn usable_place(
     u: Name,
     s: Span,
     right: u32,
-) -> Place
+) -> Result<usize, Refusal>
     requires { (k ≤ 1024) × Rise (rows_in table.now) k × (actor < 64) }
     ensures { Serves (rows_in table.now) k issued actor u s right result }
 {
     if !is_legal(s) {
-        return Place::Not(Refusal::IllegalSpan);
+        return Err(Refusal::IllegalSpan);
     }
-    match place_of(table, k, issued, actor, u) {
-        Place::Not(x) => Place::Not(x),
-        Place::At(q) => {
-            let c = row_at(table, q);
-            if !is_inside(s, span_of(c)) {
-                return Place::Not(Refusal::OutsideSpan);
-            }
-            if c.right < right {
-                Place::Not(Refusal::ReadOnly)
-            } else {
-                Place::At(q)
-            }
-        }
+    let q = place_of(table, k, issued, actor, u)?;
+    let c = row_at(table, q);
+    if !is_inside(s, span_of(c)) {
+        return Err(Refusal::OutsideSpan);
     }
-}
-
-// Allowed with name 0 where there is a place.
-fn place_answer(p: Place) -> Answer
-    ensures { verdict_of result ≡ said_of p }
-{
-    match p {
-        Place::At(_) => Answer::Allowed(Name(0)),
-        Place::Not(x) => Answer::Refused(x),
+    if c.right < right {
+        Err(Refusal::ReadOnly)
+    } else {
+        Ok(q)
     }
 }
 
 // Refusal 12: the written name is not the issued number plus one.
-fn is_misnamed(issued: u32, w: NewName) -> bool
+fn is_misnamed(issued: u32, w: Option<Name>) -> bool
     requires { issued ≤ 1000000 }
     ensures { result ≡ misnamed issued w }
 {
     match w {
-        NewName::Unwritten => false,
-        NewName::Written(x) => x.0 != issued + 1,
+        None => false,
+        Some(x) => x.0 != issued + 1,
     }
 }
 
 // Refusals 10 and 18, which stands in its place where limits are lent.
-fn row_answer(table: &[Row], k: usize, issued: u32, limits: &[u32], actor: u32) -> Answer
+fn row_answer(
+    table: &[Row],
+    k: usize,
+    issued: u32,
+    limits: &[u32],
+    actor: u32,
+) -> Result<Name, Refusal>
     requires { (k ≤ length table.now) × (issued ≤ 1000000) × (k ≤ 1024) }
     ensures { verdict_of result ≡ verdict (first (row_checks (rows_in table.now) k (length table.now) (limits_in limits.now) actor)) (suc issued) }
 {
     if limits.len() == 0 {
         if table.len() <= k {
-            return Answer::Refused(Refusal::TableFull);
+            return Err(Refusal::TableFull);
         }
-        return Answer::Allowed(Name(issued + 1));
+        return Ok(Name(issued + 1));
     }
     if limit_reached(table, k, limits, actor) {
-        return Answer::Refused(Refusal::LimitReached);
+        return Err(Refusal::LimitReached);
     }
-    Answer::Allowed(Name(issued + 1))
+    Ok(Name(issued + 1))
 }
 
 // Refusals 9, 12, and 10 or 18: room for what a domain makes.
@@ -146,16 +130,16 @@ fn room_answer(
     issued: u32,
     limits: &[u32],
     actor: u32,
-    w: NewName,
-) -> Answer
+    w: Option<Name>,
+) -> Result<Name, Refusal>
     requires { (k ≤ length table.now) × (issued ≤ 1000000) × (k ≤ 1024) }
     ensures { verdict_of result ≡ verdict (first (room_for (rows_in table.now) k (length table.now) issued (limits_in limits.now) actor w)) (suc issued) }
 {
     if 1000000 <= issued {
-        return Answer::Refused(Refusal::NamesSpent);
+        return Err(Refusal::NamesSpent);
     }
     if is_misnamed(issued, w) {
-        return Answer::Refused(Refusal::Misnamed);
+        return Err(Refusal::Misnamed);
     }
     row_answer(table, k, issued, limits, actor)
 }
@@ -176,18 +160,18 @@ fn judge_create(
     issued: u32,
     limits: &[u32],
     actor: u32,
-    w: NewName,
+    w: Option<Name>,
     s: Span,
     r: Terms,
-) -> Answer
+) -> Result<Name, Refusal>
     requires { (k ≤ length table.now) × (issued ≤ 1000000) × (k ≤ 1024) }
     ensures { verdict_of result ≡ verdict (first ((2, unfit_root actor r) ∷ (3, misplaced r s) ∷ room_for (rows_in table.now) k (length table.now) issued (limits_in limits.now) actor w)) (suc issued) }
 {
     if !fit_root(actor, r) {
-        return Answer::Refused(Refusal::Misspelt);
+        return Err(Refusal::Misspelt);
     }
     if is_misplaced(r, s) {
-        return Answer::Refused(Refusal::IllegalSpan);
+        return Err(Refusal::IllegalSpan);
     }
     room_answer(table, k, issued, limits, actor, w)
 }
@@ -199,24 +183,20 @@ fn judge_child(
     issued: u32,
     limits: &[u32],
     actor: u32,
-    w: NewName,
+    w: Option<Name>,
     u: Name,
     s: Span,
     right: u32,
-) -> Answer
+) -> Result<Name, Refusal>
     requires { (k ≤ 1024) × Rise (rows_in table.now) k × (issued ≤ 1000000) × (actor < 64) }
     ensures { verdict_of result ≡ verdict (first (child_checks (rows_in table.now) k (length table.now) issued (limits_in limits.now) actor w u s right)) (suc issued) }
 {
-    match usable_place(table, k, issued, actor, u, s, right) {
-        Place::Not(x) => Answer::Refused(x),
-        Place::At(q) => {
-            let c = row_at(table, q);
-            if 64 <= c.depth {
-                return Answer::Refused(Refusal::TooDeep);
-            }
-            room_answer(table, k, issued, limits, actor, w)
-        }
+    let q = usable_place(table, k, issued, actor, u, s, right)?;
+    let c = row_at(table, q);
+    if 64 <= c.depth {
+        return Err(Refusal::TooDeep);
     }
+    room_answer(table, k, issued, limits, actor, w)
 }
 
 fn judge_borrow(
@@ -225,16 +205,16 @@ fn judge_borrow(
     issued: u32,
     limits: &[u32],
     actor: u32,
-    w: NewName,
+    w: Option<Name>,
     u: Name,
     s: Span,
     r: Terms,
-) -> Answer
+) -> Result<Name, Refusal>
     requires { (k ≤ 1024) × Rise (rows_in table.now) k × (issued ≤ 1000000) }
     ensures { verdict_of result ≡ verdict (first ((2, unfit_child actor r) ∷ child_checks (rows_in table.now) k (length table.now) issued (limits_in limits.now) actor w u s r.right)) (suc issued) }
 {
     if !fit_child(actor, r) {
-        return Answer::Refused(Refusal::Misspelt);
+        return Err(Refusal::Misspelt);
     }
     judge_child(table, k, issued, limits, actor, w, u, s, r.right as u32)
 }
@@ -248,23 +228,19 @@ fn read_answer(
     actor: u32,
     u: Name,
     s: Span,
-) -> Answer
+) -> Result<Name, Refusal>
     requires { Orderly (rows_in table.now) (length table.now) k issued × Sized bits.now × (actor < 64) }
     ensures { verdict_of result ≡ verdict (first (read_checks (before (rows_in table.now) k) issued (bit_at bits.now) actor u s)) 0 }
 {
-    match usable_place(table, k, issued, actor, u, s, 1) {
-        Place::Not(x) => Answer::Refused(x),
-        Place::At(q) => {
-            let c = row_at(table, q);
-            if c.fresh != 1 {
-                return Answer::Allowed(Name(0));
-            }
-            if span_written(bits, s) {
-                Answer::Allowed(Name(0))
-            } else {
-                Answer::Refused(Refusal::NotWritten)
-            }
-        }
+    let q = usable_place(table, k, issued, actor, u, s, 1)?;
+    let c = row_at(table, q);
+    if c.fresh != 1 {
+        return Ok(Name(0));
+    }
+    if span_written(bits, s) {
+        Ok(Name(0))
+    } else {
+        Err(Refusal::NotWritten)
     }
 }
 
@@ -276,34 +252,43 @@ fn judge_read(
     actor: u32,
     u: Name,
     s: Span,
-) -> Answer
+) -> Result<Name, Refusal>
     requires { Orderly (rows_in table.now) (length table.now) k issued × Sized bits.now }
     ensures { verdict_of result ≡ verdict (first ((2, not_a_domain actor) ∷ read_checks (before (rows_in table.now) k) issued (bit_at bits.now) actor u s)) 0 }
 {
     if !is_domain(actor) {
-        return Answer::Refused(Refusal::Misspelt);
+        return Err(Refusal::Misspelt);
     }
     read_answer(table, k, bits, issued, actor, u, s)
 }
 
-fn judge_write(table: &[Row], k: usize, issued: u32, actor: u32, u: Name, s: Span) -> Answer
+fn judge_write(
+    table: &[Row],
+    k: usize,
+    issued: u32,
+    actor: u32,
+    u: Name,
+    s: Span,
+) -> Result<Name, Refusal>
     requires { (k ≤ 1024) × Rise (rows_in table.now) k }
     ensures { verdict_of result ≡ verdict (first ((2, not_a_domain actor) ∷ usable (before (rows_in table.now) k) issued actor u s 2)) 0 }
 {
     if !is_domain(actor) {
-        return Answer::Refused(Refusal::Misspelt);
+        return Err(Refusal::Misspelt);
     }
-    place_answer(usable_place(table, k, issued, actor, u, s, 2))
+    usable_place(table, k, issued, actor, u, s, 2)?;
+    Ok(Name(0))
 }
 
-fn judge_drop(table: &[Row], k: usize, issued: u32, actor: u32, u: Name) -> Answer
+fn judge_drop(table: &[Row], k: usize, issued: u32, actor: u32, u: Name) -> Result<Name, Refusal>
     requires { (k ≤ 1024) × Rise (rows_in table.now) k }
     ensures { verdict_of result ≡ verdict (first ((2, not_a_domain actor) ∷ standing (before (rows_in table.now) k) issued actor u)) 0 }
 {
     if !is_domain(actor) {
-        return Answer::Refused(Refusal::Misspelt);
+        return Err(Refusal::Misspelt);
     }
-    place_answer(place_of(table, k, issued, actor, u))
+    place_of(table, k, issued, actor, u)?;
+    Ok(Name(0))
 }
 
 // The answer to an event. Internal: the caller shows that the table is in order, that there are as many bits as there are to be, and that the
@@ -316,7 +301,7 @@ pub(crate) fn judge(
     limits: &[u32],
     actor: u32,
     e: Event,
-) -> Answer
+) -> Result<Name, Refusal>
     requires { Orderly (rows_in table.now) (length table.now) k issued × Sized bits.now × Allowed table.now limits.now }
     ensures { verdict_of result ≡ verdict (Refusals.judge (view_of (rows_in table.now) bits.now unstored issued) (Single (caller actor (limits_in limits.now)) e)) (new_name issued (Single (caller actor (limits_in limits.now)) e)) }
 {

@@ -5,7 +5,7 @@ ghost use Rattle.table.specs.Lent.{tally_in};
 
 use crate::Row;
 use crate::limits::are_allowed;
-use crate::ordered::{Look, look_at};
+use crate::ordered::look_at;
 use crate::states::is_memory;
 use model::Tally;
 
@@ -41,23 +41,18 @@ pub fn look(
     issued: u32,
     limits: &[u32],
     places: &mut [u16; 1024],
-) -> Look
+) -> Option<usize>
     requires { length places.old ≡ 1024 }
     ensures { Finds table.now bits.now issued limits.now places.new result }
 {
     if bits.len() != 8192 {
-        return Look::Disordered;
+        return None;
     }
-    let found = look_at(table, issued, places);
-    match found {
-        Look::Disordered => Look::Disordered,
-        Look::InOrder(live) => {
-            if are_allowed(table, live, issued, limits) {
-                Look::InOrder(live)
-            } else {
-                Look::Disordered
-            }
-        }
+    let live = look_at(table, issued, places)?;
+    if are_allowed(table, live, issued, limits) {
+        Some(live)
+    } else {
+        None
     }
 }
 
@@ -70,12 +65,12 @@ pub fn look_all(
     issued: u32,
     limits: &[u32],
     places: &mut [u16; 1024],
-) -> Look
+) -> Option<usize>
     requires { length places.old ≡ 1024 }
     ensures { FindsAll table.now bits.now stored.now copies.now issued limits.now places.new result }
 {
     if !is_memory(stored, copies) {
-        return Look::Disordered;
+        return None;
     }
     look(table, bits, issued, limits, places)
 }

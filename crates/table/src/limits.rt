@@ -1,5 +1,5 @@
 // Sheets of limits: how many live rows each domain has made, against the numbers that are lent.
-ghost use Rattle.std.specs.Prelude.{◌≡◌, not, cond, suc, ◌<◌, ◌≤◌, eqb, leb, length, get_or, set};
+ghost use Rattle.std.specs.Prelude.{◌≡◌, not, suc, ◌<◌, ◌≤◌, leb, length, get_or, set};
 ghost use Rattle.model.specs.Limits.{made, sum, exceeds, refused_sheet};
 ghost use Rattle.model.specs.Table.{live_rows};
 ghost use Rattle.table.specs.Words.{rows_in};
@@ -7,37 +7,25 @@ ghost use Rattle.table.specs.Rows.{before, Orderly};
 ghost use Rattle.table.specs.Limits.{limits_in, Makers, Counts, exceeds_by};
 
 use crate::Row;
-use crate::words::row_at;
-
-// One more, where the row is the domain's.
-fn counted(made: usize, maker: u32, d: u32) -> usize
-    requires { made < 1024 }
-    ensures { result ≡ cond (eqb d maker) (suc made) made }
-{
-    if d == maker { made + 1 } else { made }
-}
+use crate::words::{cap_of, row_at};
 
 // How many of the first k rows a domain has made. Internal: the caller keeps k within the table.
 fn made_by(table: &[Row], k: usize, d: u32) -> usize
     requires { (k ≤ length table.now) × (k ≤ 1024) }
     ensures { result ≡ made d (before (rows_in table.now) k) }
 {
-    let mut made: usize = 0;
-    let mut i: usize = 0;
-    while i < k {
-        let c = row_at(table, i);
-        made = counted(made, c.maker, d);
-        i += 1;
-    }
-    made
+    table[..k]
+        .iter()
+        .filter(|row| cap_of(row).maker == d)
+        .count()
 }
 
 // The limit of a domain; 0 where none is lent.
+// A limit of 0 is reached by every domain, so that no case is needed for one that is not lent.
 fn limit_of(limits: &[u32], d: u32) -> u32
     ensures { result ≡ get_or limits.now d 0 }
 {
-    let i = d as usize;
-    if i < limits.len() { limits[i] } else { 0 }
+    limits.get(d as usize).copied().unwrap_or(0)
 }
 
 // Refusal 18: whether a domain has made as many rows as its limit.
@@ -61,11 +49,9 @@ fn count_makers(table: &[Row], k: usize, counts: &mut [u32; 64])
     requires { (k ≤ length table.now) × (k ≤ 1024) × Makers (rows_in table.now) k × Counts (rows_in table.now) 0 counts.old }
     ensures { Counts (rows_in table.now) k counts.new }
 {
-    let mut i: usize = 0;
-    while i < k {
+    for i in 0..k {
         let c = row_at(table, i);
         count_maker(counts, c.maker as usize);
-        i += 1;
     }
 }
 
@@ -74,21 +60,7 @@ fn none_exceeded(counts: &[u32; 64], limits: &[u32]) -> bool
     requires { length limits.now ≡ 64 }
     ensures { result ≡ not (exceeds_by 0 counts.now limits.now) }
 {
-    let mut d: usize = 0;
-    while d < 64 {
-        if limits[d] < counts[d] {
-            return false;
-        }
-        d += 1;
-    }
-    true
-}
-
-// A limit in 64 bits.
-fn wide(limit: u32) -> u64
-    ensures { (result ≡ limit) × (result ≤ 4294967295) }
-{
-    limit as u64
+    limits.iter().zip(counts).all(|(limit, made)| made <= limit)
 }
 
 // The sum of the limits, which 32 bits may not hold.
@@ -96,13 +68,7 @@ fn sum_of(limits: &[u32]) -> u64
     requires { length limits.now ≡ 64 }
     ensures { result ≡ sum limits.now }
 {
-    let mut total: u64 = 0;
-    let mut d: usize = 0;
-    while d < limits.len() {
-        total += wide(limits[d]);
-        d += 1;
-    }
-    total
+    limits.iter().map(|limit| u64::from(*limit)).sum()
 }
 
 // Whether no domain has made more of the live rows than its limit, where limits are lent.

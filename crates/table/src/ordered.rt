@@ -1,5 +1,5 @@
 // Whether a table is in order.
-ghost use Rattle.std.specs.Prelude.{◌≡◌, true, not, ◌&&◌, ◌||◌, suc, ◌<◌, ◌≤◌, eqb, leb, length, drop};
+ghost use Rattle.std.specs.Prelude.{◌≡◌, not, ◌&&◌, ◌||◌, suc, ◌<◌, ◌≤◌, eqb, leb, length, drop};
 ghost use Rattle.model.specs.Lists.{all};
 ghost use Rattle.model.specs.Table.{derivation, is_empty_row, is_right, is_kind, is_mark, is_marked, span, terms_in_order, row_fits_parent, row_in_order, rows_in_order, in_order};
 ghost use Rattle.model.specs.Values;
@@ -7,67 +7,26 @@ ghost use Rattle.table.specs.Words.{rows_in};
 ghost use Rattle.table.specs.Rows.{before, Filled, Rise, Front, Found, PlacesIf};
 ghost use Rattle.table.specs.Known.{Looks};
 
-use crate::Row;
 use crate::find::{find_near, live_count};
 use crate::masks::{has_bit, is_domain};
 use crate::spans::{end, is_inside, is_legal, span_of};
 use crate::words::row_at;
+use crate::{Row, WIDTH};
 use model::Cap;
-
-fn is_empty_row(c: Cap) -> bool
-    ensures { result ≡ is_empty_row c }
-{
-    if c.name.0 != 0 {
-        return false;
-    }
-    if c.parent.0 != 0 {
-        return false;
-    }
-    if c.start.0 != 0 {
-        return false;
-    }
-    if c.length != 0 {
-        return false;
-    }
-    if c.right != 0 {
-        return false;
-    }
-    if c.depth != 0 {
-        return false;
-    }
-    if c.kind != 0 {
-        return false;
-    }
-    if c.fresh != 0 {
-        return false;
-    }
-    if c.maker != 0 {
-        return false;
-    }
-    c.holders == 0
-}
 
 // The rows from k on are all zeros.
 fn rest_is_empty(table: &[Row], k: usize) -> bool
     requires { k ≤ length table.now }
     ensures { result ≡ all is_empty_row (drop k (rows_in table.now)) }
 {
-    let mut i = k;
-    while i < table.len() {
-        let c = row_at(table, i);
-        if !is_empty_row(c) {
-            return false;
-        }
-        i += 1;
-    }
-    true
+    table[k..].iter().all(|row| *row == [0; WIDTH])
 }
 
 // Whether this is a right.
 pub fn is_right(r: u32) -> bool
     ensures { result ≡ is_right r }
 {
-    if r == 1 { true } else { r == 2 }
+    matches!(r, 1 | 2)
 }
 
 // Whether this is a kind of capability.
@@ -176,6 +135,8 @@ pub fn wide(x: u16) -> usize
 }
 
 // Each of the first k rows against the rows before it. The place of each row's parent is noted.
+// A plain yes or no, here and in `check_order`: the definition's answer (`in_order`, model/specs/Table). The places are noted in memory that is lent,
+// since nothing is allocated.
 fn rows_in_order(table: &[Row], k: usize, issued: u32, places: &mut [u16; 1024]) -> bool
     requires { (k ≤ 1024) × Filled (rows_in table.now) k × (length places.old ≡ 1024) }
     ensures { (result ≡ rows_in_order (suc issued) (before (rows_in table.now) k)) × PlacesIf result (rows_in table.now) k places.new }
@@ -183,8 +144,7 @@ fn rows_in_order(table: &[Row], k: usize, issued: u32, places: &mut [u16; 1024])
     // Where names were seen last, for a first guess at a parent's place.
     let mut seen = [0u16; 2048];
     let mut last: u32 = 0;
-    let mut i: usize = 0;
-    while i < k {
+    for i in 0..k {
         let c = row_at(table, i);
         if c.name.0 <= last {
             return false;
@@ -197,7 +157,6 @@ fn rows_in_order(table: &[Row], k: usize, issued: u32, places: &mut [u16; 1024])
         places[i] = q as u16;
         seen[slot(c.name.0)] = i as u16;
         last = c.name.0;
-        i += 1;
     }
     last <= issued
 }
@@ -216,26 +175,19 @@ fn check_order(table: &[Row], k: usize, issued: u32, places: &mut [u16; 1024]) -
     rows_in_order(table, k, issued, places)
 }
 
-// What a look at a table finds: it is in order, and so many of its rows live; or it is not in order.
-#[derive(Clone, Copy)]
-pub enum Look {
-    InOrder(usize),
-    Disordered,
-}
-
 // Whether a table is in order; above 1,024 rows it is not. If it is, the place of each row's parent is noted, for those who work on it.
-pub(crate) fn look_at(table: &[Row], issued: u32, places: &mut [u16; 1024]) -> Look
+pub(crate) fn look_at(table: &[Row], issued: u32, places: &mut [u16; 1024]) -> Option<usize>
     requires { length places.old ≡ 1024 }
     ensures { Looks table.now issued places.new result }
 {
     if 1024 < table.len() {
-        return Look::Disordered;
+        return None;
     }
     let live = live_count(table);
     if check_order(table, live, issued, places) {
-        Look::InOrder(live)
+        Some(live)
     } else {
-        Look::Disordered
+        None
     }
 }
 
@@ -244,9 +196,5 @@ pub fn in_order(table: &[Row], issued: u32) -> bool
     ensures { result ≡ in_order (rows_in table.now) issued }
 {
     let mut places = [0u16; 1024];
-    let found = look_at(table, issued, &mut places);
-    match found {
-        Look::InOrder(_) => true,
-        Look::Disordered => false,
-    }
+    look_at(table, issued, &mut places).is_some()
 }

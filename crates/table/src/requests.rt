@@ -15,7 +15,7 @@ ghost use Rattle.table.specs.Limits.{limits_in, Allowed};
 use crate::Row;
 use crate::groups::judge_group;
 use crate::judge::judge;
-use model::{Answer, Work};
+use model::{Name, Refusal, Work};
 
 // The answer to work; what is stored decides nothing there. The names are those of names dropped together. Internal: the caller shows that the table is in order, that
 // there are as many bits as there are to be, and that the limits are not refused.
@@ -27,7 +27,7 @@ pub fn judge_request(
     limits: &[u32],
     work: Work,
     names: &[u32],
-) -> Answer
+) -> Result<Name, Refusal>
     requires { Orderly (rows_in table.now) (length table.now) k issued × Sized bits.now × Allowed table.now limits.now }
     ensures { verdict_of result ≡ verdict (Refusals.judge (view_of (rows_in table.now) bits.now unstored issued) (work_of (limits_in limits.now) work names.now)) (new_name issued (work_of (limits_in limits.now) work names.now)) }
 {

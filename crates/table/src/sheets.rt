@@ -1,19 +1,22 @@
 // The lent sheet: a byte for each combination of a holder's kind, an access, and where the access comes from. Only these functions know
 // the layout.
-ghost use Rattle.std.specs.Prelude.{◌≡◌, ◌≤◌, ◌<◌, length, get_or};
+ghost use Rattle.std.specs.Prelude.{◌≡◌, ◌≤◌, ◌<◌, length};
 ghost use Rattle.model.specs.Strike.{result_of};
 ghost use Rattle.table.specs.Sheets.{access_number, origin_number, holder_number, place_of, weight, with_results, with_conflicts, bytes_of, bytes6, sheet_in, sheet_lent};
 
 use crate::SheetBytes;
 use model::{Access, Conflicts, Effect, Origin, Results, Sheet};
+use std::array;
 
+// The kind is a number here, in `place_of` and in `result_at`: the word of a row (`Cap`).
 fn holder_number(kind: u32) -> usize
     ensures { (result ≡ holder_number kind) × (result ≤ 2) }
 {
-    if kind == 0 {
-        return 0;
+    match kind {
+        0 => 0,
+        1 => 1,
+        _ => 2,
     }
-    if kind == 1 { 1 } else { 2 }
 }
 
 fn access_number(a: Access) -> usize
@@ -46,8 +49,7 @@ fn place_of(kind: u32, a: Access, from: Origin) -> usize
 pub fn result_at(sheet: &SheetBytes, kind: u32, a: Access, from: Origin) -> u8
     ensures { result ≡ weight (result_of (sheet_in sheet.now) kind a from) }
 {
-    let byte = sheet[place_of(kind, a, from)];
-    if byte < 2 { byte } else { 2 }
+    sheet[place_of(kind, a, from)].min(2)
 }
 
 // The sheet of card 6.
@@ -105,25 +107,12 @@ pub fn bytes_of(sheet: Sheet) -> SheetBytes
     bytes
 }
 
-// The byte that is lent at a place; one that is missing is `end`.
-fn byte_at(lent: &[u8], place: usize) -> u8
-    ensures { result ≡ get_or lent.now place 2 }
-{
-    if place < lent.len() { lent[place] } else { 2 }
-}
-
-// The sheet that is lent, card 6's where no byte is.
+// The sheet that is lent, card 6's where no byte is; a byte that is missing is `end`.
 pub fn sheet_lent(lent: &[u8]) -> SheetBytes
     ensures { sheet_in result ≡ sheet_lent lent.now }
 {
-    let mut sheet = card6();
     if lent.len() == 0 {
-        return sheet;
+        return card6();
     }
-    let mut i: usize = 0;
-    while i < 18 {
-        sheet[i] = byte_at(lent, i);
-        i += 1;
-    }
-    sheet
+    array::from_fn(|i| lent.get(i).copied().unwrap_or(2))
 }

@@ -6,7 +6,7 @@ ghost use Rattle.table.specs.Known.{LooksKept};
 ghost use Rattle.table.specs.States.{head_of, is_memory, states_in, emptied, LooksBack};
 
 use crate::limits::are_kept;
-use crate::ordered::{Look, look_at};
+use crate::ordered::look_at;
 use crate::{Row, WIDTH};
 
 // Whether this is memory for eight states.
@@ -42,10 +42,8 @@ pub fn forget(stored: &mut [Row], copies: &[u8])
     if !is_memory(stored, copies) {
         return;
     }
-    let mut slot: u32 = 0;
-    while slot < 8 {
+    for slot in 0..8 {
         put_nothing(stored, head_at(slot));
-        slot += 1;
     }
 }
 
@@ -93,20 +91,15 @@ fn kept_of(more: u32) -> usize
 }
 
 // A look at rows that are kept: whether they are a table in order that keeps the limits.
-fn look_kept(rows: &[Row], issued: u32, limits: &[u32], places: &mut [u16; 1024]) -> Look
+fn look_kept(rows: &[Row], issued: u32, limits: &[u32], places: &mut [u16; 1024]) -> Option<usize>
     requires { (length places.old ≡ 1024) × ((length limits.now ≡ 0 → ⊥) → length limits.now ≡ 64) }
     ensures { LooksKept rows.now issued limits.now places.new result }
 {
-    let found = look_at(rows, issued, places);
-    match found {
-        Look::Disordered => Look::Disordered,
-        Look::InOrder(live) => {
-            if are_kept(rows, live, issued, limits) {
-                Look::InOrder(live)
-            } else {
-                Look::Disordered
-            }
-        }
+    let live = look_at(rows, issued, places)?;
+    if are_kept(rows, live, issued, limits) {
+        Some(live)
+    } else {
+        None
     }
 }
 
@@ -134,7 +127,7 @@ pub fn look_back(
     let kept = kept_of(head.more);
     let found = look_kept(&stored[first..first + kept], issued, limits, places);
     match found {
-        Look::Disordered => Stock::Unfit,
-        Look::InOrder(live) => Stock::Fit(live),
+        None => Stock::Unfit,
+        Some(live) => Stock::Fit(live),
     }
 }

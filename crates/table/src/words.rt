@@ -1,8 +1,8 @@
-// The rows of a lent table: an array of words each, in the record's order, of which the mask of holders takes two. Only `row_at` and `set_row`
+// The rows of a lent table: an array of words each, in the record's order, of which the mask of holders takes two. Only `cap_of` and `set_row`
 // know their places.
 ghost use Rattle.std.specs.Prelude.{◌≡◌, ◌<◌, length, get_or, set};
 ghost use Rattle.model.specs.Table.{empty_row};
-ghost use Rattle.table.specs.Words.{mask_of, low_half, high_half, words_of, rows_in};
+ghost use Rattle.table.specs.Words.{mask_of, low_half, high_half, cap_of, words_of, rows_in};
 
 use crate::Row;
 use model::{Addr, Cap, Name};
@@ -27,12 +27,10 @@ pub fn high_half(mask: u64) -> u32
     (mask / 4294967296) as u32
 }
 
-// The row at i. Internal: the caller keeps i within the table.
-pub fn row_at(table: &[Row], i: usize) -> Cap
-    requires { i < length table.now }
-    ensures { result ≡ get_or (rows_in table.now) i empty_row }
+// The row that an array of words is.
+pub(crate) fn cap_of(row: &Row) -> Cap
+    ensures { result ≡ cap_of row.now }
 {
-    let row = table[i];
     Cap {
         name: Name(row[0]),
         parent: Name(row[1]),
@@ -45,6 +43,14 @@ pub fn row_at(table: &[Row], i: usize) -> Cap
         maker: row[8],
         holders: joined(row[9], row[10]),
     }
+}
+
+// The row at i. Internal: the caller keeps i within the table.
+pub fn row_at(table: &[Row], i: usize) -> Cap
+    requires { i < length table.now }
+    ensures { result ≡ get_or (rows_in table.now) i empty_row }
+{
+    cap_of(&table[i])
 }
 
 // Puts a row there. Internal, in the same way.

@@ -1,7 +1,8 @@
 -- Document 01, "The bracket text", and cards 1, 6, 9 and 10: the one spelling of an event by a domain, where no name is written and where names
 -- are written out.
 -- Assumes nothing.
-use Rattle.std.specs.Prelude.{ℕ, ◌^◌, ◌<◌, Bool, true, false, not, cond, ◌&&◌, List, [], ◌∷◌, ◌++◌, eqb}
+use Rattle.std.specs.Prelude.{ℕ, ◌^◌, ◌<◌, Bool, true, false, not, cond, ◌&&◌, List, [], ◌∷◌, ◌++◌, eqb, None, Option, Some}
+use Rattle.model.specs.declared.Name.{Name}
 use Prim.Native.Char.{code}
 use Prim.Native.String as text
 use Prim.Native.String.{String}
@@ -9,8 +10,6 @@ use Rattle.model.specs.Table.{is_domain}
 use Rattle.model.specs.Refusals.{unfit_root, unfit_child}
 use Rattle.model.specs.declared.Span.{Span}
 use Rattle.model.specs.declared.Terms.{Terms}
-use Rattle.model.specs.declared.NewName.{NewName}
-use Rattle.model.specs.declared.NewName.TheVariants.{Unwritten, Written}
 use Rattle.model.specs.declared.Event.{Event}
 use Rattle.model.specs.declared.Event.TheVariants.{Create, Borrow, Read, Write, Drop}
 use Rattle.text.specs.Decimal.{decimal}
@@ -61,9 +60,9 @@ abbrev pub span_numbers : Span → List ℕ
 span_numbers s = s.start.0 ∷ s.length ∷ []
 
 -- the new name, where it is written: card 1, "writes the new name after the word"
-abbrev pub written_numbers : NewName → List ℕ
-written_numbers Unwritten = []
-written_numbers (Written x) = x.0 ∷ []
+abbrev pub written_numbers : Option Name → List ℕ
+written_numbers None = []
+written_numbers (Some x) = x.0 ∷ []
 
 -- "One form a line, ended by byte 10: `(create START LENGTH RIGHT)`, `(borrow NAME START LENGTH RIGHT)`, `(read NAME START LENGTH)`,
 -- `(write NAME START LENGTH)`, `(drop NAME)`." Card 1: `(create 1 0 64 rw)`, `(borrow 2 1 0 8 rw)`. Card 6: a borrow's kind is its last
@@ -81,11 +80,11 @@ unfoldable pub spell : ℕ → Event → List ℕ
 spell actor e = front actor ++ form actor e
 
 -- the spelling `Plain`, of document 01, writes no new name; `Named`, behind the line `(trace 2)`, always does
-unfoldable pub writes_name : Spelling → NewName → Bool
-writes_name Plain Unwritten = true
-writes_name Plain (Written x) = false
-writes_name Named Unwritten = false
-writes_name Named (Written x) = true
+unfoldable pub writes_name : Spelling → Option Name → Bool
+writes_name Plain None = true
+writes_name Plain (Some x) = false
+writes_name Named None = false
+writes_name Named (Some x) = true
 
 -- An event by a domain has a spelling in one of the two when its name is written as there, and it is not refused in itself, that is not
 -- refusal 2 for its right, its kind, its mark, its domain or its mask of holders. What `spell` gives of any other event is the spelling of none,

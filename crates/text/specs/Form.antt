@@ -1,18 +1,17 @@
 -- Document 01, "The bracket text", before any card added to it: which events have a spelling in its form, and what a line in that form reads as.
 -- Assumes nothing.
-use Rattle.std.specs.Prelude.{ℕ, Bool, cond, ◌&&◌, List, [], ◌∷◌, ◌++◌, eqb}
+use Rattle.std.specs.Prelude.{ℕ, Bool, cond, ◌&&◌, List, [], ◌∷◌, ◌++◌, eqb, Err, Ok, Option, Result as Returned}
+use Rattle.model.specs.declared.Name.{Name}
+use Rattle.model.specs.declared.Refusal.{Refusal}
 use Rattle.model.specs.Table.{is_right}
 use Rattle.model.specs.Answers.{number}
 use Rattle.model.specs.declared.Terms.{Terms}
-use Rattle.model.specs.declared.NewName.{NewName}
 use Rattle.model.specs.declared.Event.{Event}
 use Rattle.model.specs.declared.Event.TheVariants.{Create, Borrow, Read, Write, Drop}
 use Rattle.text.specs.Result.{Result, value, refused}
 use Rattle.text.specs.Event.{bytes, line, span_numbers, right_word, spell, writes_name, has_spelling}
 use Rattle.text.specs.Read.{same, read_event}
 use Rattle.text.specs.declared.spelling.Spelling.TheVariants.{Plain}
-use Rattle.text.specs.declared.form.FormRead.{FormRead}
-use Rattle.text.specs.declared.form.FormRead.TheVariants.{Event as Found, Refused}
 
 -- Document 01, "The bracket text": "`(create START LENGTH RIGHT)`, `(borrow NAME START LENGTH RIGHT)`, `(read NAME START LENGTH)`,
 -- `(write NAME START LENGTH)`, `(drop NAME)`", "ended by byte 10". It knows no new names, kinds, marks, domains and masks.
@@ -33,7 +32,7 @@ abbrev pub plain_terms : ℕ → Terms
 plain_terms right = record { right = right; kind = 0; fresh = 0; holders = 1 }
 
 -- a create or borrow gives no more than that, value by value
-abbrev pub gives_plainly : NewName → Terms → Bool
+abbrev pub gives_plainly : Option Name → Terms → Bool
 gives_plainly w r = writes_name Plain w && (is_right r.right && (eqb r.kind 0 && (eqb r.fresh 0 && eqb r.holders 1)))
 
 -- the event of a line in document 01's form; any other line is refusal 2, also one that reads as an event by another domain or with a word
@@ -45,7 +44,7 @@ formed (refused r) = refused r
 abbrev pub read_form : List ℕ → Result Event
 read_form line = formed (read_event Plain line)
 
--- the answer that each case of `FormRead` stands for
-abbrev pub read_form_answer : FormRead → Result Event
-read_form_answer (Found e) = value e
-read_form_answer (Refused f) = refused (number f)
+-- the answer that each case of the code's answer stands for
+abbrev pub read_form_answer : Returned Event Refusal → Result Event
+read_form_answer (Ok e) = value e
+read_form_answer (Err f) = refused (number f)

@@ -1,7 +1,8 @@
 -- Card 5, "frames dropped together", and card 10: the one spelling of names that are dropped together by a domain, what a line reads as, and what
 -- the writer leaves. The line of a single name is that of a drop too.
 -- Assumes nothing.
-use Rattle.std.specs.Prelude.{◌≡◌, ℕ, zero, suc, ◌≤◌, Bool, cond, ◌&&◌, List, [], ◌∷◌, ◌++◌, leb, length, take}
+use Rattle.std.specs.Prelude.{◌≡◌, ℕ, zero, suc, ◌≤◌, Bool, cond, ◌&&◌, List, [], ◌∷◌, ◌++◌, leb, length, take, Err, Ok, Result as Returned}
+use Rattle.model.specs.declared.Refusal.{Refusal}
 use Rattle.std.proofs.lemmas.List.Edits.{sets}
 use Rattle.model.specs.Answers.{number}
 use Rattle.model.specs.Requests.{is_group}
@@ -13,8 +14,6 @@ use Rattle.text.specs.Decimal.{number_of}
 use Rattle.text.specs.Event.{line, front, back}
 use Rattle.text.specs.Write.{written, stored, Outcome, too_long}
 use Rattle.text.specs.Read.{same, actor_of, form_of}
-use Rattle.text.specs.declared.group.GroupRead.{GroupRead}
-use Rattle.text.specs.declared.group.GroupRead.TheVariants.{Count, Refused}
 
 -- "`(drop 2 5 9)`", by the domain that acts, ended by byte 10
 unfoldable pub spell_group : ℕ → List ℕ → List ℕ
@@ -40,11 +39,11 @@ read_group s =
     let names = guess_names (form_of s) in
     cond (is_group_spelling s actor names) (value (actor, names)) (refused 2)
 
--- The answer that each case of `GroupRead` stands for, the domain and how many names were read, and the lent names afterwards: those that were
+-- The answer that each case of the code's answer stands for, the domain and how many names were read, and the lent names afterwards: those that were
 -- read first, and the later ones as they were. That these are `names ++ drop (length names) before` is `names_after_lem` of proofs/Laws/Group.
-abbrev pub group_answer : GroupRead → Result (ℕ × ℕ)
-group_answer (Count actor n) = value (actor, n)
-group_answer (Refused f) = refused (number f)
+abbrev pub group_answer : Returned (ℕ × ℕ) Refusal → Result (ℕ × ℕ)
+group_answer (Ok (actor, n)) = value (actor, n)
+group_answer (Err f) = refused (number f)
 
 abbrev pub count_of : Result (ℕ × List ℕ) → Result (ℕ × ℕ)
 count_of (value g) = value (g.0, length g.1)

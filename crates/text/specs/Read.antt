@@ -1,12 +1,11 @@
 -- Document 01, "The bracket text", and cards 1, 6, 9 and 10: what a line reads as in one of the two spellings, the domain and the event whose one
 -- spelling it is.
 -- Assumes nothing.
-use Rattle.std.specs.Prelude.{ℕ, ◌+◌, Bool, true, false, cond, ◌&&◌, List, [], ◌∷◌, eqb, length, get_or}
+use Rattle.std.specs.Prelude.{ℕ, ◌+◌, Bool, true, false, cond, ◌&&◌, List, [], ◌∷◌, eqb, length, get_or, Err, None, Ok, Option, Result as Returned, Some}
+use Rattle.model.specs.declared.Refusal.{Refusal}
 use Rattle.model.specs.Answers.{number}
 use Rattle.model.specs.declared.Name.{Name}
 use Rattle.model.specs.declared.Span.{Span}
-use Rattle.model.specs.declared.NewName.{NewName}
-use Rattle.model.specs.declared.NewName.TheVariants.{Unwritten, Written}
 use Rattle.model.specs.declared.Event.{Event}
 use Rattle.model.specs.declared.Event.TheVariants.{Create, Borrow, Read, Write, Drop}
 use Rattle.text.specs.Result.{Result, value, refused}
@@ -16,8 +15,6 @@ use Rattle.text.specs.Mask.{mask_at}
 use Rattle.text.specs.Event.{kind_word, fresh_word, spell, has_spelling}
 use Rattle.text.specs.declared.spelling.Spelling.{Spelling}
 use Rattle.text.specs.declared.spelling.Spelling.TheVariants.{Plain, Named}
-use Rattle.text.specs.declared.read.EventRead.{EventRead}
-use Rattle.text.specs.declared.read.EventRead.TheVariants.{Event as Found, Refused}
 
 -- two texts have the same bytes
 unfoldable pub same : List ℕ → List ℕ → Bool
@@ -61,9 +58,9 @@ from_name Plain s = s
 from_name Named s = after_space s
 
 -- the new name that this begins with
-abbrev pub new_name_of : Spelling → List ℕ → NewName
-new_name_of Plain t = Unwritten
-new_name_of Named t = Written (name_of t)
+abbrev pub new_name_of : Spelling → List ℕ → Option Name
+new_name_of Plain t = None
+new_name_of Named t = Some (name_of t)
 
 -- the mask of holders stands behind the right's two letters and the words of the kind and the mark
 abbrev pub create_of : Spelling → ℕ → List ℕ → Event
@@ -97,10 +94,10 @@ guess k actor s =
 abbrev pub is_spelling : Spelling → List ℕ → ℕ → Event → Bool
 is_spelling k s actor e = has_spelling k actor e && same s (spell actor e)
 
--- the answer that each case of `EventRead` stands for: the domain that acts, and the event
-abbrev pub read_answer : EventRead → Result (ℕ × Event)
-read_answer (Found actor e) = value (actor, e)
-read_answer (Refused f) = refused (number f)
+-- the answer that each case of the code's answer stands for: the domain that acts, and the event
+abbrev pub read_answer : Returned (ℕ × Event) Refusal → Result (ℕ × Event)
+read_answer (Ok (actor, e)) = value (actor, e)
+read_answer (Err f) = refused (number f)
 
 -- the domain and the event whose spelling a line is, or refusal 2: "line or listing not in the one spelling"
 unfoldable pub read_event : Spelling → List ℕ → Result (ℕ × Event)

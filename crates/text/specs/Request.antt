@@ -1,9 +1,8 @@
 -- Cards 1, 5, 10 and 11: the request that a line reads as, an event, names that are dropped together, a mark or a back, by a domain, and the line
 -- that a request is written as.
 -- Assumes nothing.
-use Rattle.std.specs.Prelude.{◌≡◌, ℕ, ◌≤◌, true, List, [], length}
-use Rattle.model.specs.declared.NewName.{NewName}
-use Rattle.model.specs.declared.NewName.TheVariants.{Unwritten, Written}
+use Rattle.std.specs.Prelude.{◌≡◌, ℕ, ◌≤◌, true, List, [], length, None, Option, Some}
+use Rattle.model.specs.declared.Name.{Name}
 use Rattle.model.specs.declared.Event.{Event}
 use Rattle.model.specs.declared.Event.TheVariants.{Create, Borrow, Read, Write, Drop}
 use Rattle.model.specs.declared.Asked.{Asked}
@@ -37,9 +36,9 @@ abbrev pub read_request : Limits → Spelling → List ℕ → Result Request
 read_request limits k line = or_group limits line (read_event k line)
 
 -- the spelling that an event has: that of a `(trace 2)` text where it writes its new name out
-abbrev pub spelling_with : NewName → Spelling
-spelling_with Unwritten = Plain
-spelling_with (Written x) = Named
+abbrev pub spelling_with : Option Name → Spelling
+spelling_with None = Plain
+spelling_with (Some x) = Named
 
 abbrev pub spelling_of : Event → Spelling
 spelling_of (Create w s r) = spelling_with w

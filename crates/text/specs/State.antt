@@ -1,7 +1,8 @@
 -- Card 11, "states to come back to", and card 10: the one spelling of a mark and of a back by a domain, what a line reads as, and what the writers
 -- leave. Both are spelled alike in both spellings of events.
 -- Assumes nothing.
-use Rattle.std.specs.Prelude.{ℕ, Bool, not, cond, ◌&&◌, List, [], ◌∷◌, ◌++◌}
+use Rattle.std.specs.Prelude.{ℕ, Bool, not, cond, ◌&&◌, List, [], ◌∷◌, ◌++◌, Err, Ok, Result as Returned}
+use Rattle.model.specs.declared.Refusal.{Refusal}
 use Rattle.model.specs.Answers.{number}
 use Rattle.model.specs.Refusals.{not_a_slot}
 use Rattle.model.specs.declared.Asked.{Asked}
@@ -12,8 +13,6 @@ use Rattle.text.specs.Decimal.{number_of}
 use Rattle.text.specs.Event.{bytes, spaced, front, back}
 use Rattle.text.specs.Write.{written, stored, Outcome, too_long}
 use Rattle.text.specs.Read.{same, actor_of, form_of}
-use Rattle.text.specs.declared.states.StateRead.{StateRead}
-use Rattle.text.specs.declared.states.StateRead.TheVariants.{Asked as Found, Refused}
 
 -- "`(mark K)` with K from 0 to 7", "`(back K)`": a mark or back of a slot by a domain has a spelling when it is not refused in itself, "K above 7 is 2"
 abbrev pub slot_spelled : ℕ → ℕ → Bool
@@ -51,10 +50,10 @@ read_state s =
     cond (is_slot_spelling mark_word s actor k) (value (asked.Mark actor k))
     (cond (is_slot_spelling back_word s actor k) (value (asked.Back actor k)) (refused 2))
 
--- the answer that each case of `StateRead` stands for
-abbrev pub state_answer : StateRead → Result Asked
-state_answer (Found a) = value a
-state_answer (Refused f) = refused (number f)
+-- the answer that each case of the code's answer stands for
+abbrev pub state_answer : Returned Asked Refusal → Result Asked
+state_answer (Ok a) = value a
+state_answer (Err f) = refused (number f)
 
 -- a word and a slot by a domain written into the buffer out: the line, or refusal 2 where there is no such domain or slot, or 11
 unfoldable pub write_slot : List ℕ → ℕ → ℕ → List ℕ → Outcome

@@ -1,31 +1,22 @@
 // Names that are dropped together, on one line: read and written as event lines are, by a guess that must write back to the same bytes.
 ghost use Rattle.std.specs.Prelude.{◌≡◌, true, ◌≤◌, length};
-ghost use Rattle.std.proofs.lemmas.List.Edits.{sets};
 ghost use Rattle.model.specs.Table.{is_domain};
 ghost use Rattle.text.specs.Write.{outcome};
 ghost use Rattle.text.specs.Group.{spell_group, is_group_spelling, read_group, group_answer, count_of, names_after, write_group, Guessed};
 
-use crate::write::Written;
-use crate::{classes, lines, numbers, read, write};
+use crate::{classes, lines, numbers, pieces, read, write};
 use model::Refusal;
 use table::groups;
 use table::masks::is_domain;
 
-// What a line reads as: the domain that acts and how many names it lists, or refusal 2.
-#[derive(Clone, Copy)]
-pub enum GroupRead {
-    Count(u32, usize),
-    Refused(Refusal),
-}
-
 // Writes the line of names that are dropped together by a domain at the buffer's first bytes and answers its length; refusal 13 where the names are
 // none, more than 64 or do not rise strictly, 2 for a domain above 63, and 11 where the line is longer than the buffer.
-pub fn write_group(actor: u32, names: &[u32], out: &mut [u8]) -> Written
+pub fn write_group(actor: u32, names: &[u32], out: &mut [u8]) -> Result<usize, Refusal>
     ensures { outcome result out.new ≡ write_group actor names.now out.old }
 {
     let grouped = groups::is_group(names);
     if !grouped {
-        return Written::Refused(Refusal::Misgrouped);
+        return Err(Refusal::Misgrouped);
     }
     write::write_line(is_domain(actor), actor, b"(drop", names, out)
 }
@@ -36,17 +27,15 @@ fn guess_names(form: &[u8], names: &mut [u32; 64]) -> usize
     ensures { Guessed form.now names.new result }
 {
     let mut at = lines::count_through(form, classes::SPACE);
-    let mut count = 0;
-    while count < 64 {
+    for count in 0..64 {
         if form.len() <= at {
             return count;
         }
         let word = numbers::read_word(&form[at..]);
         names[count] = word.value;
-        count += 1;
         at += word.end;
     }
-    count
+    64
 }
 
 // Whether a line is the spelling of a group by a domain, the longest of which has 719 bytes.
@@ -56,35 +45,23 @@ fn is_spelling(line: &[u8], actor: u32, names: &[u32]) -> bool
 {
     let mut buffer = [0u8; 719];
     let written = write_group(actor, names, &mut buffer);
-    let Written::Length(length) = written else {
+    let Ok(length) = written else {
         return false;
     };
-    check::same(line, &buffer[..length])
-}
-
-// Puts names first in an array; the later entries stay.
-fn put_names(found: &[u32], names: &mut [u32; 64])
-    requires { length found.now ≤ 64 }
-    ensures { names.new ≡ sets names.old 0 found.now }
-{
-    let mut i = 0;
-    while i < found.len() {
-        names[i] = found[i];
-        i += 1;
-    }
+    line == &buffer[..length]
 }
 
 // Reads a line by itself: the domain and the group of names whose spelling it is, its newline included, or refusal 2. The names that are read are
 // put first in the array; a refusal leaves it as it was.
-pub fn read_group(line: &[u8], names: &mut [u32; 64]) -> GroupRead
+pub fn read_group(line: &[u8], names: &mut [u32; 64]) -> Result<(u32, usize), Refusal>
     ensures { (group_answer result ≡ count_of (read_group line.now)) × (names.new ≡ names_after (read_group line.now) names.old) }
 {
     let actor = read::actor_of(line);
     let mut found = [0u32; 64];
     let count = guess_names(read::form_of(line), &mut found);
     if !is_spelling(line, actor, &found[..count]) {
-        return GroupRead::Refused(Refusal::Misspelt);
+        return Err(Refusal::Misspelt);
     }
-    put_names(&found[..count], names);
-    GroupRead::Count(actor, count)
+    pieces::copy_over(&mut names[..count], &found[..count]);
+    Ok((actor, count))
 }

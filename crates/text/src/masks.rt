@@ -17,11 +17,7 @@ fn alone(domain: u32) -> u64
 fn is_alone(maker: u32, mask: u64) -> bool
     ensures { result ≡ eqb mask (2 ^ maker) }
 {
-    if maker < 64 {
-        mask == alone(maker)
-    } else {
-        false
-    }
+    maker < 64 && mask == alone(maker)
 }
 
 // The byte of a digit.
@@ -29,23 +25,19 @@ fn digit_byte(d: u8) -> u8
     requires { d < 16 }
     ensures { result ≡ hex_digit d }
 {
-    if d < 10 { 48 + d } else { 87 + d }
+    if d < 10 { b'0' + d } else { b'a' - 10 + d }
 }
 
 // What a byte is worth as a digit; 0 where it is none.
+// So `hex_value` (text/specs/Mask) has it, and no `Option` is needed: a text with such a byte is refused where what is written back is compared.
 fn digit_value(byte: u8) -> u8
     ensures { (result ≡ hex_value byte) × (result < 16) }
 {
-    if byte < 48 {
-        return 0;
+    match byte {
+        b'0'..=b'9' => byte - b'0',
+        b'a'..=b'f' => byte - b'a' + 10,
+        _ => 0,
     }
-    if byte <= 57 {
-        return byte - 48;
-    }
-    if byte < 97 {
-        return 0;
-    }
-    if byte <= 102 { byte - 87 } else { 0 }
 }
 
 // Writes the 16 digits of a mask at a position, the last one first, and returns the position behind them.
@@ -54,12 +46,10 @@ pub fn put_digits(out: &mut [u8], at: usize, mask: u64) -> usize
     ensures { Put out.old at (hex 16 mask) out.new result }
 {
     let end = at + 16;
-    let mut next = end;
     let mut rest = mask;
-    while at < next {
-        next -= 1;
-        out[next] = digit_byte((rest % 16) as u8);
-        rest = rest / 16;
+    for place in (at..end).rev() {
+        out[place] = digit_byte((rest % 16) as u8);
+        rest /= 16;
     }
     end
 }
@@ -88,13 +78,8 @@ pub fn digits_of(text: &[u8]) -> u64
     ensures { result ≡ hex_of text.now }
 {
     let mut value: u64 = 0;
-    let mut i = 0;
-    while i < 16 {
-        if text.len() <= i {
-            return value;
-        }
-        value = value * 16 + digit_value(text[i]) as u64;
-        i += 1;
+    for byte in &text[..text.len().min(16)] {
+        value = value * 16 + digit_value(*byte) as u64;
     }
     value
 }

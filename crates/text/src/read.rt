@@ -5,23 +5,16 @@ ghost use Rattle.text.specs.Event.{spell, has_spelling};
 ghost use Rattle.text.specs.Read.{name_of, span_of, right_of, kind_of, fresh_at, actor_of, form_of, from_name, new_name_of, create_of, borrow_of, guess, is_spelling, read_answer, read_event};
 
 use crate::spelling::Spelling;
-use crate::write::Written;
 use crate::{lines, masks, numbers, pieces, write};
-use model::{Addr, Event, Name, NewName, Refusal, Span, Terms};
+use model::{Addr, Event, Name, Refusal, Span, Terms};
 use table::masks::is_domain;
 
-// What a line reads as: the domain that acts and the event whose spelling it is, or refusal 2.
-#[derive(Clone, Copy)]
-pub enum EventRead {
-    Event(u32, Event),
-    Refused(Refusal),
-}
-
 // Internal. The byte at an index, 0 past the end.
+// No byte that is asked for is 0, so that no `Option` is needed.
 pub fn byte_at(text: &[u8], index: usize) -> u8
     ensures { result ≡ get_or text.now index 0 }
 {
-    if index < text.len() { text[index] } else { 0 }
+    text.get(index).copied().unwrap_or(0)
 }
 
 fn name_of(word: &[u8]) -> Name
@@ -40,6 +33,7 @@ fn span_of(start: &[u8], length: &[u8]) -> Span
 }
 
 // Internal. The right that a word spells: `ro` has an o.
+// Here, in `kind_of` and in `fresh_at` the answer is a number, since it is put into `Terms`.
 pub fn right_of(word: &[u8]) -> u8
     ensures { result ≡ right_of word.now }
 {
@@ -51,13 +45,10 @@ pub fn right_of(word: &[u8]) -> u8
 pub fn kind_of(word: &[u8]) -> u8
     ensures { result ≡ kind_of word.now }
 {
-    let letter = byte_at(word, 5);
-    if letter == b'w' {
-        1
-    } else if letter == b'l' {
-        2
-    } else {
-        0
+    match byte_at(word, 5) {
+        b'w' => 1,
+        b'l' => 2,
+        _ => 0,
     }
 }
 
@@ -69,6 +60,7 @@ pub fn fresh_at(word: &[u8], index: usize) -> u8
 }
 
 // Internal. The domain that acts by a line: the number behind `as`, and 0 where there is none.
+// Domain 0 is who acts in such a line (`actor_of`, text/specs/Read), so nothing is missing there.
 pub(crate) fn actor_of(line: &[u8]) -> u32
     ensures { result ≡ actor_of line.now }
 {
@@ -101,12 +93,12 @@ fn from_name(spelling: Spelling, form: &[u8]) -> &[u8]
 }
 
 // The new name that this begins with.
-fn new_name_of(spelling: Spelling, word: &[u8]) -> NewName
+fn new_name_of(spelling: Spelling, word: &[u8]) -> Option<Name>
     ensures { result ≡ new_name_of spelling word.now }
 {
     match spelling {
-        Spelling::Plain => NewName::Unwritten,
-        Spelling::Named => NewName::Written(name_of(word)),
+        Spelling::Plain => None,
+        Spelling::Named => Some(name_of(word)),
     }
 }
 
@@ -181,25 +173,25 @@ fn is_spelling(spelling: Spelling, line: &[u8], actor: u32, event: Event) -> boo
 {
     let mut buffer = [0u8; 86];
     let written = write::write_event(spelling, actor, event, &mut buffer);
-    let Written::Length(length) = written else {
+    let Ok(length) = written else {
         return false;
     };
-    check::same(line, &buffer[..length])
+    line == &buffer[..length]
 }
 
 // Reads a line by itself: the domain and the event whose spelling it is, in one of the two, its newline included, or refusal 2.
-pub fn read_event(spelling: Spelling, line: &[u8]) -> EventRead
+pub fn read_event(spelling: Spelling, line: &[u8]) -> Result<(u32, Event), Refusal>
     ensures { read_answer result ≡ read_event spelling line.now }
 {
     let actor = actor_of(line);
     if !is_domain(actor) {
-        return EventRead::Refused(Refusal::Misspelt);
+        return Err(Refusal::Misspelt);
     }
     let form = form_of(line);
     let event = guessed(spelling, actor, form);
     if is_spelling(spelling, line, actor, event) {
-        EventRead::Event(actor, event)
+        Ok((actor, event))
     } else {
-        EventRead::Refused(Refusal::Misspelt)
+        Err(Refusal::Misspelt)
     }
 }

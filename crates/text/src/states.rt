@@ -3,27 +3,19 @@ ghost use Rattle.std.specs.Prelude.{◌≡◌, length};
 ghost use Rattle.text.specs.Write.{outcome};
 ghost use Rattle.text.specs.State.{slot_spelled, slot_of, is_slot_spelling, read_state, state_answer, write_slot, write_mark, write_back};
 
-use crate::write::Written;
 use crate::{lines, numbers, read, write};
 use model::{Asked, Refusal};
 use table::masks::is_domain;
-
-// What a line reads as: the mark or the back whose spelling it is, or refusal 2.
-#[derive(Clone, Copy)]
-pub enum StateRead {
-    Asked(Asked),
-    Refused(Refusal),
-}
 
 // Whether a mark or a back has a line: who asks is a domain, and the slot is one of eight.
 fn is_spelled(actor: u32, slot: u32) -> bool
     ensures { result ≡ slot_spelled actor slot }
 {
-    if is_domain(actor) { slot <= 7 } else { false }
+    is_domain(actor) && slot <= 7
 }
 
 // Writes the line of a slot by a domain, with the word of a mark or of a back.
-fn write_slot(word: &[u8], actor: u32, slot: u32, out: &mut [u8]) -> Written
+fn write_slot(word: &[u8], actor: u32, slot: u32, out: &mut [u8]) -> Result<usize, Refusal>
     requires { length word.now ≡ 5 }
     ensures { outcome result out.new ≡ write_slot word.now actor slot out.old }
 {
@@ -33,14 +25,14 @@ fn write_slot(word: &[u8], actor: u32, slot: u32, out: &mut [u8]) -> Written
 
 // Writes the line of a mark by a domain at the buffer's first bytes and answers its length; refusal 2 for a domain above 63 or a slot above 7, and 11
 // where the line is longer than the buffer.
-pub fn write_mark(actor: u32, slot: u32, out: &mut [u8]) -> Written
+pub fn write_mark(actor: u32, slot: u32, out: &mut [u8]) -> Result<usize, Refusal>
     ensures { outcome result out.new ≡ write_mark actor slot out.old }
 {
     write_slot(b"(mark", actor, slot, out)
 }
 
 // Writes the line of a back, in the same way.
-pub fn write_back(actor: u32, slot: u32, out: &mut [u8]) -> Written
+pub fn write_back(actor: u32, slot: u32, out: &mut [u8]) -> Result<usize, Refusal>
     ensures { outcome result out.new ≡ write_back actor slot out.old }
 {
     write_slot(b"(back", actor, slot, out)
@@ -60,23 +52,23 @@ fn is_spelling(word: &[u8], line: &[u8], actor: u32, slot: u32) -> bool
 {
     let mut buffer = [0u8; 17];
     let written = write_slot(word, actor, slot, &mut buffer);
-    let Written::Length(length) = written else {
+    let Ok(length) = written else {
         return false;
     };
-    check::same(line, &buffer[..length])
+    line == &buffer[..length]
 }
 
 // Reads a line by itself: the mark or the back whose spelling it is, its newline included, or refusal 2.
-pub fn read_state(line: &[u8]) -> StateRead
+pub fn read_state(line: &[u8]) -> Result<Asked, Refusal>
     ensures { state_answer result ≡ read_state line.now }
 {
     let actor = read::actor_of(line);
     let slot = slot_of(read::form_of(line));
     if is_spelling(b"(mark", line, actor, slot) {
-        return StateRead::Asked(Asked::Mark(actor, slot));
+        return Ok(Asked::Mark(actor, slot));
     }
     if is_spelling(b"(back", line, actor, slot) {
-        return StateRead::Asked(Asked::Back(actor, slot));
+        return Ok(Asked::Back(actor, slot));
     }
-    StateRead::Refused(Refusal::Misspelt)
+    Err(Refusal::Misspelt)
 }

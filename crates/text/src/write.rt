@@ -7,16 +7,9 @@ ghost use Rattle.text.specs.Write.{Short, Writes, outcome, write_event};
 
 use crate::spelling::Spelling;
 use crate::{pieces, spelling};
-use model::{Event, Name, NewName, Refusal, Span, Terms};
+use model::{Event, Name, Refusal, Span, Terms};
 use table::masks::is_domain;
 use table::terms::{fit_child, fit_root};
-
-// What a writer answers: the length of the text, or a refusal.
-#[derive(Clone, Copy)]
-pub enum Written {
-    Length(usize),
-    Refused(Refusal),
-}
 
 // How many bytes a line has before its ending: what stands before its form, its word and its numbers.
 fn start_length(actor: u32, word: &[u8], numbers: &[u32]) -> usize
@@ -43,20 +36,20 @@ pub(crate) fn write_line(
     word: &[u8],
     numbers: &[u32],
     out: &mut [u8],
-) -> Written
+) -> Result<usize, Refusal>
     requires { Short word.now numbers.now }
     ensures { Writes spelled (front actor ++ (word.now ++ (spaced numbers.now ++ back actor))) out.old out.new result }
 {
     if !spelled {
-        return Written::Refused(Refusal::Misspelt);
+        return Err(Refusal::Misspelt);
     }
     let length = start_length(actor, word, numbers) + pieces::back_length(actor);
     if out.len() < length {
-        return Written::Refused(Refusal::BufferTooShort);
+        return Err(Refusal::BufferTooShort);
     }
     let past_start = put_start(out, actor, word, numbers);
     let end = pieces::put_back(out, past_start, actor);
-    Written::Length(end)
+    Ok(end)
 }
 
 // Writes a line with a right, a kind, a mark and a mask of holders. A line that is not spelled so is refused.
@@ -67,61 +60,53 @@ fn write_with_terms(
     numbers: &[u32],
     terms: Terms,
     out: &mut [u8],
-) -> Written
+) -> Result<usize, Refusal>
     requires { Short word.now numbers.now }
     ensures { Writes spelled (front actor ++ (word.now ++ (spaced numbers.now ++ ending actor terms))) out.old out.new result }
 {
     if !spelled {
-        return Written::Refused(Refusal::Misspelt);
+        return Err(Refusal::Misspelt);
     }
     let total = start_length(actor, word, numbers) + pieces::ending_length(actor, terms);
     if out.len() < total {
-        return Written::Refused(Refusal::BufferTooShort);
+        return Err(Refusal::BufferTooShort);
     }
     let past_start = put_start(out, actor, word, numbers);
     let end = pieces::put_ending(out, past_start, actor, terms);
-    Written::Length(end)
+    Ok(end)
 }
 
 // Whether a create has a spelling.
-fn spells_create(spelling: Spelling, actor: u32, new: NewName, terms: Terms) -> bool
+fn spells_create(spelling: Spelling, actor: u32, new: Option<Name>, terms: Terms) -> bool
     ensures { result ≡ (writes_name spelling new && not (unfit_root actor terms)) }
 {
-    if spelling::writes_name(spelling, new) {
-        fit_root(actor, terms)
-    } else {
-        false
-    }
+    spelling::writes_name(spelling, new) && fit_root(actor, terms)
 }
 
 // Whether a borrow has one.
-fn spells_borrow(spelling: Spelling, actor: u32, new: NewName, terms: Terms) -> bool
+fn spells_borrow(spelling: Spelling, actor: u32, new: Option<Name>, terms: Terms) -> bool
     ensures { result ≡ (writes_name spelling new && not (unfit_child actor terms)) }
 {
-    if spelling::writes_name(spelling, new) {
-        fit_child(actor, terms)
-    } else {
-        false
-    }
+    spelling::writes_name(spelling, new) && fit_child(actor, terms)
 }
 
 fn write_create(
     spelling: Spelling,
     actor: u32,
-    new: NewName,
+    new: Option<Name>,
     span: Span,
     terms: Terms,
     out: &mut [u8],
-) -> Written
+) -> Result<usize, Refusal>
     ensures { outcome result out.new ≡ write_event spelling actor (Event.Create new span terms) out.old }
 {
     let spelled = spells_create(spelling, actor, new, terms);
     match new {
-        NewName::Unwritten => {
+        None => {
             let numbers = [span.start.0, span.length];
             write_with_terms(spelled, actor, b"(create", &numbers, terms, out)
         }
-        NewName::Written(made) => {
+        Some(made) => {
             let numbers = [made.0, span.start.0, span.length];
             write_with_terms(spelled, actor, b"(create", &numbers, terms, out)
         }
@@ -131,21 +116,21 @@ fn write_create(
 fn write_borrow(
     spelling: Spelling,
     actor: u32,
-    new: NewName,
+    new: Option<Name>,
     name: Name,
     span: Span,
     terms: Terms,
     out: &mut [u8],
-) -> Written
+) -> Result<usize, Refusal>
     ensures { outcome result out.new ≡ write_event spelling actor (Event.Borrow new name span terms) out.old }
 {
     let spelled = spells_borrow(spelling, actor, new, terms);
     match new {
-        NewName::Unwritten => {
+        None => {
             let numbers = [name.0, span.start.0, span.length];
             write_with_terms(spelled, actor, b"(borrow", &numbers, terms, out)
         }
-        NewName::Written(made) => {
+        Some(made) => {
             let numbers = [made.0, name.0, span.start.0, span.length];
             write_with_terms(spelled, actor, b"(borrow", &numbers, terms, out)
         }
@@ -155,7 +140,12 @@ fn write_borrow(
 // Writes the line of an event by a domain in one of the two spellings at the buffer's first bytes and answers its length; refusal 2 for a domain
 // above 63, for a right that is neither 1 nor 2, for a kind above 2 or a create's above 0, for a mark above 1 or a borrow's above 0, for a mask of
 // holders without its maker, and for a name that is not written as in this spelling; and 11 where the line is longer than the buffer.
-pub fn write_event(spelling: Spelling, actor: u32, event: Event, out: &mut [u8]) -> Written
+pub fn write_event(
+    spelling: Spelling,
+    actor: u32,
+    event: Event,
+    out: &mut [u8],
+) -> Result<usize, Refusal>
     ensures { outcome result out.new ≡ write_event spelling actor event out.old }
 {
     match event {

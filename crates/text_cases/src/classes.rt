@@ -1,4 +1,4 @@
-// The table of the 256 classes, executed: the readers' loops tell classes by comparisons, which are proved to the same rule.
+// The table of the 256 classes, executed: the readers tell classes by a `match`, which are proved to the same rule.
 use crate::show;
 use text::classes::class_of;
 

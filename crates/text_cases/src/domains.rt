@@ -1,9 +1,8 @@
 // Card 10: lines that say who acts, and masks of holders; and by card 5 lines of names that are dropped together.
 use crate::writing::case_by;
 use crate::{show, writing};
-use model::{Addr, Event, Name, NewName, Span, Terms};
+use model::{Addr, Event, Name, Span, Terms};
 use text::group;
-use text::group::GroupRead;
 use text::spelling::Spelling;
 
 fn span(start: u32, length: u32) -> Span {
@@ -13,6 +12,7 @@ fn span(start: u32, length: u32) -> Span {
     }
 }
 
+// Mark and kind are numbers, here and in `borrow`, as in `Terms`.
 fn create(rt: &HostRuntime, label: &[u8], actor: u32, fresh: u8, holders: u64, size: usize) {
     let terms = Terms {
         right: 2,
@@ -20,7 +20,7 @@ fn create(rt: &HostRuntime, label: &[u8], actor: u32, fresh: u8, holders: u64, s
         fresh,
         holders,
     };
-    let event = Event::Create(NewName::Unwritten, span(0, 8), terms);
+    let event = Event::Create(None, span(0, 8), terms);
     case_by(rt, label, Spelling::Plain, actor, event, size);
 }
 
@@ -31,7 +31,7 @@ fn borrow(rt: &HostRuntime, label: &[u8], actor: u32, kind: u8, holders: u64, si
         fresh: 0,
         holders,
     };
-    let event = Event::Borrow(NewName::Unwritten, Name(1), span(0, 8), terms);
+    let event = Event::Borrow(None, Name(1), span(0, 8), terms);
     case_by(rt, label, Spelling::Plain, actor, event, size);
 }
 
@@ -43,7 +43,7 @@ fn longest(rt: &HostRuntime, label: &[u8], size: usize) {
         fresh: 0,
         holders: 18446744073709551615,
     };
-    let new = NewName::Written(Name(4294967295));
+    let new = Some(Name(4294967295));
     let event = Event::Borrow(new, Name(4294967295), span(4294967295, 4294967295), terms);
     case_by(rt, label, Spelling::Named, 63, event, size);
 }
@@ -112,13 +112,13 @@ fn read_group(rt: &HostRuntime, label: &[u8], line: &[u8]) {
     show::say(rt, label);
     let answer = group::read_group(line, &mut names);
     match answer {
-        GroupRead::Count(actor, count) => {
+        Ok((actor, count)) => {
             show::say_actor(rt, actor);
             show::say_length(rt, count);
             show::say_number(rt, names[0]);
             show::say_number(rt, names[1]);
         }
-        GroupRead::Refused(refusal) => show::say_refusal(rt, refusal),
+        Err(refusal) => show::say_refusal(rt, refusal),
     }
     show::say(rt, b"\n");
 }

@@ -1,14 +1,13 @@
 // Lines in document 01's form, and lines with a word that a card has added.
 use crate::show;
 use text::form;
-use text::form::FormRead;
 
 fn read(rt: &HostRuntime, label: &[u8], line: &[u8]) {
     show::say(rt, label);
     let answer = form::read_form(line);
     match answer {
-        FormRead::Event(event) => show::say_event(rt, event),
-        FormRead::Refused(refusal) => show::say_refusal(rt, refusal),
+        Ok(event) => show::say_event(rt, event),
+        Err(refusal) => show::say_refusal(rt, refusal),
     }
     show::say(rt, b"\n");
 }

@@ -2,7 +2,7 @@
 ghost use Rattle.std.specs.Prelude.{◌≡◌};
 ghost use Rattle.model.specs.Answers.{number};
 
-use model::{Event, Name, NewName, Refusal, Span, Terms};
+use model::{Event, Name, Refusal, Span, Terms};
 
 pub fn say(rt: &HostRuntime, text: &[u8]) {
     let _ = rt.stdout().write_all(text);
@@ -69,8 +69,8 @@ pub fn say_refusal(rt: &HostRuntime, refusal: Refusal) {
     say_number(rt, number_of(refusal));
 }
 
-fn say_new(rt: &HostRuntime, new: NewName) {
-    if let NewName::Written(name) = new {
+fn say_new(rt: &HostRuntime, new: Option<Name>) {
+    if let Some(name) = new {
         say(rt, b" named");
         say_name(rt, name);
     }

@@ -2,7 +2,6 @@
 use crate::{show, writing};
 use model::Asked;
 use text::states;
-use text::states::StateRead;
 
 fn mark(rt: &HostRuntime, label: &[u8], actor: u32, slot: u32) {
     let mut buffer = [b'.'; 18];
@@ -72,8 +71,8 @@ fn read(rt: &HostRuntime, label: &[u8], line: &[u8]) {
     show::say(rt, label);
     let answer = states::read_state(line);
     match answer {
-        StateRead::Asked(asked) => say_asked(rt, asked),
-        StateRead::Refused(refusal) => show::say_refusal(rt, refusal),
+        Ok(asked) => say_asked(rt, asked),
+        Err(refusal) => show::say_refusal(rt, refusal),
     }
     show::say(rt, b"\n");
 }

@@ -1,15 +1,14 @@
 // Lines, written into a buffer of dots: the answer, and what the buffer then holds.
 use crate::show;
-use model::{Addr, Event, Name, NewName, Span, Terms};
+use model::{Addr, Event, Name, Refusal, Span, Terms};
 use text::spelling::Spelling;
 use text::write;
-use text::write::Written;
 
 // What a writer answered, and what the buffer then holds.
-pub fn say_written(rt: &HostRuntime, answer: Written, out: &[u8]) {
+pub fn say_written(rt: &HostRuntime, answer: Result<usize, Refusal>, out: &[u8]) {
     match answer {
-        Written::Length(length) => show::say_length(rt, length),
-        Written::Refused(refusal) => show::say_refusal(rt, refusal),
+        Ok(length) => show::say_length(rt, length),
+        Err(refusal) => show::say_refusal(rt, refusal),
     }
     show::say(rt, b" ");
     show::say(rt, out);
@@ -49,6 +48,7 @@ fn case(rt: &HostRuntime, label: &[u8], spelling: Spelling, event: Event, size: 
 }
 
 // What domain 0 gives to what it makes for itself alone.
+// They are numbers, any of which `Terms` may have.
 fn terms(right: u8, kind: u8, fresh: u8) -> Terms {
     Terms {
         right,
@@ -62,7 +62,7 @@ fn create_in(
     rt: &HostRuntime,
     label: &[u8],
     spelling: Spelling,
-    new: NewName,
+    new: Option<Name>,
     terms: Terms,
     size: usize,
 ) {
@@ -74,25 +74,18 @@ fn create_in(
 }
 
 fn create(rt: &HostRuntime, label: &[u8], terms: Terms, size: usize) {
-    create_in(rt, label, Spelling::Plain, NewName::Unwritten, terms, size);
+    create_in(rt, label, Spelling::Plain, None, terms, size);
 }
 
 fn create_named(rt: &HostRuntime, label: &[u8], terms: Terms, size: usize) {
-    create_in(
-        rt,
-        label,
-        Spelling::Named,
-        NewName::Written(Name(1)),
-        terms,
-        size,
-    );
+    create_in(rt, label, Spelling::Named, Some(Name(1)), terms, size);
 }
 
 fn borrow_in(
     rt: &HostRuntime,
     label: &[u8],
     spelling: Spelling,
-    new: NewName,
+    new: Option<Name>,
     terms: Terms,
     size: usize,
 ) {
@@ -110,18 +103,11 @@ fn borrow_in(
 }
 
 fn borrow(rt: &HostRuntime, label: &[u8], terms: Terms, size: usize) {
-    borrow_in(rt, label, Spelling::Plain, NewName::Unwritten, terms, size);
+    borrow_in(rt, label, Spelling::Plain, None, terms, size);
 }
 
 fn borrow_named(rt: &HostRuntime, label: &[u8], terms: Terms, size: usize) {
-    borrow_in(
-        rt,
-        label,
-        Spelling::Named,
-        NewName::Written(Name(2)),
-        terms,
-        size,
-    );
+    borrow_in(rt, label, Spelling::Named, Some(Name(2)), terms, size);
 }
 
 fn drop(rt: &HostRuntime, label: &[u8], size: usize) {
@@ -170,7 +156,7 @@ pub fn refusals(rt: &HostRuntime) {
         rt,
         b"no name where names are written:",
         Spelling::Named,
-        NewName::Unwritten,
+        None,
         terms(1, 0, 0),
         20,
     );
@@ -178,7 +164,7 @@ pub fn refusals(rt: &HostRuntime) {
         rt,
         b"name where none is written:",
         Spelling::Plain,
-        NewName::Written(Name(1)),
+        Some(Name(1)),
         terms(1, 0, 0),
         20,
     );

@@ -1,7 +1,7 @@
 -- Document 01, "What each event does", its last paragraph: a run; card 1: a trace whose first line is `(trace 2)`; card 5: lines that drop
 -- names together; and card 11: marks and backs. "in a run this 1 carries its own line number, and the lines before it stand": like any refusal.
 -- Assumes nothing.
-use Rattle.std.specs.Prelude.{ℕ, ◌+◌, ◌≡◌, Bool, not, cond, List, [], ◌∷◌, eqb}
+use Rattle.std.specs.Prelude.{ℕ, ◌+◌, ◌≡◌, Bool, not, cond, List, [], ◌∷◌, eqb, Ok, Err, Result as Returned}
 use Rattle.model.specs.declared.Sheet.{Sheet}
 use Rattle.model.specs.Requests.{Limits, Request}
 use Rattle.model.specs.declared.Tally.{Tally}
@@ -23,8 +23,7 @@ use Rattle.text.specs.State.{read_state}
 use Rattle.text.specs.Request.{or_state, state_of, read_request}
 use Rattle.text.specs.declared.spelling.Spelling.{Spelling}
 use Rattle.text.specs.declared.spelling.Spelling.TheVariants.{Plain, Named}
-use Rattle.trace.specs.declared.run.RunAnswer.{RunAnswer}
-use Rattle.trace.specs.declared.run.RunAnswer.TheVariants.{Allowed, Refused}
+use Rattle.trace.specs.declared.run.RefusedAt.{RefusedAt}
 use Rattle.trace.specs.declared.run.RunOutcome.{RunOutcome}
 
 -- card 1: the first line of a trace whose creates and borrows write their new names
@@ -78,10 +77,10 @@ module _ {S : Type 0} (c : Checker S) where
   unfoldable pub run_from : S → List ℕ → Ran S
   run_from s text = cond (c.ordered s) (run_trace s (lines_of text)) (record { refusal = 1; number = 0; state = s })
 
--- the answer that each case of `RunAnswer` stands for, with the state at the end
-abbrev pub ran_of : RunAnswer → State → Ran State
-ran_of (Allowed lines) h = record { refusal = 0; number = lines; state = h }
-ran_of (Refused r line) h = record { refusal = number r; number = line; state = h }
+-- the answer that each case of the code's answer stands for, with the state at the end
+abbrev pub ran_of : Returned ℕ RefusedAt → State → Ran State
+ran_of (Ok lines) h = record { refusal = 0; number = lines; state = h }
+ran_of (Err at) h = record { refusal = number at.refusal; number = at.line; state = h }
 
 -- Card 7: one sheet is "kept throughout"; and so is the sheet of limits of card 10, which is judged once, before the first line.
 module _ (sheet : Sheet) (limits : Limits) where

@@ -10,7 +10,6 @@ ghost use Rattle.listing.specs.Listing.{listing};
 ghost use Rattle.trace.specs.Check.{answer_line, check_with, stored_with};
 
 use crate::run;
-use crate::run::RunAnswer;
 use listing::writing;
 use model::{Refusal, Tally};
 use rules::answers::number_of;
@@ -18,7 +17,6 @@ use table::sheets::card6;
 use table::states::forget;
 use table::{Row, WIDTH};
 use text::pieces;
-use text::write::Written;
 
 // How many bytes the line of an answer has. The refusal is 0 where every line was allowed.
 fn answer_length(refusal: u32, number: u32) -> usize
@@ -49,37 +47,43 @@ fn put_answer(refusal: u32, number: u32, out: &mut [u8]) -> usize
 
 // Writes the line of an answer and the listing of a table in order. The listing, which is measured before it is written, goes first:
 // where it does not fit, nothing is written.
-fn write_report(table: &[Row], issued: u32, refusal: u32, number: u32, out: &mut [u8]) -> Written
+fn write_report(
+    table: &[Row],
+    issued: u32,
+    refusal: u32,
+    number: u32,
+    out: &mut [u8],
+) -> Result<usize, Refusal>
     requires { in_order (rows_in table.now) issued ≡ true }
     ensures { Writes true (answer_line refusal number ++ listing (rows_in table.now) issued) out.old out.new result }
 {
     let start = answer_length(refusal, number);
     if out.len() < start {
-        return Written::Refused(Refusal::BufferTooShort);
+        return Err(Refusal::BufferTooShort);
     }
-    let written = writing::write_listing(table, issued, &mut out[start..]);
-    match written {
-        Written::Length(length) => {
-            put_answer(refusal, number, out);
-            Written::Length(start + length)
-        }
-        Written::Refused(why) => Written::Refused(why),
-    }
+    let length = writing::write_listing(table, issued, &mut out[start..])?;
+    put_answer(refusal, number, out);
+    Ok(start + length)
 }
 
 // Writes the line of an input that is too long.
-fn write_long(out: &mut [u8]) -> Written
+fn write_long(out: &mut [u8]) -> Result<usize, Refusal>
     ensures { Writes true (bytes "(long)\n") out.old out.new result }
 {
     if out.len() < 7 {
-        return Written::Refused(Refusal::BufferTooShort);
+        return Err(Refusal::BufferTooShort);
     }
-    Written::Length(pieces::put_bytes(out, 0, b"(long)\n"))
+    Ok(pieces::put_bytes(out, 0, b"(long)\n"))
 }
 
 // Runs an input on 1,024 empty rows, with nothing written and nothing stored, by card 6's sheet, and writes what `capcheck` prints of it at the
 // buffer's first bytes. The memory for states is lent to work in: what stood there is forgotten.
-pub fn check(input: &[u8], stored: &mut [Row], copies: &mut [u8], out: &mut [u8]) -> Written
+pub fn check(
+    input: &[u8],
+    stored: &mut [Row],
+    copies: &mut [u8],
+    out: &mut [u8],
+) -> Result<usize, Refusal>
     ensures { Writes true (check_with (emptied (states_in stored.old copies.old)) input.now) out.old out.new result
         × (states_in stored.new copies.new ≡ stored_with (emptied (states_in stored.old copies.old)) input.now) }
 {
@@ -106,14 +110,8 @@ pub fn check(input: &[u8], stored: &mut [Row], copies: &mut [u8], out: &mut [u8]
     let answer = ran.answer;
     let issued = ran.tally.issued;
     match answer {
-        RunAnswer::Allowed(lines) => write_report(&table, issued, 0, lines as u32, out),
-        RunAnswer::Refused(refusal, line) => write_report(
-            &table,
-            issued,
-            number_of(refusal),
-            line as u32,
-            out,
-        ),
+        Ok(lines) => write_report(&table, issued, 0, lines as u32, out),
+        Err(at) => write_report(&table, issued, number_of(at.refusal), at.line as u32, out),
     }
 }
 
@@ -132,7 +130,7 @@ pub fn check_text(input: &[u8], stored: &mut [Row], copies: &mut [u8]) -> Printe
     let mut bytes = [0u8; 60448];
     let written = check(input, stored, copies, &mut bytes);
     match written {
-        Written::Length(length) => Printed { bytes, length },
-        Written::Refused(_) => Printed { bytes, length: 0 },
+        Ok(length) => Printed { bytes, length },
+        Err(_) => Printed { bytes, length: 0 },
     }
 }

@@ -1,5 +1,5 @@
 // A run: the lines of a text, until one is refused.
-ghost use Rattle.std.specs.Prelude.{◌≡◌, ◌≤◌};
+ghost use Rattle.std.specs.Prelude.{◌≡◌, ◌≤◌, Err};
 ghost use Rattle.text.specs.Line.{next_line};
 ghost use Rattle.text.specs.Read.{same};
 ghost use Rattle.table.specs.Lent;
@@ -9,32 +9,27 @@ ghost use Rattle.table.specs.Limits.{limits_in};
 ghost use Rattle.table.specs.Sheets.{sheet_in};
 ghost use Rattle.model.specs.declared.Refusal.TheVariants.{Disordered};
 ghost use Rattle.trace.specs.Run;
-ghost use Rattle.trace.specs.declared.run.RunAnswer.TheVariants.{Refused};
 ghost use Rattle.trace.specs.Run.{header, ran_of, TakesState, TakesGroup, Takes, RunsLines, Runs};
 
-use model::{Answer, Asked, Refusal, Tally, Work};
+use model::{Asked, Refusal, Tally, Work};
 use rules::{Outcome, Progress, count, steps};
 use table::lent::{look_all, set_tally, tally_at};
-use table::ordered::Look;
 use table::{Row, SheetBytes};
-use text::group::GroupRead;
-use text::read::EventRead;
 use text::spelling::Spelling;
-use text::states::StateRead;
 use text::{group, lines, read, states};
 
-// What a run answers: the number of lines allowed, or the refusal and its line number from 1 (0 for refusal 1 of what is lent).
+// Where a run is refused: the refusal and its line number from 1 (0 for refusal 1 of what is lent).
 #[derive(Clone, Copy)]
-pub enum RunAnswer {
-    Allowed(usize),
-    Refused(Refusal, usize),
+pub struct RefusedAt {
+    pub refusal: Refusal,
+    pub line: usize,
 }
 
-// What a run leaves of the tally, and its answer.
+// What a run leaves of the tally, and its answer: the number of lines allowed, or where it is refused.
 #[derive(Clone, Copy)]
 pub struct RunOutcome {
     pub tally: Tally,
-    pub answer: RunAnswer,
+    pub answer: Result<usize, RefusedAt>,
 }
 
 // A line that is neither an event nor a group, on what is fit: a mark or a back, or refusal 2.
@@ -56,18 +51,18 @@ fn take_state(
 {
     let found = states::read_state(line);
     match found {
-        StateRead::Asked(asked) => {
+        Ok(asked) => {
             // Neither has a use for names beside it.
             let none: [u32; 0] = [];
             steps::take(
                 table, live, places, bits, stored, copies, tally, sheet, limits, asked, &none,
             )
         }
-        StateRead::Refused(_) => {
+        Err(_) => {
             let counted = count::count_refused(tally);
             let outcome = Outcome {
                 tally: counted,
-                answer: Answer::Refused(Refusal::Misspelt),
+                answer: Err(Refusal::Misspelt),
             };
             Progress { outcome, live }
         }
@@ -94,7 +89,7 @@ fn take_group(
     let mut names = [0u32; 64];
     let found = group::read_group(line, &mut names);
     match found {
-        GroupRead::Count(actor, count) => {
+        Ok((actor, count)) => {
             steps::take(
                 table,
                 live,
@@ -109,7 +104,7 @@ fn take_group(
                 &names[..count],
             )
         }
-        GroupRead::Refused(_) => take_state(
+        Err(_) => take_state(
             table, live, places, bits, stored, copies, tally, sheet, limits, line,
         ),
     }
@@ -135,7 +130,7 @@ fn take_line(
 {
     let found = read::read_event(spelling, line);
     match found {
-        EventRead::Event(actor, event) => {
+        Ok((actor, event)) => {
             // An event has no use for names beside it.
             let none = [0u32];
             steps::take(
@@ -152,7 +147,7 @@ fn take_line(
                 &none,
             )
         }
-        EventRead::Refused(_) => {
+        Err(_) => {
             take_group(
                 table, live, places, bits, stored, copies, tally, sheet, limits, line,
             )
@@ -193,26 +188,32 @@ fn run_ordered(
         left = outcome.tally;
         count += 1;
         let answer = outcome.answer;
-        if let Answer::Refused(refusal) = answer {
+        if let Err(refusal) = answer {
+            let at = RefusedAt {
+                refusal,
+                line: count,
+            };
             return RunOutcome {
                 tally: left,
-                answer: RunAnswer::Refused(refusal, count),
+                answer: Err(at),
             };
         }
         at += line.len();
     }
     RunOutcome {
         tally: left,
-        answer: RunAnswer::Allowed(count),
+        answer: Ok(count),
     }
 }
+
+// The first line of a text that writes its new names out.
+const HEADER: &[u8] = b"(trace 2)\n";
 
 // Whether the first line of a text is `(trace 2)`.
 fn is_named(text: &[u8]) -> bool
     ensures { result ≡ same (next_line text.now) header }
 {
-    let first = lines::next_line(text);
-    check::same(first, b"(trace 2)\n")
+    lines::next_line(text) == HEADER
 }
 
 // A text on what is fit. Its first line may say that new names are written out; that line is counted, and is no event.
@@ -244,7 +245,7 @@ fn run_text(
             limits,
             Spelling::Named,
             1,
-            &text[10..],
+            &text[HEADER.len()..],
         )
     } else {
         run_ordered(
@@ -266,11 +267,14 @@ fn run_text(
 
 // What a run that is refused 1 leaves.
 fn disordered(tally: Tally) -> RunOutcome
-    ensures { (result.tally ≡ tally) × (result.answer ≡ Refused Disordered 0) }
+    ensures { (result.tally ≡ tally) × (result.answer ≡ Err (record { refusal = Disordered; line = 0 })) }
 {
     RunOutcome {
         tally,
-        answer: RunAnswer::Refused(Refusal::Disordered, 0),
+        answer: Err(RefusedAt {
+            refusal: Refusal::Disordered,
+            line: 0,
+        }),
     }
 }
 
@@ -299,7 +303,7 @@ pub fn run_lent(
         &mut places,
     );
     match found {
-        Look::InOrder(live) => {
+        Some(live) => {
             run_text(
                 table,
                 live,
@@ -313,7 +317,7 @@ pub fn run_lent(
                 text,
             )
         }
-        Look::Disordered => disordered(tally),
+        None => disordered(tally),
     }
 }
 
@@ -328,7 +332,7 @@ pub fn run(
     sheet: &SheetBytes,
     limits: &[u32],
     text: &[u8],
-) -> RunAnswer
+) -> Result<usize, RefusedAt>
     ensures { ran_of result (Lent.lent table.new bits.new stored.new copies.new tally.new) ≡ Run.run (sheet_in sheet.now) (limits_in limits.now) (Lent.lent table.old bits.old stored.old copies.old tally.old) text.now }
 {
     let t = tally_at(tally);

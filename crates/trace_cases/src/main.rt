@@ -4,11 +4,11 @@
 
 use listing::reading;
 use model::Tally;
-use sheet::read::{SheetRead, read_sheet};
+use sheet::read::read_sheet;
 use table::sheets::card6;
 use table::{Row, WIDTH};
 use trace::run;
-use trace::run::RunAnswer;
+use trace::run::RefusedAt;
 
 fn print(rt: &HostRuntime, text: &[u8]) {
     let _ = rt.stdout().write_all(text);
@@ -27,6 +27,7 @@ fn issued_so_far(issued: u32) -> Tally {
     }
 }
 
+// The refusal's number is what is printed.
 fn print_numbers(rt: &HostRuntime, refusal: u32, line: usize) {
     let _ = rt.print(refusal);
     print(rt, b" ");
@@ -34,10 +35,10 @@ fn print_numbers(rt: &HostRuntime, refusal: u32, line: usize) {
     print(rt, b"\n");
 }
 
-fn print_answer(rt: &HostRuntime, answer: RunAnswer) {
+fn print_answer(rt: &HostRuntime, answer: Result<usize, RefusedAt>) {
     match answer {
-        RunAnswer::Allowed(lines) => print_numbers(rt, 0, lines),
-        RunAnswer::Refused(refusal, line) => print_numbers(rt, trace::number_of(refusal), line),
+        Ok(lines) => print_numbers(rt, 0, lines),
+        Err(at) => print_numbers(rt, trace::number_of(at.refusal), at.line),
     }
 }
 
@@ -125,7 +126,7 @@ fn last_name(rt: &HostRuntime) {
     let mut table = [[0u32; WIDTH]; 1024];
     let mut bits = [0u8; 8192];
     let mut tally = [0u32; 7];
-    reading::read_listing(b"(issued 999999)\n", &mut table, &mut tally);
+    let _ = reading::read_listing(b"(issued 999999)\n", &mut table, &mut tally);
     let sheet = card6();
     let unlimited: [u32; 0] = [];
     let mut stored = [[0u32; WIDTH]; 8200];
@@ -148,8 +149,8 @@ fn run_by(rt: &HostRuntime, text: &[u8], input: &[u8]) {
     let mut sheet = card6();
     let read = read_sheet(text, &mut sheet);
     match read {
-        SheetRead::Sheet => print_numbers(rt, 0, 0),
-        SheetRead::Refused(refusal) => print_numbers(rt, trace::number_of(refusal), 0),
+        Ok(_) => print_numbers(rt, 0, 0),
+        Err(refusal) => print_numbers(rt, trace::number_of(refusal), 0),
     }
     let mut table = [[0u32; WIDTH]; 1024];
     let mut bits = [0u8; 8192];

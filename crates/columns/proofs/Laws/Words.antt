@@ -1,5 +1,6 @@
 -- The twelve words of an event of document 01's form stand for it, and no others do; which they are, kind by kind.
 -- Assumes nothing.
+use Rattle.std.specs.Prelude.{None}
 use mathlib.Core.Path.{◌≡◌, refl, sym, ap, ◌∙◌}
 use mathlib.Core.Logic.{◌⊎◌, inl, inr}
 use mathlib.Core.Bool.{Bool, true, false, not, cond, ◌&&◌, ◌||◌}
@@ -11,7 +12,6 @@ use lib.ListN.{get_or}
 use borrow.Author.Tests.{eqb-true, leb-true}
 use Rattle.model.specs.declared.Name.{Name}
 use Rattle.model.specs.declared.Span.{Span}
-use Rattle.model.specs.declared.NewName.TheVariants.{Unwritten}
 use Rattle.model.specs.declared.Event.{Event}
 use Rattle.model.specs.declared.Event.TheVariants.{Create, Borrow, Read, Write, Drop}
 use Rattle.model.specs.Table.{is_right}
@@ -48,19 +48,19 @@ right_is r h = go (test (eqb r 1)) (test (eqb r 2))
 -- ---- an event and its words
 
 module _ (s : Span) where
-  create_words : (r : ℕ) → is_right r ≡ true → event_in (event_words (Create Unwritten s (plain_terms r))) ≡ Create Unwritten s (plain_terms r)
+  create_words : (r : ℕ) → is_right r ≡ true → event_in (event_words (Create None s (plain_terms r))) ≡ Create None s (plain_terms r)
   unfolding words_of event_in event_with
   create_words r h = go (right_is r h)
     where
-      go : (r ≡ 1) ⊎ (r ≡ 2) → event_in (event_words (Create Unwritten s (plain_terms r))) ≡ Create Unwritten s (plain_terms r)
+      go : (r ≡ 1) ⊎ (r ≡ 2) → event_in (event_words (Create None s (plain_terms r))) ≡ Create None s (plain_terms r)
       go (inl e) = rw e
       go (inr e) = rw e
 
-  borrow_words : (n : Name) (r : ℕ) → is_right r ≡ true → event_in (event_words (Borrow Unwritten n s (plain_terms r))) ≡ Borrow Unwritten n s (plain_terms r)
+  borrow_words : (n : Name) (r : ℕ) → is_right r ≡ true → event_in (event_words (Borrow None n s (plain_terms r))) ≡ Borrow None n s (plain_terms r)
   unfolding words_of event_in event_with
   borrow_words n r h = go (right_is r h)
     where
-      go : (r ≡ 1) ⊎ (r ≡ 2) → event_in (event_words (Borrow Unwritten n s (plain_terms r))) ≡ Borrow Unwritten n s (plain_terms r)
+      go : (r ≡ 1) ⊎ (r ≡ 2) → event_in (event_words (Borrow None n s (plain_terms r))) ≡ Borrow None n s (plain_terms r)
       go (inl e) = rw e
       go (inr e) = rw e
 
@@ -166,19 +166,19 @@ module _ (w : List ℕ) where
   abbrev zero_at : (k : ℕ) → eqb (get_or w k 0) 0 ≡ true → get_or w k 0 ≡ 0
   zero_at k h = eqb-true (get_or w k 0) 0 h
 
-  made : is_right (get_or w 4 0) ≡ true → PlainlyGiven Unwritten (plain_terms (get_or w 4 0))
+  made : is_right (get_or w 4 0) ≡ true → PlainlyGiven None (plain_terms (get_or w 4 0))
   made h = record { unwritten = refl; right = h; terms = refl }
 
   plain_create : get_or w 0 0 ≡ 1 → Tested → is_event w ≡ true
   unfolding words_of
   plain_create k t =
-      stands (Create Unwritten (span_of (get_or w 2 0) (get_or w 3 0)) (plain_terms (get_or w 4 0))) (made (rw k at t.right))
+      stands (Create None (span_of (get_or w 2 0) (get_or w 3 0)) (plain_terms (get_or w 4 0))) (made (rw k at t.right))
       (zeros t.others k (zero_at 1 (rw k at t.name)) refl refl refl (eqb-true (get_or w 10 0) 1 (rw k at t.holders)))
 
   plain_borrow : get_or w 0 0 ≡ 2 → Tested → is_event w ≡ true
   unfolding words_of
   plain_borrow k t =
-      stands (Borrow Unwritten (name_of (get_or w 1 0)) (span_of (get_or w 2 0) (get_or w 3 0)) (plain_terms (get_or w 4 0))) (made (rw k at t.right))
+      stands (Borrow None (name_of (get_or w 1 0)) (span_of (get_or w 2 0) (get_or w 3 0)) (plain_terms (get_or w 4 0))) (made (rw k at t.right))
       (zeros t.others k refl refl refl refl (eqb-true (get_or w 10 0) 1 (rw k at t.holders)))
 
   plain_read : get_or w 0 0 ≡ 3 → Tested → is_event w ≡ true

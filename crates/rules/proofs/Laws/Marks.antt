@@ -3,14 +3,13 @@
 use mathlib.Core.Path.{◌≡◌, refl, sym, ap, ◌∙◌}
 use mathlib.Core.Logic.{◌⊎◌, inl, inr}
 use mathlib.Core.Bool.{Bool, true, false, not, cond, ◌&&◌, ◌||◌, or-true, or-false}
-use mathlib.Core.List.{List, [], ◌∷◌}
+use mathlib.Core.List.{List, [], ◌∷◌, ◌++◌}
 use Prim.Native.Nat.{ℕ, zero, suc, ◌+◌, ◌≤◌, ◌<◌, max}
 use native.Mathlib.Nat.{not-suc-le-zero}
-use native.Mathlib.Numerals.{add-one}
 use native.Mathlib.Omega.{arith}
 use lib.Dec.{eqb, leb, ltb}
-use lib.ListN.{length, get_or, set, replicate, drop, length-set, length-replicate, get_or-replicate, drop_of_length-le}
-use lib.Seq.{get_or-set_same, get_or-set_other, drop-cons}
+use lib.ListN.{length, get_or, set, replicate, length-set, length-replicate, get_or-replicate}
+use lib.Seq.{get_or-set_same, get_or-set_other}
 use borrow.Author.Tests.{eqb-true, eqb-false, eq-eqb, ne_eqb, ltb-true, ltb-false, lt-ltb, le-ltb, leb-true, leb-false}
 use Rattle.model.specs.declared.Span.{Span}
 use Rattle.model.specs.declared.Cap.{Cap}
@@ -30,6 +29,17 @@ use Rattle.table.specs.Sheets.{weight}
 use Rattle.rules.specs.Engine.{OnAncestry, NearestAt, nearer_of, value_below, inside_of, SetInside, is_apart, Related, origin_of, own, own_of_access, own_of_names, Owned, mark, Marked, Spread, Downward, Most}
 use Rattle.model.proofs.Offered.{test, clash, or_neither, below_differs, ancestry_here, ancestry_past, Named, place, parent_in_order_row_fits_parent, group_none, group_step, struck_step, no_ancestry, steps, rows_in_order_falling, root_has_no_kin, Falling, later_off, nearest_cell_lem, nearest_on, on_line_lem}
 use Rattle.table.proofs.Offered.{extend, last, all_before, at_before, none_named, named_none, place_of, rise_sub, rows_in_order_rise, rows_in_order_at}
+
+-- ---- lists
+
+-- a list with one more at its end
+any_one : (p : ℕ → Bool) (xs : List ℕ) (x : ℕ) → any p (xs ++ x ∷ []) ≡ any p xs || p x
+any_one p [] x = or-false (p x)
+any_one p (y ∷ ys) x = go (p y) (any_one p ys x)
+  where
+    go : (b : Bool) → any p (ys ++ x ∷ []) ≡ any p ys || p x → (b || any p (ys ++ x ∷ [])) ≡ (b || any p ys) || p x
+    go true h = refl
+    go false h = h
 
 -- ---- places and names
 
@@ -125,9 +135,6 @@ module _ (T : List Cap) (k u : ℕ) (few : k ≤ 1024) (r : Rise T k) where
 pub record SettingInside (i cell : ℕ) (places relation after : List ℕ) : Type 0 where
   pub done : SetInside i cell places relation after
   pub rest : (j : ℕ) → i ≤ j → get_or after j 0 ≡ get_or relation j 0
-
-pub inside_none : (cell : ℕ) (places relation : List ℕ) → length relation ≡ 1024 → SettingInside (cell + 1) cell places relation relation
-inside_none cell places relation h = record { done = record { long = h; front = λ j l. refl; line = λ j l e. e; other = λ j l m. absurd (omega arith) }; rest = λ j l. refl }
 
 module _ (i cell : ℕ) (places relation after : List ℕ) (s : SettingInside i cell places relation after) (behind : cell < i) (few : i < 1024) where
   abbrev new_relation : ℕ
@@ -484,24 +491,21 @@ module _ (T : List Cap) (k : ℕ) (st : LiveRows T k) where
   both false false = refl
 
   -- names dropped together: their own marks, one more name at a time
-  pub owned_none : (names : List ℕ) (i : ℕ) → length names ≤ i → Owned T k (drop i names) (replicate 1025 0)
-  owned_none names i h = rw (drop_of_length-le names h) (record { long = length-replicate {A = ℕ} 1025 0; each = λ j l. get_or-replicate {A = ℕ} 1025 j 0 0 (omega (arith, st.few)) })
+  pub owned_none : Owned T k [] (replicate 1025 0)
+  owned_none = record { long = length-replicate {A = ℕ} 1025 0; each = λ j l. get_or-replicate {A = ℕ} 1025 j 0 0 (omega (arith, st.few)) }
 
-  pub owned_more : (names : List ℕ) (i q : ℕ) (owned : List ℕ) → i < length names → Found T k (get_or names i 0) q → Owned T k (drop (i + 1) names) owned → Owned T k (drop i names) (set owned q 2)
-  owned_more names i q owned h f o = rw (drop-cons names i 0) (record { long = length-set owned q 2 ∙ o.long; each = each })
+  pub owned_more : (names : List ℕ) (u q : ℕ) (owned : List ℕ) → Found T k u q → Owned T k names owned → Owned T k (names ++ u ∷ []) (set owned q 2)
+  owned_more names u q owned f o = record { long = length-set owned q 2 ∙ o.long; each = each }
     where
-      each : (j : ℕ) → j < k → get_or (set owned q 2) j 0 ≡ own_of_names T (get_or names i 0 ∷ drop (suc i) names) j
+      each : (j : ℕ) → j < k → get_or (set owned q 2) j 0 ≡ own_of_names T (names ++ u ∷ []) j
       each j l = go (test (eqb j q))
         where
-          rest : get_or owned j 0 ≡ own_of_names T (drop (suc i) names) j
-          rest = rw add-one at (o.each j l)
+          told : eqb j q ≡ eqb u (name_at T j)
+          told = at_place u q f j l
 
-          told : eqb j q ≡ eqb (get_or names i 0) (name_at T j)
-          told = at_place (get_or names i 0) q f j l
-
-          go : (eqb j q ≡ true) ⊎ (eqb j q ≡ false) → get_or (set owned q 2) j 0 ≡ own_of_names T (get_or names i 0 ∷ drop (suc i) names) j
-          go (inl t) = let e : j ≡ q = eqb-true j q t in rw (sym told ∙ t, e) (get_or-set_same owned q 2 0 (omega (arith, o.long, f.fits, st.few)))
-          go (inr d) = rw (sym told ∙ d) (get_or-set_other owned q j 2 0 (eqb-false j q d) ∙ rest)
+          go : (eqb j q ≡ true) ⊎ (eqb j q ≡ false) → get_or (set owned q 2) j 0 ≡ own_of_names T (names ++ u ∷ []) j
+          go (inl t) = let e : j ≡ q = eqb-true j q t in rw (any_one (λ x. eqb x (name_at T j)) names u, sym told ∙ t, or-true, e) (get_or-set_same owned q 2 0 (omega (arith, o.long, f.fits, st.few)))
+          go (inr d) = rw (any_one (λ x. eqb x (name_at T j)) names u, sym told ∙ d, or-false) (get_or-set_other owned q j 2 0 (eqb-false j q d) ∙ o.each j l)
 
   module _ (names owned marks : List ℕ) (o : Owned T k names owned) (s : Spread T k (λ i. get_or owned i 0) marks) where
     abbrev together : ℕ → Bool

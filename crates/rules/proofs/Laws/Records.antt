@@ -1,6 +1,7 @@
 -- Records to rows and back: what `load` and `store` have done after i turns, that one more turn does one record more, and what is left of
 -- the records by way of rows.
 -- Assumes nothing.
+use Rattle.std.specs.Prelude.{Err}
 use mathlib.Core.Path.{◌≡◌, refl, sym, ap, subst, ◌∙◌}
 use mathlib.Core.Logic.{◌⊎◌, inl, inr}
 use mathlib.Core.Bool.{true, false, or-true}
@@ -14,7 +15,6 @@ use borrow.Author.Tests.{leb-true, leb-false, le-leb, lt-leb}
 use Rattle.model.specs.declared.Cap.{Cap}
 use Rattle.model.specs.declared.Sheet.{Sheet}
 use Rattle.model.specs.declared.Tally.{Tally}
-use Rattle.model.specs.declared.Answer.TheVariants.{Refused}
 use Rattle.model.specs.declared.Refusal.TheVariants.{Disordered}
 use Rattle.model.specs.Table.{empty_row, in_order}
 use Rattle.model.specs.Requests.{Request}
@@ -56,9 +56,6 @@ loaded_none ys ws = refl
 
 length_front : (ys : List Cap) (i : ℕ) → i ≤ length ys → length (map words_of (take i ys)) ≡ i
 length_front ys i l = length-map (take i ys) words_of ∙ length-take-le i ys l
-
-pub length_loaded : (ys : List Cap) (ws : List (List ℕ)) (i : ℕ) → i ≤ length ys → i ≤ length ws → length (loaded ys ws i) ≡ length ws
-length_loaded ys ws i l h = omega (arith, length-append (map words_of (take i ys)) (drop i ws), length_front ys i l, length-drop i ws)
 
 pub loaded_suc : (ys : List Cap) (ws : List (List ℕ)) (i : ℕ) → i < length ys → i < length ws → set (loaded ys ws i) i (words_of (get_or ys i empty_row)) ≡ loaded ys ws (suc i)
 loaded_suc ys ws i l h =
@@ -110,7 +107,7 @@ requested_few sheet ws zs n bs bs' t q r full l long s = record {
   many = λ m. absurd (omega arith);
 }
 
-pub requested_many : (sheet : Sheet) (ws : List (List ℕ)) (n : ℕ) (bs : List ℕ) (t : Tally) (q : Request) → 1024 < n → Requested sheet ws n bs t q ws bs (record { tally = t; answer = Refused Disordered })
+pub requested_many : (sheet : Sheet) (ws : List (List ℕ)) (n : ℕ) (bs : List ℕ) (t : Tally) (q : Request) → 1024 < n → Requested sheet ws n bs t q ws bs (record { tally = t; answer = Err Disordered })
 requested_many sheet ws n bs t q l = record { long = refl; few = λ h. absurd (omega arith); many = λ _. (refl, refl, refl) }
 
 -- a longer table is not in order, whatever its bits and with whatever limits: refusal 1, which changes nothing

@@ -81,28 +81,7 @@ kept_revoke marks ends lowers T (suc k) m =
     go (inr f) (inl t) h ih = rw (h, f, t) (ap {B = List Cap} (λ l. lowered true (get_or T k empty_row) ∷ l) ih)
     go (inr f) (inr g) h ih = rw (h, f, g) (ap {B = List Cap} (λ l. get_or T k empty_row ∷ l) ih)
 
--- ---- clearing
-
-pub clears_none : (T : List Cap) (from : ℕ) → Clears T T from from
-clears_none T from = record { low = λ j l. refl; zeros = λ j l m. absurd (omega arith); rest = λ j l. refl }
-
-pub clears_more : (T U : List Cap) (from i : ℕ) → from ≤ i → i < length U → Clears T U from i → Clears T (set U i empty_row) from (i + 1)
-clears_more T U from i b l c = record {
-  low = λ j m. get_or-set_other U i j empty_row empty_row (λ (e : j ≡ i). omega arith) ∙ c.low j m;
-  zeros = λ j m n. zero_at j m (last j i n);
-  rest = λ j m. get_or-set_other U i j empty_row empty_row (λ (e : j ≡ i). omega arith) ∙ c.rest j (omega arith);
-}
-  where
-    zero_at : (j : ℕ) → from ≤ j → (j < i) ⊎ (j ≡ i) → get_or (set U i empty_row) j empty_row ≡ empty_row
-    zero_at j m (inl n) = get_or-set_other U i j empty_row empty_row (λ (e : j ≡ i). omega arith) ∙ c.zeros j m n
-    zero_at j m (inr e) = rw e (get_or-set_same U i empty_row empty_row l)
-
--- ---- the lent table
-
 -- ---- no row ends
-
-pub lowers_start : (marks : List ℕ) (T : List Cap) (i : ℕ) → ((j : ℕ) → j < i → get_or marks j 0 ≡ 0) → Lowers marks T T i
-lowers_start marks T i z = record { low = λ j l. rw (z j l) refl; rest = λ j l. refl }
 
 pub lowers_more : (marks : List ℕ) (T U : List Cap) (i : ℕ) → i < length U → Lowers marks T U i → Lowers marks T (set U i (lowered (eqb (get_or marks i 0) 1) (get_or U i empty_row))) (i + 1)
 lowers_more marks T U i l c = record {

@@ -1,5 +1,6 @@
 -- Marks and backs: the memory after a state is stored, the table after one is brought back, and what each request is answered.
 -- Assumes nothing.
+use Rattle.std.specs.Prelude.{Err, Ok}
 use mathlib.Core.Path.{◌≡◌, refl, sym, ap, ap₂, subst, ◌∙◌}
 use mathlib.Core.Logic.{◌⊎◌, inl, inr}
 use mathlib.Core.Bool.{Bool, true, false, not, cond, ◌||◌, or-true}
@@ -16,7 +17,6 @@ use Rattle.model.specs.declared.Cap.{Cap}
 use Rattle.model.specs.declared.Tally.{Tally}
 use Rattle.model.specs.declared.Refusal.{Refusal}
 use Rattle.model.specs.declared.Refusal.TheVariants.{Disordered, Misspelt}
-use Rattle.model.specs.declared.Answer.TheVariants.{Allowed, Refused}
 use Rattle.model.specs.Given.{count_from}
 use Rattle.model.specs.Slots.{Memory, Slot, Nothing, Stored, is_nothing, slot_map, stored_or}
 use Rattle.model.specs.Table.{empty_row, live_rows, lent_table, is_domain}
@@ -281,12 +281,12 @@ module _ (ws : List (List ℕ)) (bs : List ℕ) (stored : List (List ℕ)) (copi
   fit : (limits : Limits) → refused_sheet (rows_in ws) limits ≡ false → unfit limits (view_of (rows_in ws) bs (states_in stored copies) t.issued) ≡ false
   fit limits l = all_fit ws bs (states_in stored copies) t limits live o b (states_eight stored copies m) l
 
-  pub marks_refused : not_a_slot actor k ≡ true → (r : Outcome) → r.tally ≡ count_refused t → r.answer ≡ Refused Misspelt → Marks ws bs stored copies t actor k stored copies r
+  pub marks_refused : not_a_slot actor k ≡ true → (r : Outcome) → r.tally ≡ count_refused t → r.answer ≡ Err Misspelt → Marks ws bs stored copies t actor k stored copies r
   marks_refused n r y a sheet limits l =
       stepped_number sheet ws bs (states_in stored copies) t (Mark (caller actor limits) k) 2 (mark_number (view_of (rows_in ws) bs (states_in stored copies) t.issued) (caller actor limits) k (fit limits l) ∙ rw n)
       ws bs (states_in stored copies) r (ap (lends (rows_in ws) bs (states_in stored copies)) y) (ap verdict_of a)
 
-  pub marks_allowed : not_a_slot actor k ≡ false → (stored' : List (List ℕ)) (copies' : List ℕ) → Stores ws bs stored copies k stored' copies' → (r : Outcome) → r.tally ≡ t → r.answer ≡ Allowed (record { 0 = 0 })
+  pub marks_allowed : not_a_slot actor k ≡ false → (stored' : List (List ℕ)) (copies' : List ℕ) → Stores ws bs stored copies k stored' copies' → (r : Outcome) → r.tally ≡ t → r.answer ≡ Ok (record { 0 = 0 })
       → Marks ws bs stored copies t actor k stored' copies' r
   marks_allowed n stored' copies' s r y a sheet limits l =
       stepped_number sheet ws bs (states_in stored copies) t (Mark (caller actor limits) k) 0 (mark_number (view_of (rows_in ws) bs (states_in stored copies) t.issued) (caller actor limits) k (fit limits l) ∙ rw n)
@@ -309,11 +309,11 @@ module _ (limits : Limits) (ws : List (List ℕ)) (bs : List ℕ) (stored : List
   all = all_fit ws bs (states_in stored copies) t limits live o b (states_eight stored copies m) l
 
   -- where it is refused, by 2 or 19, nothing but the refused events' count changes
-  refused_by : (j : ℕ) (x : Refusal) → number x ≡ suc (suc j) → judge seen (Back by k) ≡ number x → (r : Outcome) → r.tally ≡ count_refused t → r.answer ≡ Refused x → Backs limits ws bs stored copies t actor k ws bs r
+  refused_by : (j : ℕ) (x : Refusal) → number x ≡ suc (suc j) → judge seen (Back by k) ≡ number x → (r : Outcome) → r.tally ≡ count_refused t → r.answer ≡ Err x → Backs limits ws bs stored copies t actor k ws bs r
   refused_by j x n e r y a sheet =
       stepped_number sheet ws bs (states_in stored copies) t (Back by k) (suc (suc j)) (e ∙ n) ws bs (states_in stored copies) r (ap (lends (rows_in ws) bs (states_in stored copies)) y) (ap verdict_of a ∙ ap₂ (λ (i m : ℕ). record { refusal = i; name = m }) n (sym (no_name (eqb (suc (suc j)) 0))))
 
-  pub backs_out : 7 < k → (r : Outcome) → r.tally ≡ count_refused t → r.answer ≡ Refused Misspelt → Backs limits ws bs stored copies t actor k ws bs r
+  pub backs_out : 7 < k → (r : Outcome) → r.tally ≡ count_refused t → r.answer ≡ Err Misspelt → Backs limits ws bs stored copies t actor k ws bs r
   unfolding unfit_slot
   backs_out g r y a =
       let s : table_in (get_or (states_in stored copies) k Nothing) ≡ Nothing = seen_out stored copies m k g in
@@ -332,11 +332,11 @@ module _ (limits : Limits) (ws : List (List ℕ)) (bs : List ℕ) (stored : List
     told : unfit_slot limits (length (rows_in ws)) t.issued (seen.slot k) ≡ judged
     told = ap₂ (λ (n : ℕ) (s : Slot (List Cap)). unfit_slot limits n t.issued s) size same
 
-    pub backs_unfit : judged ≡ true → (r : Outcome) → r.tally ≡ t → r.answer ≡ Refused Disordered → Backs limits ws bs stored copies t actor k ws bs r
+    pub backs_unfit : judged ≡ true → (r : Outcome) → r.tally ≡ t → r.answer ≡ Err Disordered → Backs limits ws bs stored copies t actor k ws bs r
     backs_unfit u r y a sheet =
         stepped_number sheet ws bs (states_in stored copies) t (Back by k) 1 (back_unfit seen by k (told ∙ u)) ws bs (states_in stored copies) r (ap (lends (rows_in ws) bs (states_in stored copies)) y) (ap verdict_of a)
 
-    pub backs_empty : table_at stored k ≡ Nothing → (x : Refusal) → number x ≡ cond (not_a_domain actor) 2 19 → (r : Outcome) → r.tally ≡ count_refused t → r.answer ≡ Refused x → Backs limits ws bs stored copies t actor k ws bs r
+    pub backs_empty : table_at stored k ≡ Nothing → (x : Refusal) → number x ≡ cond (not_a_domain actor) 2 19 → (r : Outcome) → r.tally ≡ count_refused t → r.answer ≡ Err x → Backs limits ws bs stored copies t actor k ws bs r
     unfolding unfit_slot
     backs_empty z x n r y a =
         let u : judged ≡ false = rw z refl in
@@ -347,7 +347,7 @@ module _ (limits : Limits) (ws : List (List ℕ)) (bs : List ℕ) (stored : List
         go (inl d) e = refused_by 0 x (n ∙ rw d) (e ∙ sym n) r y a
         go (inr d) e = refused_by 17 x (n ∙ rw d) (e ∙ sym n) r y a
 
-    pub backs_stranger : judged ≡ false → is_domain actor ≡ false → (r : Outcome) → r.tally ≡ count_refused t → r.answer ≡ Refused Misspelt → Backs limits ws bs stored copies t actor k ws bs r
+    pub backs_stranger : judged ≡ false → is_domain actor ≡ false → (r : Outcome) → r.tally ≡ count_refused t → r.answer ≡ Err Misspelt → Backs limits ws bs stored copies t actor k ws bs r
     backs_stranger u d r y a = refused_by 0 Misspelt refl (back_number seen by k all (told ∙ u) ∙ rw (slot_low actor k g, d)) r y a
 
     module _ (n : ℕ) (places : List ℕ) (kept : Kept stored k (length ws) n t.issued places) (u : judged ≡ false) (ws' : List (List ℕ)) (bs' : List ℕ) (brings : Brings ws stored copies k n ws' bs') where
@@ -355,7 +355,7 @@ module _ (limits : Limits) (ws : List (List ℕ)) (bs : List ℕ) (stored : List
       unfolding state_at
       state = slot_at stored copies m k g ∙ ap (slot_map (λ t. record { table = t; bits = take 8192 (drop (8192 * k) copies) })) kept.same ∙ ap₂ (λ (x : List Cap) (y : List ℕ). Stored (record { table = x; bits = y })) (sym brings.table) (sym brings.bits)
 
-      pub backs_allowed : is_domain actor ≡ true → (r : Outcome) → r.tally ≡ t → r.answer ≡ Allowed (record { 0 = 0 }) → Backs limits ws bs stored copies t actor k ws' bs' r
+      pub backs_allowed : is_domain actor ≡ true → (r : Outcome) → r.tally ≡ t → r.answer ≡ Ok (record { 0 = 0 }) → Backs limits ws bs stored copies t actor k ws' bs' r
       backs_allowed d r y a sheet =
           let s : seen.slot k ≡ Stored (rows_in ws') = ap table_in state in
           stepped_number sheet ws bs (states_in stored copies) t (Back by k) 0 (back_number seen by k all (told ∙ u) ∙ rw (slot_low actor k g, d, s) refl) ws' bs' (states_in stored copies) r

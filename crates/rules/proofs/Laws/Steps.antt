@@ -1,5 +1,6 @@
 -- One event: what the engine's parts do, put together.
 -- Assumes nothing.
+use Rattle.std.specs.Prelude.{Err, Ok, Option}
 use mathlib.Core.Path.{◌≡◌, refl, sym, ap, ap₂, subst, ◌∙◌}
 use mathlib.Core.Bool.{true, false, or-true}
 use mathlib.Core.List.{List, [], ◌∷◌}
@@ -10,7 +11,6 @@ use lib.ListN.{length, get_or, set, length-set}
 use lib.Seq.{get_or-set_same, get_or-set_other}
 use borrow.Author.Tests.{eqb-false, leb-false, not-false}
 use Rattle.model.specs.declared.Name.{Name}
-use Rattle.model.specs.declared.NewName.{NewName}
 use Rattle.model.specs.declared.Span.{Span}
 use Rattle.model.specs.declared.Cap.{Cap}
 use Rattle.model.specs.declared.Terms.{Terms}
@@ -22,7 +22,6 @@ use Rattle.rules.specs.declared.Outcome.{Outcome}
 use Rattle.model.specs.declared.Event.{Event}
 use Rattle.model.specs.declared.Event.TheVariants.{Create, Borrow, Read, Write, Drop}
 use Rattle.model.specs.declared.Refusal.{Refusal}
-use Rattle.model.specs.declared.Answer.TheVariants.{Allowed, Refused}
 use Rattle.model.specs.Lists.{any}
 use Rattle.model.specs.Strike.{is_end, is_lower, struck}
 use Rattle.model.specs.Slots.{Memory, Slot, unstored}
@@ -92,13 +91,13 @@ module _ (ws : List (List ℕ)) (k issued : ℕ) (o : Orderly (rows_in ws) (leng
   live_is : live_rows T ≡ before T k
   live_is = orderly_live T (length ws) k issued o
 
-  pub room_create : (actor : ℕ) (w : NewName) (s : Span) (r : Terms) → AllowedOn T issued (wk.Single actor (Create w s r)) [] → (sheet : Sheet) → length (after_access sheet Writing (issued + 1) s (before T k)) < length ws
+  pub room_create : (actor : ℕ) (w : Option Name) (s : Span) (r : Terms) → AllowedOn T issued (wk.Single actor (Create w s r)) [] → (sheet : Sheet) → length (after_access sheet Writing (issued + 1) s (before T k)) < length ws
   unfolding rows_after
   room_create actor w s r h sheet =
       rw (add-one issued)
       (omega (arith, next_fits sheet (view_of T h.bits unstored issued) (ordered T issued o.ordered) (Single (caller actor h.limits) (Create w s r)) h.judged, o.all, ap (λ (rows : List Cap). length (after_access sheet Writing (suc issued) s rows)) live_is))
 
-  module _ (actor : ℕ) (w : NewName) (u : Name) (s : Span) (r : Terms) (h : AllowedOn T issued (wk.Single actor (Borrow w u s r)) []) where
+  module _ (actor : ℕ) (w : Option Name) (u : Name) (s : Span) (r : Terms) (h : AllowedOn T issued (wk.Single actor (Borrow w u s r)) []) where
     abbrev borrowed : Request
     borrowed = Single (caller actor h.limits) (Borrow w u s r)
 
@@ -196,13 +195,13 @@ module _ (sheet : Sheet) (ws : List (List ℕ)) (bs : List ℕ) (slots : List (S
   unfolding judge refusals
   stepped_unfit h r y a = stepped_number sheet ws bs slots t req 1 (rw (h, or-true)) ws bs slots r (ap (lends (rows_in ws) bs slots) y) a
 
-  pub allowed_zero : (x : Name) → verdict_of (Allowed x) ≡ verdict judged (new_name t.issued req) → judged ≡ 0
+  pub allowed_zero : (x : Name) → verdict_of (Ok x) ≡ verdict judged (new_name t.issued req) → judged ≡ 0
   allowed_zero x q = sym (ap (λ (r : Verdict). r.refusal) q)
 
   module _ (k : ℕ) (o : Orderly (rows_in ws) (length ws) k t.issued) where
     -- allowed work
-    pub stepped_allowed : turns_state req ≡ false → (ws' : List (List ℕ)) (bs' : List ℕ) (y : Tally) (x : Name) → verdict_of (Allowed x) ≡ verdict judged (new_name t.issued req)
-        → rows_in ws' ≡ lent_table (length ws) (rows_after sheet t.issued (before (rows_in ws) k) req) → bs' ≡ bits_after bs req → y ≡ count_allowed req t → Stepped sheet ws bs slots t req ws' bs' slots (record { tally = y; answer = Allowed x })
+    pub stepped_allowed : turns_state req ≡ false → (ws' : List (List ℕ)) (bs' : List ℕ) (y : Tally) (x : Name) → verdict_of (Ok x) ≡ verdict judged (new_name t.issued req)
+        → rows_in ws' ≡ lent_table (length ws) (rows_after sheet t.issued (before (rows_in ws) k) req) → bs' ≡ bits_after bs req → y ≡ count_allowed req t → Stepped sheet ws bs slots t req ws' bs' slots (record { tally = y; answer = Ok x })
     unfolding after answer
     stepped_allowed w ws' bs' y x q h b c = record {
       table = h ∙ rw zero_is (ap₂ (λ (m : ℕ) (rows : List Cap). lent_table m (rows_after sheet t.issued rows req)) (sym o.all) (sym (live_is ws k t.issued o)) ∙ ap (λ (m : Memory). m.table) works);
@@ -219,8 +218,8 @@ module _ (sheet : Sheet) (ws : List (List ℕ)) (bs : List ℕ) (slots : List (S
         works = sym (works_memory sheet (lends (rows_in ws) bs slots t) req w)
 
     -- what is refused, but not for what is stored
-    pub stepped_refused : unfit (caller_of req).limits seen ≡ false → unfit_stored seen req ≡ false → (y : Tally) (x : Refusal) → verdict_of (Refused x) ≡ verdict judged (new_name t.issued req) → y ≡ count_refused t
-        → Stepped sheet ws bs slots t req ws bs slots (record { tally = y; answer = Refused x })
+    pub stepped_refused : unfit (caller_of req).limits seen ≡ false → unfit_stored seen req ≡ false → (y : Tally) (x : Refusal) → verdict_of (Err x) ≡ verdict judged (new_name t.issued req) → y ≡ count_refused t
+        → Stepped sheet ws bs slots t req ws bs slots (record { tally = y; answer = Err x })
     unfolding after answer
     stepped_refused f u y x q c = record {
       table = ap (λ (m : Memory). m.table) (sym left.0);
@@ -298,12 +297,12 @@ module _ (sheet : Sheet) (ws : List (List ℕ)) (bs : List ℕ) (t : Tally) (req
 -- ---- the rows after an event
 
 module _ (sheet : Sheet) (issued : ℕ) (rows : List Cap) (by : Caller) where
-  pub next_create : (w : NewName) (s : Span) (r : Terms) (c : Cap) → c ≡ row (record { name = issued + 1; parent = 0; span = s; kind = 0; fresh = r.fresh; maker = by.actor; holders = r.holders }) r.right 1 → c ∷ after_access sheet Writing (issued + 1) s rows ≡ rows_after sheet issued rows (Single by (Create w s r))
+  pub next_create : (w : Option Name) (s : Span) (r : Terms) (c : Cap) → c ≡ row (record { name = issued + 1; parent = 0; span = s; kind = 0; fresh = r.fresh; maker = by.actor; holders = r.holders }) r.right 1 → c ∷ after_access sheet Writing (issued + 1) s rows ≡ rows_after sheet issued rows (Single by (Create w s r))
   unfolding rows_after
   next_create w s r c e = rw (e, add-one)
 
   -- the parent's row gives the depth and the mark
-  pub next_borrow : (w : NewName) (u : Name) (s : Span) (r : Terms) (p c : Cap) → p ≡ lookup u.0 rows → c ≡ row (record { name = issued + 1; parent = u.0; span = s; kind = r.kind; fresh = p.fresh; maker = by.actor; holders = r.holders }) r.right (p.depth + 1) → c ∷ rows ≡ rows_after sheet issued rows (Single by (Borrow w u s r))
+  pub next_borrow : (w : Option Name) (u : Name) (s : Span) (r : Terms) (p c : Cap) → p ≡ lookup u.0 rows → c ≡ row (record { name = issued + 1; parent = u.0; span = s; kind = r.kind; fresh = p.fresh; maker = by.actor; holders = r.holders }) r.right (p.depth + 1) → c ∷ rows ≡ rows_after sheet issued rows (Single by (Borrow w u s r))
   unfolding rows_after
   next_borrow w u s r p c f e = rw (e, f, add-one issued, add-one)
 

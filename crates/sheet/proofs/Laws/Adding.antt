@@ -5,13 +5,13 @@ use mathlib.Core.Logic.{◌⊎◌, inl, inr}
 use mathlib.Core.Bool.{Bool, true, false, cond, not, ◌&&◌, ◌||◌}
 use mathlib.Core.List.{List, [], ◌∷◌, map}
 use Prim.Native.Nat.{ℕ, zero, suc, ◌+◌, ◌*◌, ◌-◌, ◌≤◌, ◌<◌, min}
-use native.Mathlib.Nat.{mul-le-mul, mul-le-mul_right, mul_comm}
-use native.Mathlib.Numerals.{add-one}
+use native.Mathlib.Nat.{mul-le-mul_right, mul_comm}
 use native.Mathlib.Omega.{arith}
 use lib.Dec.{eqb, ltb}
-use lib.ListN.{length, get_or, set, take, drop, replicate, length-set, get_or-replicate, drop_of_length-le}
-use lib.Seq.{drop-cons, ext_get_or, get_or-set_same, get_or-set_other}
+use lib.ListN.{length, get_or, set, take, drop, replicate, length-set, get_or-replicate}
+use lib.Seq.{ext_get_or, get_or-set_same, get_or-set_other}
 use borrow.Author.Tests.{ltb-true, ltb-false, lt-ltb, le-ltb, eq-eqb, ne_eqb, eqb-true, eqb-false}
+use Rattle.std.specs.List.{list_any}
 use Rattle.model.specs.Lists.{any, all, first}
 use Rattle.model.proofs.Offered.{test, clash, and_both}
 use Rattle.text.specs.Class.{newline}
@@ -38,23 +38,17 @@ each_below f (suc n) h (suc p) l = each_below (λ k. f (suc k)) n (and_both (f z
 pub place_at : (p : ℕ) → p < 18 → get_or places p 0 ≡ p
 place_at p l = eqb-true (get_or places p 0) p (each_below (λ k. eqb (get_or places k 0) k) 18 refl p l)
 
-module _ (f : ℕ → Bool) (p : ℕ) (is : any f (drop p places) ≡ any f places) where
-  next_place : p < 18 → any f (drop p places) ≡ f p || any f (drop (p + 1) places)
-  next_place l = rw (add-one, drop-cons places p 0 l, place_at p l)
+-- a test of a list's members is one of its places
+abbrev some_below : (ℕ → Bool) → ℕ → Bool
+some_below f zero = false
+some_below f (suc n) = f zero || some_below (λ k. f (suc k)) n
 
-  pub some_here : p < 18 → f p ≡ true → true ≡ any f places
-  some_here l t = sym (sym is ∙ next_place l ∙ rw t)
+some_member : (f : ℕ → Bool) (s : List ℕ) → list_any f s ≡ some_below (λ p. f (get_or s p 0)) (length s)
+some_member f [] = refl
+some_member f (x ∷ s) = ap (λ (b : Bool). f x || b) (some_member f s)
 
-  pub some_later : p < 18 → f p ≡ false → any f (drop (p + 1) places) ≡ any f places
-  some_later l e = sym (sym is ∙ next_place l ∙ rw e)
-
-  pub some_none : 18 ≤ p → false ≡ any f places
-  some_none l = sym (sym is ∙ rw (drop_of_length-le places l))
-
--- ---- counts, up to 2
-
-pub product_small : (a b c : ℕ) → a ≤ 2 → b ≤ 2 → c ≤ 2 → (a * b ≤ 4) × (a * b * c ≤ 8)
-product_small a b c l m n = let four : a * b ≤ 2 * 2 = mul-le-mul l m in (four, mul-le-mul four n)
+pub some_place : (f : ℕ → Bool) (s : List ℕ) → length s ≡ 18 → list_any f s ≡ any (λ p. f (get_or s p 0)) places
+some_place f s e = some_member f s ∙ ap (some_below (λ p. f (get_or s p 0))) e
 
 -- ---- a line added
 
@@ -91,9 +85,6 @@ seen_after r seen p = min (get_or seen p 0 + counts_at r p) 2
 
 abbrev pub result_after : Counted → List ℕ → List ℕ → ℕ → ℕ
 result_after r seen results p = cond (eqb (get_or seen p 0) 0) (cond (eqb (counts_at r p) 0) (get_or results p 0) r.result) (get_or results p 0)
-
-pub adds_all : (r : Counted) (seen results seen' results' : List ℕ) (p : ℕ) → 18 ≤ p → Filled (seen_after r seen) seen seen' p → Filled (result_after r seen results) results results' p → Adds r seen results seen' results'
-adds_all r seen results seen' results' p e s t = record { seen_long = s.long; results_long = t.long; seen_each = λ q l. s.done q (omega arith); results_each = λ q l. t.done q (omega arith) }
 
 module _ (r : Counted) (seen results : List ℕ) (p : ℕ) where
   pub given_first : get_or seen p 0 ≡ 0 → (counts_at r p ≡ 0 → ⊥) → r.result ≡ result_after r seen results p

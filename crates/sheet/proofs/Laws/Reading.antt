@@ -2,40 +2,75 @@
 -- Assumes nothing.
 use mathlib.Core.Path.{◌≡◌, refl, sym, ap, ◌∙◌}
 use mathlib.Core.Logic.{◌⊎◌, inl, inr}
-use mathlib.Core.Bool.{Bool, true, false, cond}
-use mathlib.Core.List.{List, [], ◌∷◌}
-use Prim.Native.Nat.{ℕ, ◌+◌, ◌-◌, ◌≤◌, ◌<◌, min}
+use mathlib.Core.Bool.{Bool, true, false, cond, not, ◌&&◌}
+use mathlib.Core.List.{List, [], ◌∷◌, ◌++◌, map}
+use Prim.Native.Nat.{ℕ, suc, ◌+◌, ◌-◌, ◌≤◌, ◌<◌, min}
 use native.Mathlib.Omega.{arith}
 use lib.Dec.{eqb, ltb}
 use lib.ListN.{length, get_or, set, take, drop, replicate, length-drop, length-set, get_or-replicate}
 use lib.Seq.{take_all, get_or-set_same, get_or-set_other}
 use borrow.Author.Tests.{ltb-true, ltb-false, eq-eqb, eqb-true, eqb-false}
+use Rattle.std.proofs.Common.{Bor}
+use Rattle.std.proofs.lemmas.List.{length-map}
+use Rattle.std.proofs.lemmas.List.Sums.{prefix_len-le-length}
+use Rattle.std.specs.List.{position, position_or_len}
+use Rattle.std.specs.Option.{unwrap_or}
+use Rattle.std.specs.Str.{bytes_eq}
 use Rattle.model.specs.Lists.{filter, cons_if}
-use Rattle.model.proofs.Offered.{test, unless, clash}
+use Rattle.model.proofs.Offered.{test}
 use Rattle.text.specs.Class.{space}
 use Rattle.text.specs.Event.{bytes}
 use Rattle.text.specs.Line.{next_part}
 use Rattle.text.specs.Read.{same}
-use Rattle.text.proofs.Offered.{same_refl, same_true, parts_end, part_inside, part_then, parts_together}
+use Rattle.text.proofs.Offered.{parts_end, part_inside, part_then, parts_together}
 use Rattle.sheet.specs.declared.words.Bracket.{Bracket}
 use Rattle.sheet.specs.declared.words.Bracket.TheVariants.{Holder, Access, From}
 use Rattle.sheet.specs.declared.rule.Found.{Found}
 use Rattle.sheet.specs.Words.{holder_words, access_words, origin_words, result_words, inside, closing, ending, number_among}
 use Rattle.sheet.specs.Rule.{Listed, listed_of, listed, behind, read_rule}
 use Rattle.sheet.specs.Rules.{times}
-use Rattle.sheet.specs.Reading.{words_for, word_code, words_from, Behind, Counts, Lists, Brackets, Counting}
+use Rattle.sheet.specs.Reading.{words_for, code_among, word_code, words_from, Behind, Counts, Lists, Brackets, Counting}
 
--- ---- tests of bytes
+-- ---- a word among others
 
--- a test tells whether two texts are the same
-abbrev pub Tells : Bool → List ℕ → List ℕ → Type 0
-Tells r s t = (r ≡ true → s ≡ t) × (s ≡ t → r ≡ true)
+-- the library's test of two texts
+pub same_is_eq : (s t : List ℕ) → bytes_eq s t ≡ same s t
+unfolding same
+same_is_eq [] [] = refl
+same_is_eq [] (b ∷ t) = refl
+same_is_eq (a ∷ s) [] = refl
+same_is_eq (a ∷ s) (b ∷ t) = ap (λ (e : Bool). eqb a b && e) (same_is_eq s t)
 
-pub passed : {r : Bool} {s t : List ℕ} → Tells r s t → r ≡ true → same s t ≡ true
-passed {r} {s} {t} h e = rw (h.0 e) (same_refl t)
+module _ (w : List ℕ) where
+  abbrev is_word : Bor (List ℕ) → Bool
+  is_word v = bytes_eq w v.now
 
-pub failed : {r : Bool} {s t : List ℕ} → Tells r s t → r ≡ false → same s t ≡ false
-failed {r} {s} {t} h n = unless (same s t) (λ e. clash (h.1 (same_true s t e)) n)
+  first_is : (words : List (Bor (List ℕ))) → position_or_len is_word words ≡ number_among (map (λ v. v.now) words) w
+  unfolding number_among
+  first_is [] = refl
+  first_is (v ∷ words) = go (bytes_eq w v.now) (first_is words) ∙ ap (λ (b : Bool). cond b 0 (suc (number_among (map (λ v. v.now) words) w))) (same_is_eq w v.now)
+    where
+      go : (b : Bool) → position_or_len is_word words ≡ number_among (map (λ v. v.now) words) w → cond (not b) (1 + position_or_len is_word words) 0 ≡ cond b 0 (suc (number_among (map (λ v. v.now) words) w))
+      go true e = refl
+      go false e = omega (arith, e)
+
+  pub found_among : (words : List (Bor (List ℕ))) (r : ℕ) → r ≡ unwrap_or (position is_word words) (length words) → (r ≡ number_among (map (λ v. v.now) words) w) × (r ≤ length words)
+  found_among words r e = go (test (ltb n (length words)))
+    where
+      n : ℕ
+      n = position_or_len is_word words
+
+      inside_them : n ≤ length words
+      inside_them = prefix_len-le-length (λ v. not (is_word v)) words
+
+      go : (ltb n (length words) ≡ true) ⊎ (ltb n (length words) ≡ false) → (r ≡ number_among (map (λ v. v.now) words) w) × (r ≤ length words)
+      go (inl t) = let is : r ≡ n = e ∙ rw t in (is ∙ first_is words, omega (arith, is, inside_them))
+      go (inr f) = let is : r ≡ length words = e ∙ rw f in (omega (arith, is, inside_them, ltb-false n (length words) f, first_is words), omega (arith, is))
+
+-- a word of a bracket by the two lists of its words
+pub coded : (own : List (List ℕ)) (w : List ℕ) → code_among (inside own) (closing own) w ≡ word_code own w
+unfolding word_code
+coded own w = rw (length-map own (λ (v : List ℕ). v ++ bytes " "), length-map own (λ (v : List ℕ). v ++ bytes ") "))
 
 -- ---- a word, and what is behind it
 

@@ -1,5 +1,7 @@
 -- A sheet's lines as they are written, piece by piece and line by line.
 -- Assumes nothing.
+use Rattle.std.specs.Prelude.{Result}
+use Rattle.model.specs.declared.Refusal.{Refusal}
 use mathlib.Core.Path.{◌≡◌, refl, sym, ap, subst, ◌∙◌}
 use mathlib.Core.Bool.{true}
 use mathlib.Core.List.{List, [], ◌∷◌, ◌++◌, append_assoc, append-nil, flat_map}
@@ -10,7 +12,6 @@ use lib.ListN.{length, get_or, take, length-append}
 use Rattle.text.specs.Event.{bytes}
 use Rattle.text.specs.Put.{Put}
 use Rattle.text.specs.Write.{Writes, outcome}
-use Rattle.text.specs.declared.write.Written.{Written}
 use Rattle.text.proofs.Offered.{put_two, writes_put, wrote}
 use Rattle.sheet.specs.Words.{holder_words, access_words, origin_words, result_words}
 use Rattle.sheet.specs.Rule.{word_at, spell_words, spell_rule}
@@ -127,7 +128,7 @@ lines_end {sheet} {out} {now} {n} {at} e l =
 -- ---- the public call
 
 -- `Writes` of a sheet's text is its promise
-pub sheet_written : (sheet : List ℕ) {out after : List ℕ} {r : Written} → Writes true (sheet_text sheet) out after r → outcome r after ≡ write_sheet sheet out
+pub sheet_written : (sheet : List ℕ) {out after : List ℕ} {r : Result ℕ Refusal} → Writes true (sheet_text sheet) out after r → outcome r after ≡ write_sheet sheet out
 unfolding write_sheet
 sheet_written sheet w = λ i. record { answer = w.answer i; buffer = w.buffer i }
 

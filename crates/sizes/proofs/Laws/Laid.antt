@@ -11,6 +11,8 @@ use mathlib.Core.Logic.{◌⊎◌, inl, inr}
 use lib.ListN.{length, get_or, set, take, drop, replicate, length-set, length-replicate}
 use lib.Seq.{get_or-set_same, get_or-set_other, drop-drop}
 use borrow.Author.Tests.{leb-true, eqb-true}
+use Rattle.std.specs.Prelude.{sum as listed}
+use Rattle.std.proofs.lemmas.List.Sums.{sum_by-cons}
 use Rattle.model.specs.declared.Cap.{Cap}
 use Rattle.model.specs.Table.{empty_row, in_order}
 use Rattle.model.specs.Requests.{Unlimited}
@@ -36,11 +38,10 @@ sum_more [] k h = absurd (omega arith)
 sum_more (n ∷ l) zero h = omega arith
 sum_more (n ∷ l) (suc k) h = let e = sum_more l k (omega arith) in omega arith
 
-pub sum_all : (l : List ℕ) (k : ℕ) → length l ≤ k → sum (take k l) ≡ sum l
-sum_all [] zero h = refl
-sum_all [] (suc k) h = refl
-sum_all (n ∷ l) zero h = absurd (omega arith)
-sum_all (n ∷ l) (suc k) h = ap (λ (s : ℕ). n + s) (sum_all l k (omega arith))
+-- the library's sum is this one
+pub sum_is : (l : List ℕ) → listed l ≡ sum l
+sum_is [] = refl
+sum_is (n ∷ l) = sum_by-cons (λ x. x) n l ∙ ap (λ (s : ℕ). n + s) (sum_is l)
 
 sum_part : (l : List ℕ) (k : ℕ) → sum (take k l) ≤ sum l
 sum_part [] zero = omega arith

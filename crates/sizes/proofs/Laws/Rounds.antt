@@ -1,5 +1,6 @@
 -- The code's places in the clients' texts, and what a turn, a round and all rounds come to.
 -- Assumes nothing.
+use Rattle.std.specs.Prelude.{Err, Ok, Result}
 use mathlib.Core.Path.{◌≡◌, refl, sym, ap, subst, ◌∙◌}
 use mathlib.Core.Logic.{◌⊎◌, inl, inr}
 use mathlib.Core.Bool.{true, false}
@@ -14,8 +15,6 @@ use lib.Seq.{get_or-set_same, get_or-set_other, drop-drop, length-take-le}
 use borrow.Author.Tests.{eqb-true, eqb-false}
 use Rattle.model.specs.declared.Name.{Name}
 use Rattle.model.specs.declared.Refusal.{Refusal}
-use Rattle.model.specs.declared.Answer.{Answer}
-use Rattle.model.specs.declared.Answer.TheVariants.{Allowed, Refused}
 use Rattle.model.specs.Answers.{number, verdict_of}
 use Rattle.model.proofs.Offered.{test}
 use Rattle.table.proofs.Offered.{last, numbered}
@@ -35,7 +34,7 @@ use Rattle.sizes.specs.Rounds.{left_at, lines_from, Places, Advanced, AllAdvance
 use Rattle.sizes.proofs.Laws.Turns.{sized_on, sized_stop, sized_none, round_first, round_none, turn_none, turn_one, longest_behind, rounds_more, rounds_end, lines_few}
 
 -- an answer is one of the two
-pub refused_allowed : {A : Type 0} {a : Answer} {x : Name} {y : Refusal} → a ≡ Allowed x → a ≡ Refused y → A
+pub refused_allowed : {A : Type 0} {a : Result Name Refusal} {x : Name} {y : Refusal} → a ≡ Ok x → a ≡ Err y → A
 refused_allowed {A} {a} {x} {y} p q = let z : ◌≡◌ {A = ℕ} 0 1 = cc in absurd (omega arith)
 
 -- ---- a client's text
@@ -110,7 +109,7 @@ module _ (text at ends : List ℕ) (client : ℕ) (long : length at ≡ 8) (few 
 -- ---- one turn
 
 -- a client without a line left has none in this round
-pub turn_passed : (m : Memory) (s : Standing) (text at ends : List ℕ) (client : ℕ) (x : Name) → lines_of (left_at text at ends client) ≡ [] → Runs m s (turn_of text at ends client) m (Allowed x) (suc client) s
+pub turn_passed : (m : Memory) (s : Standing) (text at ends : List ℕ) (client : ℕ) (x : Name) → lines_of (left_at text at ends client) ≡ [] → Runs m s (turn_of text at ends client) m (Ok x) (suc client) s
 turn_passed m s text at ends client x e = record {
   on = λ h line more hold y a. record { shared = h; holds = hold; same = ap (λ (l : List (List ℕ)). sized h s.most (one_round (suc client) line (l ∷ []) ++ more)) e ∙ ap (λ (ts : List Turn). sized h s.most (ts ++ more)) (turn_none (suc client) line) };
   stops = λ h line more hold y a. refused_allowed refl a;
@@ -138,13 +137,13 @@ module _ (m : Memory) (s : Standing) (text at ends : List ℕ) (client : ℕ) (l
   turn_runs = record {
     on = λ h k more hold x a.
         let t = took.each h hold in
-        let z : (verdict_of r.answer).refusal ≡ 0 = ap (λ (b : Answer). (verdict_of b).refusal) a in
+        let z : (verdict_of r.answer).refusal ≡ 0 = ap (λ (b : Result Name Refusal). (verdict_of b).refusal) a in
         record {
           shared = shared_after h (suc client) (read_form line);
           holds = t.goes z;
           same = turn_is h k more ∙ sized_on h s.most (this k) more (refused_so h k hold ∙ z) ∙ (λ j. sized (after_is h k j) (sym t.most_needed j) more);
         };
-    stops = λ h k more hold x a. turn_is h k more ∙ sized_stop h s.most (this k) more (number x) (refused_so h k hold ∙ ap (λ (b : Answer). (verdict_of b).refusal) a) (numbered x);
+    stops = λ h k more hold x a. turn_is h k more ∙ sized_stop h s.most (this k) more (number x) (refused_so h k hold ∙ ap (λ (b : Result Name Refusal). (verdict_of b).refusal) a) (numbered x);
   }
 
 -- ---- a round
@@ -193,7 +192,7 @@ module _ (text at ends : List ℕ) (clients : ℕ) (m₀ : Memory) (s₀ : Stand
       (in_range : client < clients)
       (at'' : List ℕ)
       (m' : Memory)
-      (answer : Answer)
+      (answer : Result Name Refusal)
       (s' : Standing)
       (runs : Runs m s (turn_of text at' ends client) m' answer (suc client) s') where
     -- the others' lines of this round
@@ -210,7 +209,7 @@ module _ (text at ends : List ℕ) (clients : ℕ) (m₀ : Memory) (s₀ : Stand
         ∙ append_assoc (one_round (suc client) line (lines_of (left_at text at ends client) ∷ [])) (others line) more
         ∙ ap (λ (l : List (List ℕ)). one_round (suc client) line (l ∷ []) ++ (others line ++ more)) (sym here)
 
-    module _ (advanced : Advanced text at' ends at'' client) (x : Name) (a : answer ≡ Allowed x) where
+    module _ (advanced : Advanced text at' ends at'' client) (x : Name) (a : answer ≡ Ok x) where
       going : (h : Shared) (line : ℕ) (more : List Turn) → HoldsAt h m₀ s₀ → Going text at ends clients s₀.most h line more m' s' (suc client)
       going h line more hold =
           let g = so.each h line more hold in
@@ -237,12 +236,12 @@ module _ (text at ends : List ℕ) (clients : ℕ) (m₀ : Memory) (s₀ : Stand
           taken k (inl w) = ap lines_of (left_same text at' at'' ends k (advanced.others k (λ (e : k ≡ client). omega arith))) ∙ so.taken k w
           taken k (inr e) = subst (λ (n : ℕ). lines_of (left_at text at'' ends n) ≡ behind (lines_of (left_at text at ends n))) (sym e) (advanced.taken ∙ ap behind here)
 
-    pub in_round_stops : (x : Refusal) → answer ≡ Refused x → Runs m₀ s₀ (round_of text at ends clients) m' (Refused x) (client + 1) s'
+    pub in_round_stops : (x : Refusal) → answer ≡ Err x → Runs m₀ s₀ (round_of text at ends clients) m' (Err x) (client + 1) s'
     in_round_stops x a = record {
       on = λ h line more hold y b. refused_allowed b refl;
       stops = λ h line more hold y b.
           let g = so.each h line more hold in
-          let same : number x ≡ number y = ap (λ (c : Answer). (verdict_of c).refusal) b in
+          let same : number x ≡ number y = ap (λ (c : Result Name Refusal). (verdict_of c).refusal) b in
           g.same ∙ ap (sized g.shared s.most) (others_are line more) ∙ runs.stops g.shared line (others line ++ more) g.holds x a ∙ (λ j. report.refused (stop (same j) (sym (add-one client) j) line));
     }
 
@@ -250,7 +249,7 @@ module _ (text at ends : List ℕ) (clients : ℕ) (m₀ : Memory) (s₀ : Stand
     pub round_advanced : AllAdvanced text at ends at' clients
     round_advanced = record { places = so.places; taken = λ k l. so.taken k (omega arith) }
 
-    pub round_runs : (x : Name) → Runs m₀ s₀ (round_of text at ends clients) m (Allowed x) 0 s
+    pub round_runs : (x : Name) → Runs m₀ s₀ (round_of text at ends clients) m (Ok x) 0 s
     round_runs x = record {
       on = λ h line more hold y b.
           let g = so.each h line more hold in
@@ -333,16 +332,16 @@ module _ (text at ends : List ℕ) (clients : ℕ) (few : clients ≤ 8) (m₀ :
       pub line_few : line ≤ length text
       line_few = omega (arith, more, so.counted, longest_few text at ends clients 0)
 
-      module _ (at'' : List ℕ) (m' : Memory) (answer : Answer) (client : ℕ) (s' : Standing) (runs : Runs m s (round_of text at' ends clients) m' answer client s') where
+      module _ (at'' : List ℕ) (m' : Memory) (answer : Result Name Refusal) (client : ℕ) (s' : Standing) (runs : Runs m s (round_of text at' ends clients) m' answer client s') where
         split : rounds (longest lines_left) line lines_left ≡ round_of text at' ends clients line ++ rounds (longest (map behind lines_left)) (suc line) (map behind lines_left)
         split = rounds_more line lines_left more
 
-        pub in_rounds_stops : (x : Refusal) → answer ≡ Refused x → (h : Shared) → HoldsAt h m₀ s₀ → all_lines h ≡ report.refused (stop (number x) client line)
+        pub in_rounds_stops : (x : Refusal) → answer ≡ Err x → (h : Shared) → HoldsAt h m₀ s₀ → all_lines h ≡ report.refused (stop (number x) client line)
         in_rounds_stops x a h hold =
             let g = so.each h hold in
             g.same ∙ ap (sized g.shared s.most) split ∙ runs.stops g.shared line (rounds (longest (map behind lines_left)) (suc line) (map behind lines_left)) g.holds x a
 
-        module _ (x : Name) (a : answer ≡ Allowed x) (advanced : AllAdvanced text at' ends at'' clients) where
+        module _ (x : Name) (a : answer ≡ Ok x) (advanced : AllAdvanced text at' ends at'' clients) where
           left_is : lines_from text at'' ends 0 clients ≡ map behind lines_left
           left_is = lines_behind text at' ends at'' clients 0 (λ j l n. advanced.taken j (omega arith))
 

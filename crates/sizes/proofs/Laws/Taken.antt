@@ -1,5 +1,7 @@
 -- One event of a client: the code's answer is that of the definition, and what it keeps of names stays right.
 -- Assumes nothing.
+use Rattle.std.specs.Prelude.{Err, Result}
+use Rattle.model.specs.declared.Name.{Name}
 use mathlib.Core.Path.{◌≡◌, refl, sym, ap, subst, ◌∙◌}
 use mathlib.Core.Logic.{◌⊎◌, inl, inr}
 use mathlib.Core.Bool.{Bool, true, false, ◌&&◌}
@@ -11,8 +13,6 @@ use lib.ListN.{length, get_or}
 use borrow.Author.Tests.{eq-eqb, ne_eqb, leb-true, ltb-true, ltb-false}
 use Rattle.model.specs.declared.Cap.{Cap}
 use Rattle.model.specs.declared.Tally.{Tally}
-use Rattle.model.specs.declared.Answer.{Answer}
-use Rattle.model.specs.declared.Answer.TheVariants.{Refused}
 use Rattle.model.specs.declared.Refusal.{Refusal}
 use Rattle.model.specs.declared.Event.{Event}
 use Rattle.model.specs.declared.Event.TheVariants.{Create, Borrow, Read, Write, Drop}
@@ -97,7 +97,7 @@ module _ {h : Shared} {m : Memory} {live used : ℕ} {t : Tally} (hold : Holds h
       {bs' : List ℕ}
       {said : Outcome}
       (s : Stepped sheet6 m.table m.bits unstored t (ask (renamed x e)) ws' bs' unstored said)
-      (a : Answer)
+      (a : Result Name Refusal)
       (kept : has_ended x count (name_in e) ≡ false → verdict_of a ≡ verdict_of said.answer)
       (ended : has_ended x count (name_in e) ≡ true → (verdict_of a).refusal ≡ ended_for (verdict_of said.answer).refusal) where
     abbrev y : ℕ
@@ -279,5 +279,5 @@ module _ {h : Shared} {m : Memory} {live used : ℕ} {t : Tally} (hold : Holds h
   held_kept kept = record { fit = hold.fit; state = hold.state; listed = kept.listed; keyed = keys_kept hold.keyed kept; given = hold.given; counted = hold.counted }
 
 -- a line that is misspelt
-pub taken_misspelt : (m : Memory) (s : Standing) (client : ℕ) (why : Refusal) → Takes m s client (refused (number why)) m (record { answer = Refused why; standing = s })
+pub taken_misspelt : (m : Memory) (s : Standing) (client : ℕ) (why : Refusal) → Takes m s client (refused (number why)) m (record { answer = Err why; standing = s })
 taken_misspelt m s client why = record { each = λ h hold. record { refusal = refl; most_needed = omega arith; goes = λ q. clash (eq-eqb (number why) 0 q) (numbered why) } }

@@ -1,5 +1,6 @@
 -- The line of a report fits 48 bytes.
 -- Assumes nothing.
+use Rattle.std.specs.Prelude.{Ok, Err, Result}
 use mathlib.Core.Path.{◌≡◌, refl, ap, ap₂, ◌∙◌}
 use mathlib.Core.List.{List, [], ◌∷◌, ◌++◌}
 use Prim.Native.Nat.{ℕ, ◌+◌, ◌≤◌, ◌<◌}
@@ -12,8 +13,7 @@ use Rattle.text.specs.Event.{bytes, spaced}
 use Rattle.text.specs.Put.{Put}
 use Rattle.text.proofs.Offered.{decimal_under}
 use Rattle.kelzoud_events.proofs.Laws.{number_small}
-use Rattle.sizes.specs.declared.Sizing.{Sizing}
-use Rattle.sizes.specs.declared.Sizing.TheVariants.{Rows, Refused}
+use Rattle.sizes.specs.declared.RefusedAt.{RefusedAt}
 use Rattle.sizes.specs.Report.{word, report_of, report_line}
 
 -- a number of 32 bits, with its space, has at most eleven bytes
@@ -38,13 +38,13 @@ refused_short k c l h = omega (
   none_short,
 )
 
-line_short : (s : Sizing) → length (report_line (report_of s)) ≤ 48
+line_short : (s : Result ℕ RefusedAt) → length (report_line (report_of s)) ≤ 48
 unfolding report_line
-line_short (Rows n) = rows_short n
-line_short (Refused r c l) = refused_short (number r) c l (omega (arith, number_small r))
+line_short (Ok n) = rows_short n
+line_short (Err at) = refused_short (number at.refusal) at.client at.line (omega (arith, number_small at.refusal))
 
 -- what is put into a buffer of 48 bytes begins it
-pub printed : (s : Sizing) (out after : List ℕ) (r : ℕ) → length out ≡ 48 → Put out 0 (report_line (report_of s)) after r → (take r after ≡ report_line (report_of s)) × (r ≤ 48) × (length after ≡ 48)
+pub printed : (s : Result ℕ RefusedAt) (out after : List ℕ) (r : ℕ) → length out ≡ 48 → Put out 0 (report_line (report_of s)) after r → (take r after ≡ report_line (report_of s)) × (r ≤ 48) × (length after ≡ 48)
 printed s out after r e p =
     let l = report_line (report_of s) in
     let short = line_short s in

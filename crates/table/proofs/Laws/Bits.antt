@@ -10,6 +10,7 @@ use native.Mathlib.Omega.{arith}
 use lib.Dec.{eqb}
 use lib.ListN.{length, get_or, set}
 use lib.Seq.{get_or-set_same, set-get_or, set-set}
+use Rattle.std.specs.List.{list_all, range_with_len}
 use Rattle.model.specs.Bits.{has_bit, with_bit, bit_at, put_at, put_from, all_written}
 use Rattle.model.proofs.Offered.{with_bit_worth}
 use Rattle.table.specs.Bytes.{with_bits}
@@ -109,17 +110,13 @@ put_parts v from mid to bytes l m =
     let s : from + (mid - from) ≡ mid = omega arith in
     ap (λ (x : ℕ). put_from v from x bytes) e ∙ put_append v from (mid - from) (to - mid) bytes ∙ ap (λ (x : ℕ). put_from v x (to - mid) (put_from v from (mid - from) bytes)) s
 
+-- the addresses of a run, tested in turn
+pub all_in_turn : (f : ℕ → Bool) (a n : ℕ) → list_all f (range_with_len a n) ≡ all_written f a n
+unfolding all_written
+all_in_turn f a zero = refl
+all_in_turn f a (suc n) = rw add-one (ap (◌&&◌ (f a)) (all_in_turn f (suc a) n))
+
 -- the first address of a run, and what is behind it
-pub all_first : (f : ℕ → Bool) (a to : ℕ) → a < to → all_written f a (to - a) ≡ f a && all_written f (a + 1) (to - (a + 1))
-unfolding all_written
-all_first f a to l =
-    let e : to - a ≡ suc (to - (a + 1)) = omega arith in
-    rw (e, add-one a)
-
-pub all_none : (f : ℕ → Bool) (a to : ℕ) → to ≤ a → all_written f a (to - a) ≡ true
-unfolding all_written
-all_none f a to l = let e : to - a ≡ 0 = omega arith in rw e
-
 pub put_first : (v : Bool) (a to : ℕ) (bytes : List ℕ) → a < to → put_from v a (to - a) bytes ≡ put_from v (a + 1) (to - (a + 1)) (put_at v a bytes)
 unfolding put_from
 put_first v a to bytes l =

@@ -1,19 +1,45 @@
--- Search by halving among rows whose names rise.
+-- The first row with name 0, and search by halving among rows whose names rise.
 -- Assumes nothing.
 use mathlib.Core.Path.{◌≡◌}
 use mathlib.Core.Logic.{◌⊎◌, inl, inr}
-use mathlib.Core.List.{List}
+use mathlib.Core.List.{List, []}
 use mathlib.Core.Bool.{Bool, true, false, cond}
 use Prim.Native.Nat.{ℕ, ◌+◌, ◌-◌, ◌*◌, ◌/◌, ◌≤◌, ◌<◌}
 use native.Mathlib.Omega.{arith}
-use lib.Dec.{ltb}
-use borrow.Author.Tests.{ltb-true, ltb-false}
+use lib.Dec.{eqb, ltb}
+use lib.ListN.{length}
+use borrow.Author.Tests.{eqb-true, eqb-false, ltb-true, ltb-false}
+use Rattle.std.specs.List.{position, position_or_len}
+use Rattle.std.specs.Option.{unwrap_or}
+use Rattle.std.proofs.lemmas.List.Sums.{fails_before_first, passes_at_first}
 use Rattle.model.specs.declared.Cap.{Cap}
 use Rattle.model.specs.Lists.{any}
 use Rattle.model.specs.Table.{named}
-use Rattle.table.specs.Rows.{name_at, before, Rise, Found}
+use Rattle.table.specs.Words.{cap_of, rows_in}
+use Rattle.table.specs.Rows.{name_at, before, Rise, Front, Found}
 use Rattle.model.proofs.Offered.{test, clash}
-use Rattle.table.proofs.Laws.Prefix.{none_named}
+use Rattle.table.proofs.Laws.Prefix.{none_named, not_zero}
+use Rattle.table.proofs.Laws.Words.{in_at}
+
+-- ---- the first row with name 0
+
+abbrev pub nameless : List ℕ → Bool
+nameless w = eqb (cap_of w).name.0 0
+
+pub front_of : (ws : List (List ℕ)) → Front (rows_in ws) (length ws) (unwrap_or (position nameless ws) (length ws))
+front_of ws = go (test (ltb n (length ws)))
+  where
+    n : ℕ
+    n = position_or_len nameless ws
+
+    named_before : (j : ℕ) → j < n → 0 < name_at (rows_in ws) j
+    named_before j l = rw (name_at, in_at ws j) (not_zero _ (eqb-false _ 0 (fails_before_first nameless ws j [] l)))
+
+    go : (ltb n (length ws) ≡ true) ⊎ (ltb n (length ws) ≡ false) → Front (rows_in ws) (length ws) (unwrap_or (position nameless ws) (length ws))
+    go (inl t) = rw t (record { fits = omega (arith, ltb-true n (length ws) t); filled = named_before; stop = λ l. rw (name_at, in_at ws n) (eqb-true _ 0 (passes_at_first nameless ws [] l)) })
+    go (inr f) = rw f (record { fits = omega arith; filled = λ j l. named_before j (omega (arith, ltb-false n (length ws) f)); stop = λ l. absurd (omega arith) })
+
+-- ---- a name among names that rise
 
 -- the name x, if it is there, is at one of `size` places from `base` on
 pub record Halving (T : List Cap) (k x base size : ℕ) : Type 0 where

@@ -1,15 +1,15 @@
 -- Names dropped together: whether they rise strictly, and the first of them that is refused, each a step of a loop.
 -- Assumes nothing.
-use mathlib.Core.Path.{◌≡◌, refl}
-use mathlib.Core.Bool.{false, true}
+use mathlib.Core.Path.{◌≡◌, refl, sym}
+use mathlib.Core.Bool.{Bool, false, true, and-false}
 use mathlib.Core.List.{List, [], ◌∷◌}
 use Prim.Native.Nat.{ℕ, zero, suc, ◌+◌, ◌≤◌, ◌<◌}
 use native.Mathlib.Numerals.{add-one}
 use native.Mathlib.Omega.{arith}
-use lib.Dec.{eqb}
+use lib.Dec.{eqb, ltb}
 use lib.ListN.{length, get_or, drop, drop_of_length-le}
 use lib.Seq.{drop-cons}
-use borrow.Author.Tests.{lt-ltb, le-ltb}
+use Rattle.std.specs.List.{IsAllAdjacentAnswer}
 use Rattle.model.specs.declared.Cap.{Cap}
 use Rattle.model.specs.Lists.{first}
 use Rattle.model.specs.Refusals.{standing, standings}
@@ -18,23 +18,22 @@ use Rattle.model.proofs.Offered.{clash, name_refused, name_passed}
 
 -- ---- names that rise
 
-pub rises_first : (names : List ℕ) → 1 ≤ length names → rises_above (get_or names 0 0) (drop 1 names) ≡ rises_strictly names
+rises_all : (x : ℕ) (xs : List ℕ) → ((k : ℕ) → suc k < length (x ∷ xs) → ltb (get_or (x ∷ xs) k 0) (get_or (x ∷ xs) (suc k) 0) ≡ true) → rises_above x xs ≡ true
+unfolding rises_above
+rises_all x [] h = refl
+rises_all x (y ∷ ys) h = rw (h 0 (omega arith)) (rises_all y ys (λ k l. h (suc k) (omega arith)))
+
+rises_not : (x : ℕ) (xs : List ℕ) (k : ℕ) → suc k < length (x ∷ xs) → ltb (get_or (x ∷ xs) k 0) (get_or (x ∷ xs) (suc k) 0) ≡ false → rises_above x xs ≡ false
+unfolding rises_above
+rises_not x [] k l e = absurd (omega arith)
+rises_not x (y ∷ ys) zero l e = rw e
+rises_not x (y ∷ ys) (suc k) l e = rw (rises_not y ys k (omega arith) e) (and-false (ltb x y))
+
+pub rises_told : (names : List ℕ) (r : Bool) → 1 ≤ length names → IsAllAdjacentAnswer (λ x y b. b ≡ ltb x y) names r → r ≡ rises_strictly names
 unfolding rises_strictly
-rises_first [] h = absurd (let l : 1 ≤ 0 = h in omega arith)
-rises_first (x ∷ xs) h = refl
-
-module _ (names : List ℕ) (i x : ℕ) where
-  pub rises_stop : i < length names → get_or names i 0 ≤ x → rises_above x (drop i names) ≡ false
-  unfolding rises_above
-  rises_stop h l = rw (drop-cons names i 0, le-ltb x (get_or names i 0) l)
-
-  pub rises_on : i < length names → x < get_or names i 0 → rises_above x (drop i names) ≡ rises_above (get_or names i 0) (drop (i + 1) names)
-  unfolding rises_above
-  rises_on h l = rw (drop-cons names i 0, lt-ltb x (get_or names i 0) l, add-one)
-
-  pub rises_end : length names ≤ i → rises_above x (drop i names) ≡ true
-  unfolding rises_above
-  rises_end h = rw (drop_of_length-le names h)
+rises_told [] r h a = absurd (let l : 1 ≤ 0 = h in omega arith)
+rises_told (x ∷ xs) true h a = sym (rises_all x xs (λ k l. sym (rw add-one at (a k 0 (omega arith)))))
+rises_told (x ∷ xs) false h a = sym (rises_not x xs a.0 (omega (arith, a.1)) (sym (rw add-one at (a.2 0))))
 
 -- ---- names in turn
 

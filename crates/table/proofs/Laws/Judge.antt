@@ -1,5 +1,6 @@
 -- The checks of an event in their order: groups of them, one after the other.
 -- Assumes nothing.
+use Rattle.std.specs.Prelude.{Err, Ok, Option, Result}
 use mathlib.Core.Path.{◌≡◌, refl, sym, ap, ap₂, ◌∙◌}
 use mathlib.Core.Logic.{◌⊎◌, inl, inr}
 use mathlib.Core.Bool.{Bool, true, false, not, cond, ◌||◌}
@@ -12,14 +13,11 @@ use lib.ListN.{length, get_or, drop, length-drop}
 use lib.Seq.{get_or-drop}
 use borrow.Author.Tests.{eqb-true, eq-eqb, not-false, ltb-true, ne_eqb, le-ltb, lt-ltb, leb-true, le-leb, lt-leb}
 use Rattle.model.specs.declared.Name.{Name}
-use Rattle.model.specs.declared.NewName.{NewName}
 use Rattle.model.specs.declared.Span.{Span}
 use Rattle.model.specs.declared.Cap.{Cap}
 use Rattle.model.specs.declared.Terms.{Terms}
 use Rattle.model.specs.declared.Refusal.{Refusal}
 use Rattle.model.specs.declared.Refusal.TheVariants.{Disordered, Misspelt, IllegalSpan, Unissued, Ended, OutsideSpan, ReadOnly, TooDeep, NamesSpent, TableFull, BufferTooShort, Misnamed, Misgrouped, GivenTwice, NotGiven, NotWritten, NoHolder, LimitReached, NothingStored}
-use Rattle.table.specs.declared.judge.Place.{Place}
-use Rattle.table.specs.declared.judge.Place.TheVariants.{At, Not}
 use Rattle.model.specs.Lists.{first, any, all}
 use Rattle.model.specs.Bits.{has_bit, bit_at, span_written}
 use Rattle.model.specs.Limits.{refused_sheet}
@@ -105,9 +103,9 @@ module _ (rows : List Cap) (issued actor : ℕ) (u : Name) (s : Span) (r : ℕ) 
     serve i l = serve_rest ∙ rw (f, i, le-ltb c.right r l)
 
 -- the answer of what a place passes
-pub passed : (T : List Cap) (k x : ℕ) (cs : List (ℕ × Bool)) (p : Place) → Passes T k x cs p → said_of p ≡ verdict (first cs) 0
-passed T k x cs (At q) h = rw h.0
-passed T k x cs (Not r) h = rw (h, numbered r)
+pub passed : (T : List Cap) (k x : ℕ) (cs : List (ℕ × Bool)) (p : Result ℕ Refusal) → Passes T k x cs p → said_of p ≡ verdict (first cs) 0
+passed T k x cs (Ok q) h = rw h.0
+passed T k x cs (Err r) h = rw (h, numbered r)
 
 -- ---- a table in order
 
@@ -199,7 +197,7 @@ child_domain actor r h =
     let m = or_neither (not (eqb r.fresh 0)) (unfit_mask actor r) q.1 in
     ltb-true actor 64 (not-false (is_domain actor) (or_neither (not_a_domain actor) (not (has_bit r.holders actor)) m.1).0)
 
-module _ (T : List Cap) (n k issued : ℕ) (limits : Limits) (actor : ℕ) (w : NewName) (u : Name) (s : Span) (right : ℕ) where
+module _ (T : List Cap) (n k issued : ℕ) (limits : Limits) (actor : ℕ) (w : Option Name) (u : Name) (s : Span) (right : ℕ) where
   abbrev rest : List (ℕ × Bool)
   rest = (8, too_deep (before T k) issued u) ∷ room_for T k n issued limits actor w
 
@@ -235,7 +233,7 @@ module _ (T : List Cap) (n k issued : ℕ) (o : Orderly T n k issued) (is_writte
   pub read_not : (x : Refusal) → first (usable (before T k) issued actor u s 1) ≡ number x → first_read ≡ number x
   read_not x e = read_append ∙ rw (e, numbered x)
 
-  module _ (q : ℕ) (p : Serves T k issued actor u s 1 (At q)) where
+  module _ (q : ℕ) (p : Serves T k issued actor u s 1 (Ok q)) where
     found : lookup u.0 (before T k) ≡ get_or T q empty_row
     found = (lookup_place T k q u.0 (orderly_rise T n k issued o) p.1 p.2).1
 

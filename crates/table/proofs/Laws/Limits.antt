@@ -2,27 +2,36 @@
 -- Assumes nothing.
 use mathlib.Core.Path.{◌≡◌, refl, sym, ap, ◌∙◌}
 use mathlib.Core.Logic.{◌⊎◌, inl, inr}
-use mathlib.Core.Bool.{Bool, true, false, cond}
+use mathlib.Core.Bool.{Bool, true, false, not, cond, ◌&&◌, ◌||◌}
 use mathlib.Core.List.{List, [], ◌∷◌}
 use Prim.Native.Nat.{ℕ, zero, suc, ◌+◌, ◌≤◌, ◌<◌}
 use native.Mathlib.Numerals.{add-one}
 use native.Mathlib.Omega.{arith}
-use lib.Dec.{eqb, leb}
-use lib.ListN.{length, get_or, set, drop, replicate, length-set, length-replicate, drop_of_length-le}
+use lib.Dec.{eqb, leb, ltb}
+use lib.ListN.{length, get_or, set, take, drop, replicate, length-set, length-replicate}
 use lib.Seq.{drop-cons, get_or-set_same, get_or-set_other}
-use borrow.Author.Tests.{eqb-true, eqb-false, eq-eqb, ne_eqb, le-ltb, lt-ltb, ltb-true}
+use borrow.Author.Tests.{lt-leb, le-leb, ltb-false, eqb-true, eqb-false, eq-eqb, ne_eqb, le-ltb, lt-ltb, ltb-true}
+use Rattle.std.specs.List.{count_by, list_all, zip}
+use Rattle.std.specs.List
+use Rattle.std.proofs.lemmas.List.Sums.{sum_by-cons, sum_by_more}
 use Rattle.model.specs.declared.Cap.{Cap}
 use Rattle.model.specs.Lists.{cons_if, filter}
 use Rattle.model.specs.Table.{empty_row, derivation, live_rows}
 use Rattle.model.specs.Requests.{Limited}
 use Rattle.model.specs.Limits.{made_by, made, sum, exceeds, refused_sheet, limit_reached, no_row}
 use Rattle.model.proofs.Offered.{test, fitting, place, length_filter}
+use Rattle.table.specs.Words.{cap_of, rows_in}
 use Rattle.table.specs.Rows.{before, Orderly}
 use Rattle.table.specs.Limits.{limits_in, Makers, Counts, exceeds_by}
 use Rattle.table.proofs.Laws.Prefix.{before_suc, length_before}
+use Rattle.table.proofs.Laws.Words.{in_at}
 use Rattle.table.proofs.Laws.Judge.{orderly_row}
 
 -- ---- one domain
+
+none_made : (T : List Cap) (d : ℕ) → 0 ≡ made d (before T 0)
+unfolding before
+none_made T d = refl
 
 -- one row more
 pub made_more : (T : List Cap) (i d : ℕ) → made d (before T (i + 1)) ≡ cond (eqb d (get_or T i empty_row).maker) (suc (made d (before T i))) (made d (before T i))
@@ -31,6 +40,29 @@ made_more T i d = ap (made d) (before_suc T i) ∙ go (made_by d (get_or T i emp
     go : (b : Bool) → length (cons_if b (get_or T i empty_row) (filter (made_by d) (before T i))) ≡ cond b (suc (made d (before T i))) (made d (before T i))
     go true = refl
     go false = refl
+
+-- the rows of words that are the domain's
+pub made_counted : (ws : List (List ℕ)) (d k : ℕ) → k ≤ length ws → count_by (λ w. eqb (cap_of w).maker d) (take k ws) ≡ made d (before (rows_in ws) k)
+made_counted ws d zero l = none_made (rows_in ws) d
+made_counted ws d (suc k) l = rw add-one at (more (made_counted ws d k (omega arith)))
+  where
+    T : List Cap
+    T = rows_in ws
+
+    one_more : (m n : ℕ) → n + cond (eqb m d) 1 0 ≡ cond (eqb d m) (suc n) n
+    one_more m n = go (test (eqb m d))
+      where
+        go : (eqb m d ≡ true) ⊎ (eqb m d ≡ false) → n + cond (eqb m d) 1 0 ≡ cond (eqb d m) (suc n) n
+        go (inl t) = rw (t, eq-eqb d m (sym (eqb-true m d t))) (add-one n)
+        go (inr f) = rw (f, ne_eqb d m (λ e. eqb-false m d f (sym e))) (omega arith)
+
+    more : count_by (λ w. eqb (cap_of w).maker d) (take k ws) ≡ made d (before T k) → count_by (λ w. eqb (cap_of w).maker d) (take (k + 1) ws) ≡ made d (before T (k + 1))
+    more e =
+        sum_by_more (λ w. cond (eqb (cap_of w).maker d) 1 0) ws k [] (omega arith)
+        ∙ ap (λ (n : ℕ). n + cond (eqb (cap_of (get_or ws k [])).maker d) 1 0) e
+        ∙ one_more (cap_of (get_or ws k [])).maker (made d (before T k))
+        ∙ ap (λ (r : Cap). cond (eqb d r.maker) (suc (made d (before T k))) (made d (before T k))) (sym (in_at ws k))
+        ∙ sym (made_more T k d)
 
 pub made_few : (T : List Cap) (i d : ℕ) → made d (before T i) ≤ i
 made_few T i d = omega (arith, length_filter (made_by d) (before T i), length_before T i)
@@ -72,29 +104,33 @@ module _ (T : List Cap) (k : ℕ) (counts : List ℕ) (c : Counts T k counts) wh
   exceeds_counts [] d e = refl
   exceeds_counts (l ∷ limits) d e = rw (c.each d (omega arith), exceeds_counts limits (suc d) (omega arith))
 
-module _ (counts limits : List ℕ) (d : ℕ) (l : d < length limits) where
-  pub exceeds_stop : get_or limits d 0 < get_or counts d 0 → exceeds_by d counts (drop d limits) ≡ true
-  unfolding exceeds_by
-  exceeds_stop m = rw (drop-cons limits d 0, lt-ltb (get_or limits d 0) (get_or counts d 0) m)
+-- each limit is kept
+pub exceeds_each : (counts limits : List ℕ) (d : ℕ) → d + length limits ≡ length counts → list_all (λ p. leb p.1 p.0) (zip limits (drop d counts)) ≡ not (exceeds_by d counts limits)
+unfolding exceeds_by
+exceeds_each counts [] d e = refl
+exceeds_each counts (l ∷ limits) d e =
+    let h : d < length counts = omega arith in
+    rw (drop-cons counts d 0 h, exceeds_each counts limits (suc d) (omega arith), kept l (get_or counts d 0)) (neither (ltb l (get_or counts d 0)) (exceeds_by (suc d) counts limits))
+  where
+    kept : (l n : ℕ) → leb n l ≡ not (ltb l n)
+    kept l n = go (test (ltb l n))
+      where
+        go : (ltb l n ≡ true) ⊎ (ltb l n ≡ false) → leb n l ≡ not (ltb l n)
+        go (inl t) = rw (t, lt-leb n l (ltb-true l n t))
+        go (inr f) = rw (f, le-leb n l (ltb-false l n f))
 
-  pub exceeds_on : get_or counts d 0 ≤ get_or limits d 0 → exceeds_by d counts (drop d limits) ≡ exceeds_by (d + 1) counts (drop (d + 1) limits)
-  unfolding exceeds_by
-  exceeds_on m = rw (drop-cons limits d 0, le-ltb (get_or limits d 0) (get_or counts d 0) m, add-one)
+    neither : (p q : Bool) → not p && not q ≡ not (p || q)
+    neither true q = refl
+    neither false q = refl
 
 pub exceeds_none : (rows : List Cap) (limits : List ℕ) (d : ℕ) → length limits ≡ 0 → exceeds d rows limits ≡ false
 unfolding exceeds
 exceeds_none rows [] d e = refl
 exceeds_none rows (l ∷ limits) d e = absurd (let z : suc (length limits) ≡ 0 = e in omega arith)
 
-pub exceeds_end : (counts limits : List ℕ) (d : ℕ) → length limits ≤ d → exceeds_by d counts (drop d limits) ≡ false
-unfolding exceeds_by
-exceeds_end counts limits d l = rw (drop_of_length-le limits l)
-
-pub sum_on : (limits : List ℕ) (d : ℕ) → d < length limits → sum (drop d limits) ≡ get_or limits d 0 + sum (drop (d + 1) limits)
-sum_on limits d l = rw (drop-cons limits d 0, add-one)
-
-pub sum_end : (limits : List ℕ) (d : ℕ) → length limits ≤ d → sum (drop d limits) ≡ 0
-sum_end limits d l = rw (drop_of_length-le limits l)
+pub sum_same : (limits : List ℕ) → Rattle.std.specs.List.sum limits ≡ sum limits
+sum_same [] = refl
+sum_same (l ∷ limits) = sum_by-cons (λ x. x) l limits ∙ ap (λ (s : ℕ). l + s) (sum_same limits)
 
 -- ---- the sheet that is lent
 

@@ -2,20 +2,21 @@
 -- Assumes nothing.
 use mathlib.Core.Path.{◌≡◌, refl, sym, ap, ◌∙◌}
 use mathlib.Core.Logic.{◌⊎◌, inl, inr}
-use mathlib.Core.Bool.{Bool, true, false, not, ◌&&◌, and-false}
+use mathlib.Core.Bool.{Bool, true, false, not, ◌&&◌, and-false, and_assoc}
 use mathlib.Core.List.{List, [], ◌∷◌, ◌++◌, reverse, reverse-append, reverse-reverse}
-use Prim.Native.Nat.{ℕ, zero, suc, ◌+◌, ◌-◌, ◌≤◌, ◌<◌}
+use Prim.Native.Nat.{ℕ, zero, suc, ◌+◌, ◌-◌, ◌*◌, ◌≤◌, ◌<◌}
 use native.Mathlib.Nat.{not-suc-le-zero, le_of_suc-le-suc}
-use native.Mathlib.Numerals.{add-one}
 use native.Mathlib.Omega.{arith}
 use lib.Dec.{eqb, leb}
 use lib.ListN.{length, get_or, take, drop, replicate, length-drop, take-append-drop, length-replicate, get_or-replicate}
-use lib.Seq.{drop-cons, drop-length, take-suc, ext_get_or, get_or-drop}
-use borrow.Author.Tests.{eq-eqb, leb-true, le-leb, lt-leb, leb-false}
+use lib.Seq.{take-suc, ext_get_or, get_or-drop}
+use lib.Pointwise.{pointwise}
+use borrow.Author.Tests.{eqb-true, eqb-false, ne_eqb, eq-eqb, leb-true, le-leb, lt-leb, leb-false}
+use Rattle.std.specs.List.{list_all}
 use Rattle.model.specs.declared.Cap.{Cap}
 use Rattle.model.specs.Lists.{filter, any, all}
 use Rattle.model.specs.Table.{empty_row, named, live_rows, lent_table, lookup, is_empty_row, live_rows_first, row_in_order, rows_in_order, in_order}
-use Rattle.table.specs.Words.{rows_in}
+use Rattle.table.specs.Words.{cap_of, rows_in}
 use Rattle.table.specs.Rows.{name_at, before, Filled, Rise, Front}
 use Rattle.model.proofs.Offered.{test, clash, unless, and_both, below_differs, empty_row_empty, Rises, rises, risen, rows_in_order_wider}
 use Rattle.table.proofs.Laws.Prefix.{last, before_suc, length_before}
@@ -144,12 +145,37 @@ before_lent T n r b l z =
         let s : j < n - r = omega (arith, long) in
         get_or-drop r T j empty_row ∙ z (r + j) (omega arith) (omega arith) ∙ sym (get_or-replicate (n - r) j empty_row empty_row s))
 
--- one row more is all zeros, or not
-pub empty_row_step : (T : List Cap) (i : ℕ) → i < length T → all is_empty_row (drop i T) ≡ is_empty_row (get_or T i empty_row) && all is_empty_row (drop (i + 1) T)
-empty_row_step T i m = rw (drop-cons T i empty_row m, add-one)
+-- a row of words that are all zeros
+zeros : (w : List ℕ) → length w ≡ 11 → pointwise eqb w (replicate 11 0) ≡ is_empty_row (cap_of w)
+unfolding is_empty_row
+zeros (a ∷ b ∷ c ∷ d ∷ e ∷ f ∷ g ∷ h ∷ i ∷ j ∷ k ∷ []) l = rw (halves j k) (simp and_assoc)
+  where
+    halves : (low high : ℕ) → eqb (low + high * 4294967296) 0 ≡ eqb low 0 && (eqb high 0 && true)
+    halves low high = go (test (eqb low 0)) (test (eqb high 0))
+      where
+        go : (eqb low 0 ≡ true) ⊎ (eqb low 0 ≡ false) → (eqb high 0 ≡ true) ⊎ (eqb high 0 ≡ false) → eqb (low + high * 4294967296) 0 ≡ eqb low 0 && (eqb high 0 && true)
+        go (inl p) (inl q) = rw (p, q) (eq-eqb (low + high * 4294967296) 0 (omega (arith, eqb-true low 0 p, eqb-true high 0 q)))
+        go (inl p) (inr q) = rw (p, q) (ne_eqb (low + high * 4294967296) 0 (λ e. eqb-false high 0 q (omega arith)))
+        go (inr p) q = rw p (ne_eqb (low + high * 4294967296) 0 (λ e. eqb-false low 0 p (omega arith)))
+zeros ([]) l = absurd (omega arith)
+zeros (a ∷ []) l = absurd (omega arith)
+zeros (a ∷ b ∷ []) l = absurd (omega arith)
+zeros (a ∷ b ∷ c ∷ []) l = absurd (omega arith)
+zeros (a ∷ b ∷ c ∷ d ∷ []) l = absurd (omega arith)
+zeros (a ∷ b ∷ c ∷ d ∷ e ∷ []) l = absurd (omega arith)
+zeros (a ∷ b ∷ c ∷ d ∷ e ∷ f ∷ []) l = absurd (omega arith)
+zeros (a ∷ b ∷ c ∷ d ∷ e ∷ f ∷ g ∷ []) l = absurd (omega arith)
+zeros (a ∷ b ∷ c ∷ d ∷ e ∷ f ∷ g ∷ h ∷ []) l = absurd (omega arith)
+zeros (a ∷ b ∷ c ∷ d ∷ e ∷ f ∷ g ∷ h ∷ i ∷ []) l = absurd (omega arith)
+zeros (a ∷ b ∷ c ∷ d ∷ e ∷ f ∷ g ∷ h ∷ i ∷ j ∷ []) l = absurd (omega arith)
+zeros (a ∷ b ∷ c ∷ d ∷ e ∷ f ∷ g ∷ h ∷ i ∷ j ∷ k ∷ m ∷ w) l = absurd (omega arith)
 
-pub empty_row_end : (T : List Cap) (i : ℕ) → i ≡ length T → all is_empty_row (drop i T) ≡ true
-empty_row_end T i e = rw (e, drop-length)
+pub empty_rows : (ws : List (List ℕ)) → ((i : ℕ) → i < length ws → length (get_or ws i []) ≡ 11) → (k : ℕ) → list_all (λ w. pointwise eqb w (replicate 11 0)) (drop k ws) ≡ all is_empty_row (drop k (rows_in ws))
+unfolding rows_in
+empty_rows [] h zero = refl
+empty_rows [] h (suc k) = refl
+empty_rows (w ∷ ws) h zero = rw (zeros w (h 0 (omega arith))) (ap (◌&&◌ (is_empty_row (cap_of w))) (empty_rows ws (λ i l. h (suc i) (omega arith)) 0))
+empty_rows (w ∷ ws) h (suc k) = empty_rows ws (λ i l. h (suc i) (omega arith)) k
 
 -- k of the n rows are live
 module _ (T : List Cap) (n k : ℕ) (h : Front T n k) (l : length T ≡ n) where

@@ -1,11 +1,15 @@
 -- Laws of a sheet's bytes: each combination has its own place.
 -- Assumes nothing.
-use mathlib.Core.Path.{◌≡◌, refl, sym, ap, ◌∙◌}
+use mathlib.Core.Path.{◌≡◌, refl, sym, ap, subst, ◌∙◌}
+use mathlib.Core.Logic.{◌⊎◌, inl, inr}
+use mathlib.Core.Bool.{true, false}
 use mathlib.Core.List.{List, [], ◌∷◌, ◌++◌}
-use Prim.Native.Nat.{ℕ, zero, suc, ◌+◌, ◌<◌, ◌≤◌}
+use Prim.Native.Nat.{ℕ, zero, suc, ◌+◌, ◌<◌, ◌≤◌, min}
 use native.Mathlib.Omega.{arith}
+use denote.Param.Members.{Mut, Called}
+use lib.Dec.{eqb}
 use lib.ListN.{length, get_or, set, replicate, length-set, get_or-replicate}
-use lib.Seq.{get_or-set_same, get_or-set_other}
+use borrow.Author.Tests.{eqb-true, eqb-false}
 use Rattle.model.specs.declared.Access.{Access}
 use Rattle.model.specs.declared.Access.TheVariants.{Reading, Writing}
 use Rattle.model.specs.declared.Effect.{Effect}
@@ -17,30 +21,15 @@ use Rattle.model.specs.declared.Origin.{Origin}
 use Rattle.model.specs.declared.Origin.TheVariants.{Cell, Kin, Stranger}
 use Rattle.model.specs.Strike.{result_of}
 use Rattle.model.specs.Sheet6.{sheet6}
-use Rattle.table.specs.Sheets.{effect_in, result_in, sheet_in, sheet_lent, holder_number, place_of, weight, with_results, with_conflicts, bytes_of, bytes6}
-use Rattle.table.proofs.Laws.Prefix.{extend}
+use Rattle.table.specs.Sheets.{effect_in, result_in, sheet_in, sheet_lent, place_of, weight, with_results, with_conflicts, bytes_of, bytes6}
+use Rattle.std.specs.Array.{IsFromFnResultFrom}
+use Rattle.model.proofs.Offered.{test}
 
 -- a list that is filled up with one value has that one where the list has none
 filled : (xs : List ℕ) (n i d : ℕ) → i < n → get_or (xs ++ replicate n d) i 0 ≡ get_or xs i d
 filled [] n i d h = get_or-replicate n i d 0 h
 filled (x ∷ xs) n zero d h = refl
 filled (x ∷ xs) n (suc i) d h = filled xs n i d (omega arith)
-
--- what stands behind a list does not count within it, and alone counts past its end
-pub value_within : (xs : List ℕ) (i d e : ℕ) → i < length xs → get_or xs i d ≡ get_or xs i e
-value_within [] i d e h = absurd (omega arith)
-value_within (x ∷ xs) zero d e h = refl
-value_within (x ∷ xs) (suc i) d e h = value_within xs i d e (omega arith)
-
-pub value_past : (xs : List ℕ) (i d : ℕ) → length xs ≤ i → get_or xs i d ≡ d
-value_past [] i d h = refl
-value_past (x ∷ xs) zero d h = absurd (omega arith)
-value_past (x ∷ xs) (suc i) d h = value_past xs i d (omega arith)
-
-pub holder_other : (kind : ℕ) → (kind ≡ 0 → ⊥) → (kind ≡ 1 → ⊥) → 2 ≡ holder_number kind
-holder_other zero a b = absurd (a refl)
-holder_other (suc zero) a b = absurd (b refl)
-holder_other (suc (suc kind)) a b = refl
 
 -- ---- each combination has its place
 
@@ -66,15 +55,10 @@ result_in_lem bytes (suc (suc kind)) Writing Kin = refl
 result_in_lem bytes (suc (suc kind)) Writing Stranger = refl
 
 -- a byte below 2 is the number of its result, any other is 2, that of `end`
-pub weight_small : (b : ℕ) → b < 2 → b ≡ weight (effect_in b)
-weight_small zero h = refl
-weight_small (suc zero) h = refl
-weight_small (suc (suc b)) h = absurd (omega arith)
-
-pub weight_other : (b : ℕ) → 2 ≤ b → 2 ≡ weight (effect_in b)
-weight_other zero h = absurd (omega arith)
-weight_other (suc zero) h = absurd (omega arith)
-weight_other (suc (suc b)) h = refl
+pub weight_least : (b : ℕ) → min b 2 ≡ weight (effect_in b)
+weight_least zero = refl
+weight_least (suc zero) = refl
+weight_least (suc (suc b)) = omega arith
 
 pub weight_at : (bytes : List ℕ) (kind : ℕ) (a : Access) (from : Origin) (place : ℕ) → place ≡ place_of kind a from → weight (effect_in (get_or bytes place 0)) ≡ weight (result_of (sheet_in bytes) kind a from)
 weight_at bytes kind a from place e = ap (λ (i : ℕ). weight (result_in bytes i)) e ∙ ap (λ (r : Effect). weight r) (sym (result_in_lem bytes kind a from))
@@ -154,24 +138,23 @@ none_lent = refl
 
 -- ---- the bytes that are lent, one after the other
 
--- of the bytes, the first i are those that are lent
-pub record Taking (lent bytes : List ℕ) (i : ℕ) : Type 0 where
-  pub long : length bytes ≡ 18
-  pub each : (j : ℕ) → j < i → get_or bytes j 0 ≡ get_or lent j 2
+-- an array that is made place by place, by a function that is only called
+pub made_at : {F : Type 0} (g : Mut F (ℕ × Unit {0}) ℕ) (v : ℕ → ℕ) (f : F) → ((i y : ℕ) (q : F) → Called g f (i, tt) y q → (y ≡ v i) × (q ≡ f)) → (bytes : List ℕ) (i n : ℕ) → IsFromFnResultFrom g f bytes i n → (j : ℕ) → i ≤ j → j < i + n → get_or bytes j 0 ≡ v j
+made_at g v f h bytes i zero m j a b = absurd (omega arith)
+made_at g v f h bytes i (suc n) m j a b = go (test (eqb j i)) (λ o. made_at g v f h bytes (i + 1) n (subst (λ p. IsFromFnResultFrom g p bytes (i + 1) n) first.1 m.4) j (omega arith) (omega arith))
+  where
+    first : (m.1 ≡ v i) × (m.0 ≡ f)
+    first = h i m.1 m.0 m.3
 
-pub taking_more : (lent bytes : List ℕ) (i : ℕ) → i < 18 → Taking lent bytes i → Taking lent (set bytes i (get_or lent i 2)) (i + 1)
-taking_more lent bytes i l t =
-    record {
-      long = length-set bytes i (get_or lent i 2) ∙ t.long;
-      each = extend (λ j. get_or (set bytes i (get_or lent i 2)) j 0 ≡ get_or lent j 2) i
-          (λ j b. get_or-set_other bytes i j (get_or lent i 2) 0 (λ e. omega arith) ∙ t.each j b)
-          (get_or-set_same bytes i (get_or lent i 2) 0 (omega (arith, t.long)));
-    }
+    go : (eqb j i ≡ true) ⊎ (eqb j i ≡ false) → ((j ≡ i → ⊥) → get_or bytes j 0 ≡ v j) → get_or bytes j 0 ≡ v j
+    go (inl t) rest = rw (eqb-true j i t) (m.2.1 0 ∙ first.0)
+    go (inr t) rest = rest (eqb-false j i t)
 
-pub taken_all : (lent bytes : List ℕ) → (length lent ≡ 0 → ⊥) → Taking lent bytes 18 → sheet_in bytes ≡ sheet_lent lent
+-- a sheet of which each byte is the one that is lent, or 2 for one that is missing
+pub taken_all : (lent bytes : List ℕ) → (length lent ≡ 0 → ⊥) → ((i : ℕ) → i < 18 → get_or bytes i 0 ≡ get_or lent i 2) → sheet_in bytes ≡ sheet_lent lent
 unfolding sheet_lent
 taken_all [] bytes h t = absurd (h refl)
-taken_all (b ∷ lent) bytes h t = same_sheet bytes ((b ∷ lent) ++ replicate 18 2) (λ i l. t.each i l ∙ sym (filled (b ∷ lent) 18 i 2 l))
+taken_all (b ∷ lent) bytes h t = same_sheet bytes ((b ∷ lent) ++ replicate 18 2) (λ i l. t i l ∙ sym (filled (b ∷ lent) 18 i 2 l))
 
 pub taken_none : (lent : List ℕ) → length lent ≡ 0 → sheet_in bytes6 ≡ sheet_lent lent
 taken_none [] h = bytes6_is ∙ sym none_lent

@@ -1,5 +1,6 @@
 -- What is stored: a table of which the live rows are kept, and the memory that it lies in.
 -- Assumes nothing.
+use Rattle.std.specs.Prelude.{None, Option, Some}
 use mathlib.Core.Path.{◌≡◌, refl, sym, ap, ap₂, subst, ◌∙◌}
 use mathlib.Core.Logic.{◌⊎◌, inl, inr}
 use mathlib.Core.Bool.{Bool, true, false, not, cond, ◌&&◌, ◌||◌, or-true}
@@ -24,8 +25,6 @@ use Rattle.model.proofs.Offered.{test, and_both, all_append, length_lent}
 use Rattle.table.specs.Words.{cap_of, rows_in}
 use Rattle.table.specs.Rows.{before, Places, Orderly}
 use Rattle.table.specs.Limits.{limits_in, LimitsFor}
-use Rattle.table.specs.declared.ordered.Look.{Look}
-use Rattle.table.specs.declared.ordered.Look.TheVariants.{InOrder, Disordered}
 use Rattle.table.specs.Known.{Known, Finds, FindsAll}
 use Rattle.table.specs.States.{head_of, kept_rows, table_by, table_at, state_at, is_memory, states_in, emptied, Kept}
 use Rattle.table.proofs.Laws.Words.{length_in_lem}
@@ -235,9 +234,9 @@ states_unfit limits ws bits stored copies issued m = rw (m, or-true, or-true)
 pub states_fit : (limits : Limits) (table : List Cap) (bits : List ℕ) (slots : List (Slot Memory)) (issued : ℕ) → length slots ≡ 8 → unfit limits (view_of table bits unstored issued) ≡ unfit limits (view_of table bits slots issued)
 states_fit limits table bits slots issued e = rw e
 
-pub found_all : (ws : List (List ℕ)) (bits : List ℕ) (stored : List (List ℕ)) (copies : List ℕ) (issued : ℕ) (limits places : List ℕ) (r : Look) → is_memory stored copies ≡ true → Finds ws bits issued limits places r → FindsAll ws bits stored copies issued limits places r
-found_all ws bits stored copies issued limits places (InOrder live) m f = record { fit = f; memory = m }
-found_all ws bits stored copies issued limits places Disordered m f = sym (states_fit (limits_in limits) (rows_in ws) bits (states_in stored copies) issued (states_eight stored copies m)) ∙ f
+pub found_all : (ws : List (List ℕ)) (bits : List ℕ) (stored : List (List ℕ)) (copies : List ℕ) (issued : ℕ) (limits places : List ℕ) (r : Option ℕ) → is_memory stored copies ≡ true → Finds ws bits issued limits places r → FindsAll ws bits stored copies issued limits places r
+found_all ws bits stored copies issued limits places (Some live) m f = record { fit = f; memory = m }
+found_all ws bits stored copies issued limits places None m f = sym (states_fit (limits_in limits) (rows_in ws) bits (states_in stored copies) issued (states_eight stored copies m)) ∙ f
 
 -- ---- slots that are emptied
 

@@ -4,6 +4,7 @@
 -- is left out". Lines that differ in the mask alone differ in these digits alone, or in the space before them and them; and a create or borrow with a
 -- mask without its maker has no line.
 -- Assumes nothing.
+use Rattle.std.specs.Prelude.{Option}
 use mathlib.Core.Path.{◌≡◌, refl, ap, ◌∙◌}
 use mathlib.Core.Bool.{true, false}
 use mathlib.Core.List.{List, [], ◌∷◌, ◌++◌, append_assoc}
@@ -15,7 +16,6 @@ use Rattle.model.specs.Bits.{has_bit}
 use Rattle.model.specs.declared.Name.{Name}
 use Rattle.model.specs.declared.Span.{Span}
 use Rattle.model.specs.declared.Terms.{Terms}
-use Rattle.model.specs.declared.NewName.{NewName}
 use Rattle.model.specs.declared.Event.{Event}
 use Rattle.model.specs.declared.Event.TheVariants.{Create, Borrow, Read, Write, Drop}
 use Rattle.text.specs.Result.{value, refused}
@@ -86,7 +86,7 @@ module _ (actor : ℕ) (some : 0 < actor) where
   back_acts k = acts back_word (spaced (k ∷ [])) [] refl refl
 
   -- creates and borrows with masks that are spelled alike
-  module _ (w : NewName) (s : Span) (right kind fresh mine theirs : ℕ) (alike : mask_word actor theirs ≡ mask_word 0 mine) where
+  module _ (w : Option Name) (s : Span) (right kind fresh mine theirs : ℕ) (alike : mask_word actor theirs ≡ mask_word 0 mine) where
     words : List ℕ
     words = right_word right ++ (kind_word kind ++ (fresh_word fresh ++ mask_word 0 mine))
 
@@ -149,7 +149,7 @@ module _ (actor : ℕ) (event : ℕ → Event) (start : List ℕ) (cut : (mask :
         shared = λ mask h. cut mask ∙ ap (λ (m : List ℕ). start ++ (m ++ back actor)) (other_written actor mask h);
       }
 
-module _ (actor : ℕ) (w : NewName) (s : Span) (right : ℕ) where
+module _ (actor : ℕ) (w : Option Name) (s : Span) (right : ℕ) where
   -- what stands before the mask
   until : (word numbers kind fresh last : List ℕ)
       → front actor ++ (word ++ (numbers ++ (right_word right ++ (kind ++ (fresh ++ last))))) ≡ (front actor ++ (word ++ (numbers ++ (right_word right ++ (kind ++ fresh))))) ++ last
@@ -178,14 +178,14 @@ module _ (k : Spelling) (line : List ℕ) (actor : ℕ) (event : ℕ → Event) 
   shared_read mask other h = (read_is_spelling k line actor (event mask) h).2 ∙ ends.shared mask other
 
 -- "or a mask without its maker, is 2 in an event": it has no line.
-module _ (k : Spelling) (actor : ℕ) (w : NewName) (s : Span) (r : Terms) (none : has_bit r.holders actor ≡ false) where
+module _ (k : Spelling) (actor : ℕ) (w : Option Name) (s : Span) (r : Terms) (none : has_bit r.holders actor ≡ false) where
   pub create_without_maker : (out : List ℕ) → write_event k actor (Create w s r) out ≡ record { answer = refused 2; buffer = out }
   create_without_maker = unspelled k actor (Create w s r) (λ t. clash (root_terms_lem k actor w s r t).holder none)
 
   pub borrow_without_maker : (n : Name) (out : List ℕ) → write_event k actor (Borrow w n s r) out ≡ record { answer = refused 2; buffer = out }
   borrow_without_maker n = unspelled k actor (Borrow w n s r) (λ t. clash (child_terms_lem k actor w s r n t).holder none)
 
-module _ (k : Spelling) (actor : ℕ) (w : NewName) (s : Span) (r : Terms) (line : List ℕ) where
+module _ (k : Spelling) (actor : ℕ) (w : Option Name) (s : Span) (r : Terms) (line : List ℕ) where
   pub create_has_maker : read_event k line ≡ value (actor, Create w s r) → has_bit r.holders actor ≡ true
   create_has_maker h = (root_read k actor w s r line h).holder
 

@@ -1,11 +1,11 @@
 -- Examples of lines, of document 01 and of cards 1, 5, 6 and 9 to 11, computed by the definitions. The program `text_cases` runs these and more on the code.
 -- Assumes nothing.
+use Rattle.std.specs.Prelude.{None, Some}
 use mathlib.Core.Path.{◌≡◌, refl}
 use mathlib.Core.List.{List, [], ◌∷◌, map}
 use Prim.Native.Nat.{ℕ, ◌+◌, ◌^◌}
 use Prim.Native.String.{String}
 use lib.ListN.{length, replicate}
-use Rattle.model.specs.declared.NewName.TheVariants.{Unwritten, Written}
 use Rattle.text.specs.declared.spelling.Spelling.TheVariants.{Plain, Named}
 use Rattle.model.specs.declared.Event.{Event}
 use Rattle.model.specs.declared.Event.TheVariants.{Create, Borrow, Read, Write, Drop}
@@ -34,8 +34,8 @@ by actor e = value (actor, e)
 
 -- a line of each kind
 good : readings Plain ("(create 4294967295 1 rw)\n" ∷ "(borrow 1 16 16 ro)\n" ∷ "(read 1 0 4)\n" ∷ "(write 2 0 8)\n" ∷ "(drop 1)\n" ∷ [])
-    ≡ by 0 (Create Unwritten (span 4294967295 1) (terms 2 0 0))
-    ∷ by 0 (Borrow Unwritten (name 1) (span 16 16) (terms 1 0 0))
+    ≡ by 0 (Create None (span 4294967295 1) (terms 2 0 0))
+    ∷ by 0 (Borrow None (name 1) (span 16 16) (terms 1 0 0))
     ∷ by 0 (Read (name 1) (span 0 4))
     ∷ by 0 (Write (name 2) (span 0 8))
     ∷ by 0 (Drop (name 1))
@@ -45,8 +45,8 @@ good = refl
 
 -- card 1: a line of each kind with names written out
 named : readings Named ("(create 1 0 64 rw)\n" ∷ "(borrow 2 1 0 8 rw)\n" ∷ "(read 1 0 8)\n" ∷ "(write 2 0 8)\n" ∷ "(drop 1)\n" ∷ [])
-    ≡ by 0 (Create (Written (name 1)) (span 0 64) (terms 2 0 0))
-    ∷ by 0 (Borrow (Written (name 2)) (name 1) (span 0 8) (terms 2 0 0))
+    ≡ by 0 (Create (Some (name 1)) (span 0 64) (terms 2 0 0))
+    ∷ by 0 (Borrow (Some (name 2)) (name 1) (span 0 8) (terms 2 0 0))
     ∷ by 0 (Read (name 1) (span 0 8))
     ∷ by 0 (Write (name 2) (span 0 8))
     ∷ by 0 (Drop (name 1))
@@ -56,22 +56,22 @@ named = refl
 
 -- card 6: borrows of each kind, with names written out and without; proofs/Laws/Rights has more, and lines that are refused
 kinds : (readings Plain ("(borrow 1 0 8 rw)\n" ∷ "(borrow 1 0 8 rw raw)\n" ∷ "(borrow 1 0 8 ro cell)\n" ∷ [])
-    ≡ by 0 (Borrow Unwritten (name 1) (span 0 8) (terms 2 0 0))
-    ∷ by 0 (Borrow Unwritten (name 1) (span 0 8) (terms 2 1 0))
-    ∷ by 0 (Borrow Unwritten (name 1) (span 0 8) (terms 1 2 0))
+    ≡ by 0 (Borrow None (name 1) (span 0 8) (terms 2 0 0))
+    ∷ by 0 (Borrow None (name 1) (span 0 8) (terms 2 1 0))
+    ∷ by 0 (Borrow None (name 1) (span 0 8) (terms 1 2 0))
     ∷ [])
     × (readings Named ("(borrow 2 1 0 8 ro raw)\n" ∷ "(borrow 2 1 0 8 ro cell)\n" ∷ [])
-    ≡ by 0 (Borrow (Written (name 2)) (name 1) (span 0 8) (terms 1 1 0))
-    ∷ by 0 (Borrow (Written (name 2)) (name 1) (span 0 8) (terms 1 2 0))
+    ≡ by 0 (Borrow (Some (name 2)) (name 1) (span 0 8) (terms 1 1 0))
+    ∷ by 0 (Borrow (Some (name 2)) (name 1) (span 0 8) (terms 1 2 0))
     ∷ [])
 unfolding read_event guess through class_of number_from same has_spelling writes_name has_bit spell form spaced decimal numeral hex hex_from
 kinds = (refl, refl)
 
 -- card 9: creates with the word `fresh`, with names written out and without, and each spelling's line in the other
 fresh : (readings Plain ("(create 0 8 rw fresh)\n" ∷ "(create 0 8 ro fresh)\n" ∷ "(create 1 0 8 rw fresh)\n" ∷ [])
-    ≡ by 0 (Create Unwritten (span 0 8) (terms 2 0 1)) ∷ by 0 (Create Unwritten (span 0 8) (terms 1 0 1)) ∷ refused 2 ∷ [])
+    ≡ by 0 (Create None (span 0 8) (terms 2 0 1)) ∷ by 0 (Create None (span 0 8) (terms 1 0 1)) ∷ refused 2 ∷ [])
     × (readings Named ("(create 1 0 8 rw fresh)\n" ∷ "(create 1 0 8 ro fresh)\n" ∷ "(create 0 8 rw fresh)\n" ∷ [])
-    ≡ by 0 (Create (Written (name 1)) (span 0 8) (terms 2 0 1)) ∷ by 0 (Create (Written (name 1)) (span 0 8) (terms 1 0 1)) ∷ refused 2 ∷ [])
+    ≡ by 0 (Create (Some (name 1)) (span 0 8) (terms 2 0 1)) ∷ by 0 (Create (Some (name 1)) (span 0 8) (terms 1 0 1)) ∷ refused 2 ∷ [])
 unfolding read_event guess through class_of number_from same has_spelling writes_name has_bit spell form spaced decimal numeral hex hex_from
 fresh = (refl, refl)
 
@@ -93,24 +93,24 @@ unfolding write_event written stored has_spelling writes_name has_bit spell form
 no_room = refl
 
 -- refusal 2: an event whose right is neither 1 nor 2
-no_right : write_event Plain 0 (Create Unwritten (span 0 64) (terms 3 0 0)) (replicate 20 0) ≡ record { answer = refused 2; buffer = replicate 20 0 }
+no_right : write_event Plain 0 (Create None (span 0 64) (terms 3 0 0)) (replicate 20 0) ≡ record { answer = refused 2; buffer = replicate 20 0 }
 unfolding write_event written stored has_spelling writes_name has_bit spell form spaced decimal numeral
 no_right = refl
 
 -- refusal 2: a borrow of any other kind
-no_kind : write_event Plain 0 (Borrow Unwritten (name 1) (span 0 8) (terms 2 3 0)) (replicate 25 0) ≡ record { answer = refused 2; buffer = replicate 25 0 }
+no_kind : write_event Plain 0 (Borrow None (name 1) (span 0 8) (terms 2 3 0)) (replicate 25 0) ≡ record { answer = refused 2; buffer = replicate 25 0 }
 unfolding write_event written stored has_spelling writes_name has_bit spell form spaced decimal numeral
 no_kind = refl
 
 -- refusal 2: a create of any other mark or of a kind, and a borrow with a mark
-no_mark : (write_event Plain 0 (Create Unwritten (span 0 8) (terms 2 0 2)) (replicate 25 0) ≡ record { answer = refused 2; buffer = replicate 25 0 })
-    × (write_event Plain 0 (Create Unwritten (span 0 8) (terms 2 1 0)) (replicate 25 0) ≡ record { answer = refused 2; buffer = replicate 25 0 })
-    × (write_event Plain 0 (Borrow Unwritten (name 1) (span 0 8) (terms 2 0 1)) (replicate 25 0) ≡ record { answer = refused 2; buffer = replicate 25 0 })
+no_mark : (write_event Plain 0 (Create None (span 0 8) (terms 2 0 2)) (replicate 25 0) ≡ record { answer = refused 2; buffer = replicate 25 0 })
+    × (write_event Plain 0 (Create None (span 0 8) (terms 2 1 0)) (replicate 25 0) ≡ record { answer = refused 2; buffer = replicate 25 0 })
+    × (write_event Plain 0 (Borrow None (name 1) (span 0 8) (terms 2 0 1)) (replicate 25 0) ≡ record { answer = refused 2; buffer = replicate 25 0 })
 unfolding write_event written stored has_spelling writes_name has_bit spell form spaced decimal numeral
 no_mark = (refl, refl, refl)
 
 -- refusal 2: an event whose name is not written as in the spelling, in no room too
-no_name : write_event Named 0 (Create Unwritten (span 0 64) (terms 2 0 0)) [] ≡ record { answer = refused 2; buffer = [] }
+no_name : write_event Named 0 (Create None (span 0 64) (terms 2 0 0)) [] ≡ record { answer = refused 2; buffer = [] }
 unfolding write_event written stored has_spelling writes_name has_bit spell form spaced decimal numeral
 no_name = refl
 
@@ -120,21 +120,21 @@ unfolding write_event written stored has_spelling writes_name has_bit spell form
 room = refl
 
 -- the new name after the word
-name_written : write_event Named 0 (Create (Written (name 1)) (span 0 64) (terms 2 0 0)) (bytes "....................")
+name_written : write_event Named 0 (Create (Some (name 1)) (span 0 64) (terms 2 0 0)) (bytes "....................")
     ≡ record { answer = value 19; buffer = bytes "(create 1 0 64 rw)\n." }
 unfolding write_event written stored has_spelling writes_name has_bit spell form spaced decimal numeral
 name_written = refl
 
 -- the kind behind the right
-kind_written : write_event Plain 0 (Borrow Unwritten (name 1) (span 0 8) (terms 2 1 0)) (bytes ".........................")
+kind_written : write_event Plain 0 (Borrow None (name 1) (span 0 8) (terms 2 1 0)) (bytes ".........................")
     ≡ record { answer = value 22; buffer = bytes "(borrow 1 0 8 rw raw)\n..." }
 unfolding write_event written stored has_spelling writes_name has_bit spell form spaced decimal numeral
 kind_written = refl
 
 -- the mark behind the right, and refusal 11 in one byte less
-fresh_written : (write_event Plain 0 (Create Unwritten (span 0 8) (terms 2 0 1)) (bytes ".........................")
+fresh_written : (write_event Plain 0 (Create None (span 0 8) (terms 2 0 1)) (bytes ".........................")
     ≡ record { answer = value 22; buffer = bytes "(create 0 8 rw fresh)\n..." })
-    × (write_event Plain 0 (Create Unwritten (span 0 8) (terms 2 0 1)) (replicate 21 0) ≡ record { answer = refused 11; buffer = replicate 21 0 })
+    × (write_event Plain 0 (Create None (span 0 8) (terms 2 0 1)) (replicate 21 0) ≡ record { answer = refused 11; buffer = replicate 21 0 })
 unfolding write_event written stored has_spelling writes_name has_bit spell form spaced decimal numeral
 fresh_written = (refl, refl)
 
@@ -184,22 +184,22 @@ no_acting = refl
 masks : readings Plain ("(as 3 (create 0 8 rw 0000000000000009))\n" ∷ "(create 0 8 rw 8000000000000001)\n" ∷ "(as 3 (create 0 8 rw))\n"
     ∷ "(as 63 (create 0 8 ro fresh c000000000000000))\n" ∷ "(borrow 1 0 8 rw cell 000000000000000f)\n" ∷ "(as 5 (borrow 1 0 8 ro raw))\n"
     ∷ "(create 0 8 rw f00000000000000d)\n" ∷ "(borrow 1 0 8 rw cdefabcdefabcdef)\n" ∷ [])
-    ≡ by 3 (Create Unwritten (span 0 8) (held 2 0 0 9))
-    ∷ by 0 (Create Unwritten (span 0 8) (held 2 0 0 9223372036854775809))
-    ∷ by 3 (Create Unwritten (span 0 8) (held 2 0 0 8))
-    ∷ by 63 (Create Unwritten (span 0 8) (held 1 0 1 13835058055282163712))
-    ∷ by 0 (Borrow Unwritten (name 1) (span 0 8) (held 2 2 0 15))
-    ∷ by 5 (Borrow Unwritten (name 1) (span 0 8) (held 1 1 0 32))
-    ∷ by 0 (Create Unwritten (span 0 8) (held 2 0 0 17293822569102704653))
-    ∷ by 0 (Borrow Unwritten (name 1) (span 0 8) (held 2 0 0 14839268198186733039))
+    ≡ by 3 (Create None (span 0 8) (held 2 0 0 9))
+    ∷ by 0 (Create None (span 0 8) (held 2 0 0 9223372036854775809))
+    ∷ by 3 (Create None (span 0 8) (held 2 0 0 8))
+    ∷ by 63 (Create None (span 0 8) (held 1 0 1 13835058055282163712))
+    ∷ by 0 (Borrow None (name 1) (span 0 8) (held 2 2 0 15))
+    ∷ by 5 (Borrow None (name 1) (span 0 8) (held 1 1 0 32))
+    ∷ by 0 (Create None (span 0 8) (held 2 0 0 17293822569102704653))
+    ∷ by 0 (Borrow None (name 1) (span 0 8) (held 2 0 0 14839268198186733039))
     ∷ []
 unfolding read_event guess through class_of number_from same has_spelling writes_name has_bit spell form spaced decimal numeral hex hex_from
 masks = refl
 
 -- the same with names written out
 masks_named : readings Named ("(as 3 (create 1 0 8 rw 0000000000000009))\n" ∷ "(as 3 (borrow 2 1 0 8 ro raw 000000000000000a))\n" ∷ "(as 3 (drop 1))\n" ∷ [])
-    ≡ by 3 (Create (Written (name 1)) (span 0 8) (held 2 0 0 9))
-    ∷ by 3 (Borrow (Written (name 2)) (name 1) (span 0 8) (held 1 1 0 10))
+    ≡ by 3 (Create (Some (name 1)) (span 0 8) (held 2 0 0 9))
+    ∷ by 3 (Borrow (Some (name 2)) (name 1) (span 0 8) (held 1 1 0 10))
     ∷ by 3 (Drop (name 1))
     ∷ []
 unfolding read_event guess through class_of number_from same has_spelling writes_name has_bit spell form spaced decimal numeral hex hex_from
@@ -224,16 +224,16 @@ digits_in_order = (refl, refl, refl, refl)
 
 -- written: by a domain, with a mask, and with the maker's own left out
 acting_written : (write_event Plain 3 (Read (name 2) (span 0 8)) (bytes "......................") ≡ record { answer = value 20; buffer = bytes "(as 3 (read 2 0 8))\n.." })
-    × (write_event Plain 3 (Create Unwritten (span 0 8) (held 2 0 0 9)) (bytes "..........................................")
+    × (write_event Plain 3 (Create None (span 0 8) (held 2 0 0 9)) (bytes "..........................................")
     ≡ record { answer = value 40; buffer = bytes "(as 3 (create 0 8 rw 0000000000000009))\n.." })
-    × (write_event Plain 3 (Create Unwritten (span 0 8) (held 2 0 1 8)) (bytes "..............................") ≡ record { answer = value 29; buffer = bytes "(as 3 (create 0 8 rw fresh))\n." })
+    × (write_event Plain 3 (Create None (span 0 8) (held 2 0 1 8)) (bytes "..............................") ≡ record { answer = value 29; buffer = bytes "(as 3 (create 0 8 rw fresh))\n." })
 unfolding write_event written stored has_spelling writes_name has_bit spell form spaced decimal numeral hex
 acting_written = (refl, refl, refl)
 
 -- refusal 11 in one byte less; refusal 2 for a domain above 63, and for a mask without its maker, in no room too
 no_acting_written : (write_event Plain 3 (Read (name 2) (span 0 8)) (replicate 19 0) ≡ record { answer = refused 11; buffer = replicate 19 0 })
     × (write_event Plain 64 (Drop (name 1)) [] ≡ record { answer = refused 2; buffer = [] })
-    × (write_event Plain 3 (Create Unwritten (span 0 8) (held 2 0 0 1)) [] ≡ record { answer = refused 2; buffer = [] })
+    × (write_event Plain 3 (Create None (span 0 8) (held 2 0 0 1)) [] ≡ record { answer = refused 2; buffer = [] })
 unfolding write_event written stored has_spelling writes_name has_bit spell form spaced decimal numeral hex
 no_acting_written = (refl, refl, refl)
 
@@ -318,8 +318,8 @@ forms = map (λ s. read_form (bytes s))
 
 -- the five forms
 five_forms : forms ("(create 0 64 rw)\n" ∷ "(borrow 1 16 16 ro)\n" ∷ "(read 1 0 4)\n" ∷ "(write 2 0 8)\n" ∷ "(drop 7)\n" ∷ [])
-    ≡ value (Create Unwritten (span 0 64) (terms 2 0 0))
-    ∷ value (Borrow Unwritten (name 1) (span 16 16) (terms 1 0 0))
+    ≡ value (Create None (span 0 64) (terms 2 0 0))
+    ∷ value (Borrow None (name 1) (span 16 16) (terms 1 0 0))
     ∷ value (Read (name 1) (span 0 4))
     ∷ value (Write (name 2) (span 0 8))
     ∷ value (Drop (name 7))
@@ -340,10 +340,10 @@ no_forms = refl
 every : ℕ
 every = 18446744073709551615
 
-longest : (length (spell 63 (Borrow Unwritten (name 4294967295) (span 4294967295 4294967295) (held 1 2 0 every))) ≡ 75)
-    × (length (spell 63 (Borrow (Written (name 4294967295)) (name 4294967295) (span 4294967295 4294967295) (held 1 2 0 every))) ≡ 86)
-    × (length (spell 63 (Create Unwritten (span 4294967295 4294967295) (held 2 0 1 every))) ≡ 65)
-    × (length (spell 63 (Create (Written (name 4294967295)) (span 4294967295 4294967295) (held 2 0 1 every))) ≡ 76)
+longest : (length (spell 63 (Borrow None (name 4294967295) (span 4294967295 4294967295) (held 1 2 0 every))) ≡ 75)
+    × (length (spell 63 (Borrow (Some (name 4294967295)) (name 4294967295) (span 4294967295 4294967295) (held 1 2 0 every))) ≡ 86)
+    × (length (spell 63 (Create None (span 4294967295 4294967295) (held 2 0 1 every))) ≡ 65)
+    × (length (spell 63 (Create (Some (name 4294967295)) (span 4294967295 4294967295) (held 2 0 1 every))) ≡ 76)
     × (length (spell_group 63 (values (λ n. n) 4294967232 64)) ≡ 719)
     × (length (spell_mark 63 7) ≡ 17)
     × (length (spell_back 63 7) ≡ 17)

@@ -1,6 +1,7 @@
 -- Which values an event has that has a spelling in document 01's form, and that it has one where it has these; and the theorems about lines in that
 -- form.
 -- Assumes nothing.
+use Rattle.std.specs.Prelude.{None, Option, Some}
 use mathlib.Core.Path.{◌≡◌, refl, sym, ap, ◌∙◌}
 use mathlib.Core.Logic.{◌⊎◌, inl, inr}
 use mathlib.Core.Bool.{Bool, true, false, not, cond, ◌&&◌, ◌||◌}
@@ -13,8 +14,6 @@ use borrow.Author.Tests.{eqb-true, eqb-false, leb-true}
 use Rattle.model.specs.declared.Name.{Name}
 use Rattle.model.specs.declared.Span.{Span}
 use Rattle.model.specs.declared.Terms.{Terms}
-use Rattle.model.specs.declared.NewName.{NewName}
-use Rattle.model.specs.declared.NewName.TheVariants.{Unwritten, Written}
 use Rattle.model.specs.declared.Event.{Event}
 use Rattle.model.specs.declared.Event.TheVariants.{Create, Borrow, Read, Write, Drop}
 use Rattle.model.specs.Bits.{has_bit}
@@ -31,8 +30,8 @@ use Rattle.text.proofs.Laws.OneSpelling.{spelling_reads_back, read_is_spelling, 
 use Rattle.text.specs.Form.{form01, in_form, plain_terms, gives_plainly, formed, read_form}
 
 -- what such an event gives to what it makes: no name is written, the right is one, and all else is as document 01 has it
-pub record PlainlyGiven (w : NewName) (r : Terms) : Type 0 where
-  pub unwritten : w ≡ Unwritten
+pub record PlainlyGiven (w : Option Name) (r : Terms) : Type 0 where
+  pub unwritten : w ≡ None
   pub right : is_right r.right ≡ true
   pub terms : r ≡ plain_terms r.right
 
@@ -87,12 +86,12 @@ right_and_mark true false false d h = clash h refl
 right_and_mark true true c d h = clash h refl
 right_and_mark false b c d h = clash h refl
 
-unwritten : (w : NewName) → writes_name Plain w ≡ true → w ≡ Unwritten
+unwritten : (w : Option Name) → writes_name Plain w ≡ true → w ≡ None
 unfolding writes_name
-unwritten Unwritten h = refl
-unwritten (Written x) h = clash h refl
+unwritten None h = refl
+unwritten (Some x) h = clash h refl
 
-given : (word numbers : List ℕ) (w : NewName) (r : Terms) → writes_name Plain w ≡ true → is_right r.right ≡ true → r.fresh ≤ 1
+given : (word numbers : List ℕ) (w : Option Name) (r : Terms) → writes_name Plain w ≡ true → is_right r.right ≡ true → r.fresh ≤ 1
     → word ++ (numbers ++ ending 0 r) ≡ word ++ (numbers ++ (right_word r.right ++ bytes ")\n")) → PlainlyGiven w r
 given word numbers w r plain right mark line =
     let none = no_more word numbers (right_word r.right) (kind_word r.kind) (fresh_word r.fresh) (mask_word 0 r.holders) (bytes ")\n") line in
@@ -124,8 +123,8 @@ in_form_lem (Drop n) h = tt
 -- and an event with these values is of that form
 pub form_in : (e : Event) → InForm e → in_form e ≡ true
 unfolding in_form has_spelling writes_name spell form form01 has_bit
-form_in (Create w s r) g = rw (g.unwritten, g.terms, g.right) (same_refl (form01 (Create Unwritten s (plain_terms r.right))))
-form_in (Borrow w n s r) g = rw (g.unwritten, g.terms, g.right) (same_refl (form01 (Borrow Unwritten n s (plain_terms r.right))))
+form_in (Create w s r) g = rw (g.unwritten, g.terms, g.right) (same_refl (form01 (Create None s (plain_terms r.right))))
+form_in (Borrow w n s r) g = rw (g.unwritten, g.terms, g.right) (same_refl (form01 (Borrow None n s (plain_terms r.right))))
 form_in (Read n s) g = same_refl (form01 (Read n s))
 form_in (Write n s) g = same_refl (form01 (Write n s))
 form_in (Drop n) g = same_refl (form01 (Drop n))
@@ -144,11 +143,11 @@ one_test true b to back = sym (to refl)
 one_test false true to back = back refl
 one_test false false to back = refl
 
-gives : (w : NewName) (r : Terms) → PlainlyGiven w r → gives_plainly w r ≡ true
+gives : (w : Option Name) (r : Terms) → PlainlyGiven w r → gives_plainly w r ≡ true
 unfolding writes_name
 gives w r g = rw (g.unwritten, g.terms, g.right)
 
-given_so : (w : NewName) (r : Terms) → gives_plainly w r ≡ true → PlainlyGiven w r
+given_so : (w : Option Name) (r : Terms) → gives_plainly w r ≡ true → PlainlyGiven w r
 given_so w r h =
     let a = and_both (writes_name Plain w) (is_right r.right && (eqb r.kind 0 && (eqb r.fresh 0 && eqb r.holders 1))) h in
     let b = and_both (is_right r.right) (eqb r.kind 0 && (eqb r.fresh 0 && eqb r.holders 1)) a.1 in
@@ -161,10 +160,10 @@ given_so w r h =
     }
 
 -- a create and a borrow are in the form by what they give, and the other events always
-pub form_of_create : (w : NewName) (s : Span) (r : Terms) → gives_plainly w r ≡ in_form (Create w s r)
+pub form_of_create : (w : Option Name) (s : Span) (r : Terms) → gives_plainly w r ≡ in_form (Create w s r)
 form_of_create w s r = one_test (gives_plainly w r) (in_form (Create w s r)) (λ h. form_in (Create w s r) (given_so w r h)) (λ h. gives w r (in_form_lem (Create w s r) h))
 
-pub form_of_borrow : (w : NewName) (n : Name) (s : Span) (r : Terms) → gives_plainly w r ≡ in_form (Borrow w n s r)
+pub form_of_borrow : (w : Option Name) (n : Name) (s : Span) (r : Terms) → gives_plainly w r ≡ in_form (Borrow w n s r)
 form_of_borrow w n s r = one_test (gives_plainly w r) (in_form (Borrow w n s r)) (λ h. form_in (Borrow w n s r) (given_so w r h)) (λ h. gives w r (in_form_lem (Borrow w n s r) h))
 
 -- ---- the theorems about lines in document 01's form

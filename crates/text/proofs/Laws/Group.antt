@@ -1,6 +1,7 @@
 -- Laws of the reader and the writer of names that are dropped together: the names of a line one after the other, and what the writer's answer
 -- tells.
 -- Assumes nothing.
+use Rattle.std.specs.Prelude.{Err, Ok, Result}
 use mathlib.Core.Path.{◌≡◌, refl, sym, ap, ap₂, ◌∙◌}
 use mathlib.Core.Bool.{Bool, true, false, cond, ◌&&◌}
 use mathlib.Core.List.{List, [], ◌∷◌, ◌++◌}
@@ -24,8 +25,6 @@ use Rattle.text.specs.Event.{bytes, front, back, Below32}
 use Rattle.text.specs.Read.{actor_of, form_of}
 use Rattle.text.specs.Write.{written_answer, Writes, Outcome, outcome}
 use Rattle.text.specs.Group.{spell_group, names_from, guess_names, is_group_spelling, read_group, names_after, write_group}
-use Rattle.text.specs.declared.write.Written.{Written}
-use Rattle.text.specs.declared.write.Written.TheVariants.{Length, Refused}
 use Rattle.text.proofs.Laws.Number.{number_of_small}
 use Rattle.text.proofs.Laws.Acting.{around_short}
 use Rattle.text.proofs.Laws.Range.{line_short}
@@ -133,7 +132,7 @@ pub misgrouped_written : (actor : ℕ) (names out : List ℕ) → is_group names
 unfolding write_group
 misgrouped_written actor names out h = rw h
 
-module _ (actor : ℕ) (names out : List ℕ) {after : List ℕ} {r : Written} where
+module _ (actor : ℕ) (names out : List ℕ) {after : List ℕ} {r : Result ℕ Refusal} where
   pub group_written : is_group names ≡ true → Writes (is_domain actor) (spell_group actor names) out after r → outcome r after ≡ write_group actor names out
   unfolding write_group
   group_written h w = rw h (λ i. record { answer = w.answer i; buffer = w.buffer i })
@@ -145,7 +144,7 @@ module _ (actor : ℕ) (names out : List ℕ) {after : List ℕ} {r : Written} w
       record { answer = ap (λ (o : Outcome). o.answer) is; buffer = ap (λ (o : Outcome). o.buffer) is }
 
   -- an answer of n bytes tells that the names are a group, that who acts is a domain, and that the buffer begins with the spelling
-  pub wrote_group : (n : ℕ) → outcome r after ≡ write_group actor names out → r ≡ Length n
+  pub wrote_group : (n : ℕ) → outcome r after ≡ write_group actor names out → r ≡ Ok n
       → (is_group names ≡ true) × Wrote (is_domain actor) (spell_group actor names) after n
   wrote_group n e is = go (is_group names) refl
     where
@@ -157,7 +156,7 @@ module _ (actor : ℕ) (names out : List ℕ) {after : List ℕ} {r : Written} w
 
   -- a refusal where there is room tells that they are none, or that who acts is no domain
   pub wrote_no_group : (f : Refusal) → outcome r after ≡ write_group actor names out → (is_domain actor ≡ true → length (spell_group actor names) ≤ length out)
-      → r ≡ Refused f → (x : Bool) → (is_group names && (is_domain actor && x)) ≡ false
+      → r ≡ Err f → (x : Bool) → (is_group names && (is_domain actor && x)) ≡ false
   wrote_no_group f e room is x = go (is_group names) refl
     where
       go : (t : Bool) → is_group names ≡ t → (t && (is_domain actor && x)) ≡ false

@@ -1,5 +1,6 @@
 -- What is guessed of the form in an event's spelling is that event: each of its words is found again.
 -- Assumes nothing.
+use Rattle.std.specs.Prelude.{None, Option, Some}
 use mathlib.Core.Path.{◌≡◌, refl, sym, ap, ◌∙◌}
 use mathlib.Core.Bool.{true}
 use mathlib.Core.List.{List, [], ◌∷◌, ◌++◌}
@@ -24,8 +25,6 @@ use Rattle.text.proofs.Laws.Read.{guess_create, guess_borrow, guess_read, guess_
 use Rattle.model.specs.declared.Name.{Name}
 use Rattle.model.specs.declared.Span.{Span}
 use Rattle.model.specs.declared.Terms.{Terms}
-use Rattle.model.specs.declared.NewName.{NewName}
-use Rattle.model.specs.declared.NewName.TheVariants.{Unwritten, Written}
 use Rattle.model.specs.declared.Event.{Event}
 use Rattle.model.specs.declared.Event.TheVariants.{Create, Borrow, Read, Write, Drop}
 
@@ -104,7 +103,7 @@ module _ (e w : List ℕ) (stop : Stops e) (plain : Plain w) (n : Name) (s : Spa
       span_is e stop s [] h.1.0 h.1.1.0 (second e stop w plain n.0 s.start.0 (s.length ∷ [])) (third e stop w plain n.0 s.start.0 s.length [])
 
 -- a create and a borrow from their new names on, or whole: w is the new name or the word
-module _ (k : Spelling) (new : NewName) (w : List ℕ) (plain : Plain w) (actor : ℕ) (r : Terms) where
+module _ (k : Spelling) (new : Option Name) (w : List ℕ) (plain : Plain w) (actor : ℕ) (r : Terms) where
   abbrev part : List ℕ → List ℕ
   part ns = w ++ (spaced ns ++ ending actor r)
 
@@ -130,33 +129,33 @@ module _ (k : Spelling) (new : NewName) (w : List ℕ) (plain : Plain w) (actor 
       λ i. Borrow (is i) (name_back e w stop plain n s b i) (span_back e w stop plain n s b i) (child_back actor r small four f i)
 
 -- the new name of a form, at its front
-new_back : (x : Name) (actor : ℕ) (r : Terms) (ns : List ℕ) → x.0 < 2 ^ 32 → new_name_of Named (decimal x.0 ++ (spaced ns ++ ending actor r)) ≡ Written x
-new_back x actor r ns h = ap Written (name_is (ending actor r) (ending_stops actor r) x ns h refl)
+new_back : (x : Name) (actor : ℕ) (r : Terms) (ns : List ℕ) → x.0 < 2 ^ 32 → new_name_of Named (decimal x.0 ++ (spaced ns ++ ending actor r)) ≡ Some x
+new_back x actor r ns h = ap Some (name_is (ending actor r) (ending_stops actor r) x ns h refl)
 
 -- what is guessed of a form is its event
 pub guess_spell : (k : Spelling) (actor : ℕ) (e : Event) → has_spelling k actor e ≡ true → InRange e → guess k actor (form actor e) ≡ e
 unfolding form has_spelling writes_name spaced through class_of
-guess_spell Unnamed actor (Create Unwritten s r) h b =
-    guess_create Unnamed actor (form actor (Create Unwritten s r)) refl
-    ∙ create_back Unnamed Unwritten (bytes "(create") (λ t. refl) actor r (root_terms_lem Unnamed actor Unwritten s r h) s b.0 b.1 refl
-guess_spell Unnamed actor (Create (Written x) s r) h b = clash h refl
-guess_spell Named actor (Create Unwritten s r) h b = clash h refl
-guess_spell Named actor (Create (Written x) s r) h b =
+guess_spell Unnamed actor (Create None s r) h b =
+    guess_create Unnamed actor (form actor (Create None s r)) refl
+    ∙ create_back Unnamed None (bytes "(create") (λ t. refl) actor r (root_terms_lem Unnamed actor None s r h) s b.0 b.1 refl
+guess_spell Unnamed actor (Create (Some x) s r) h b = clash h refl
+guess_spell Named actor (Create None s r) h b = clash h refl
+guess_spell Named actor (Create (Some x) s r) h b =
     let ns = span_numbers s in
-    guess_create Named actor (form actor (Create (Written x) s r)) refl
+    guess_create Named actor (form actor (Create (Some x) s r)) refl
     ∙ ap (create_of Named actor) (next (ending actor r) (ending_stops actor r) (bytes "(create") (λ t. refl) x.0 ns)
-    ∙ create_back Named (Written x) (decimal x.0) (plain_decimal x.0) actor r (root_terms_lem Named actor (Written x) s r h) s b.0.1 b.1
+    ∙ create_back Named (Some x) (decimal x.0) (plain_decimal x.0) actor r (root_terms_lem Named actor (Some x) s r h) s b.0.1 b.1
     (new_back x actor r ns b.0.0)
-guess_spell Unnamed actor (Borrow Unwritten n s r) h b =
-    guess_borrow Unnamed actor (form actor (Borrow Unwritten n s r)) refl
-    ∙ borrow_back Unnamed Unwritten (bytes "(borrow") (λ t. refl) actor r (child_terms_lem Unnamed actor Unwritten s r n h) n s b.0 b.1 refl
-guess_spell Unnamed actor (Borrow (Written x) n s r) h b = clash h refl
-guess_spell Named actor (Borrow Unwritten n s r) h b = clash h refl
-guess_spell Named actor (Borrow (Written x) n s r) h b =
+guess_spell Unnamed actor (Borrow None n s r) h b =
+    guess_borrow Unnamed actor (form actor (Borrow None n s r)) refl
+    ∙ borrow_back Unnamed None (bytes "(borrow") (λ t. refl) actor r (child_terms_lem Unnamed actor None s r n h) n s b.0 b.1 refl
+guess_spell Unnamed actor (Borrow (Some x) n s r) h b = clash h refl
+guess_spell Named actor (Borrow None n s r) h b = clash h refl
+guess_spell Named actor (Borrow (Some x) n s r) h b =
     let ns = n.0 ∷ span_numbers s in
-    guess_borrow Named actor (form actor (Borrow (Written x) n s r)) refl
+    guess_borrow Named actor (form actor (Borrow (Some x) n s r)) refl
     ∙ ap (borrow_of Named actor) (next (ending actor r) (ending_stops actor r) (bytes "(borrow") (λ t. refl) x.0 ns)
-    ∙ borrow_back Named (Written x) (decimal x.0) (plain_decimal x.0) actor r (child_terms_lem Named actor (Written x) s r n h) n s b.0.1 b.1
+    ∙ borrow_back Named (Some x) (decimal x.0) (plain_decimal x.0) actor r (child_terms_lem Named actor (Some x) s r n h) n s b.0.1 b.1
     (new_back x actor r ns b.0.0)
 guess_spell k actor (Read n s) h b =
     let e = back actor in

@@ -5,14 +5,14 @@ use mathlib.Core.Path.{◌≡◌, refl, sym, ap, ◌∙◌}
 use mathlib.Core.Bool.{Bool, true, false, cond}
 use mathlib.Core.Logic.{◌⊎◌, inl, inr, ⊎_elim}
 use mathlib.Core.List.{List, [], ◌∷◌, ◌++◌}
-use Prim.Native.Nat.{ℕ, zero, suc, ◌+◌, ◌-◌, ◌*◌, ◌/◌, ◌%◌, ◌^◌, ◌≤◌, ◌<◌}
+use Prim.Native.Nat.{ℕ, zero, suc, ◌+◌, ◌-◌, ◌*◌, ◌/◌, ◌%◌, ◌^◌, min, ◌≤◌, ◌<◌}
 use native.Mathlib.Nat.{zero-add, pow-zero, pow-suc, pow-le-pow_right, mod-lt, div-add-mod', div-lt_iff_lt-mul, le_of_suc-le-suc}
 use native.Mathlib.Numerals.{add-one}
 use native.Mathlib.Omega.{arith}
-use lib.Dec.{ltb, eqb, lit<}
+use lib.Dec.{ltb, leb, eqb, lit<}
 use lib.ListN.{length, get_or, drop, set, length-append, drop_of_length-le}
 use lib.Seq.{sets, append_snoc, drop-cons}
-use borrow.Author.Tests.{le-leb, lt-leb, ne_eqb, ltb-true, ltb-false}
+use borrow.Author.Tests.{le-leb, lt-leb, ne_eqb, ltb-true, ltb-false, leb-true, leb-false}
 use Rattle.model.proofs.Offered.{All, All_map, All_append}
 use Rattle.text.specs.Class.{class_of, within, digit, letter}
 use Rattle.text.specs.Mask.{hex_digit, hex, hex_value, hex_from, hex_of}
@@ -163,6 +163,14 @@ from_end (suc k) v s i h = rw (drop_of_length-le s h)
 pub from_none : (v : ℕ) (s : List ℕ) {k : ℕ} → k ≡ 0 → hex_from k v s ≡ v
 unfolding hex_from
 from_none v s e = rw e
+
+-- no digit is left behind the first 16 bytes of a text, or behind all of them
+pub from_first : (v : ℕ) (s : List ℕ) (i : ℕ) → i ≡ min (length s) 16 → hex_from (16 - i) v (drop i s) ≡ v
+from_first v s i e = go (leb (length s) i) refl
+  where
+    go : (t : Bool) → leb (length s) i ≡ t → hex_from (16 - i) v (drop i s) ≡ v
+    go true is = from_end (16 - i) v s i (leb-true (length s) i is)
+    go false is = let none : 16 - i ≡ 0 = omega (arith, leb-false (length s) i is) in from_none v (drop i s) none
 
 -- the mask of a domain alone has 64 bits
 pub mask_fits : (domain : ℕ) → domain < 64 → 2 ^ domain < 2 ^ 64

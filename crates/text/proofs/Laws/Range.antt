@@ -1,6 +1,7 @@
 -- Events in range: the longest line of one has 75 bytes, and 86 with a written name, where that of a create has 65 and 76; and what is guessed of a
 -- line by a domain is one in range.
 -- Assumes nothing.
+use Rattle.std.specs.Prelude.{None, Option, Some}
 use mathlib.Core.Path.{◌≡◌, refl}
 use mathlib.Core.Bool.{Bool, true, false, cond}
 use mathlib.Core.List.{List, [], ◌∷◌, ◌++◌}
@@ -26,8 +27,6 @@ use Rattle.model.specs.Table.{is_domain}
 use Rattle.model.specs.declared.Name.{Name}
 use Rattle.model.specs.declared.Span.{Span}
 use Rattle.model.specs.declared.Terms.{Terms}
-use Rattle.model.specs.declared.NewName.{NewName}
-use Rattle.model.specs.declared.NewName.TheVariants.{Unwritten, Written}
 use Rattle.model.specs.declared.Event.{Event}
 use Rattle.model.specs.declared.Event.TheVariants.{Create, Borrow, Read, Write, Drop}
 
@@ -69,16 +68,16 @@ longest_within Plain = (omega arith, omega arith)
 longest_within Named = (omega arith, omega arith)
 
 -- a written name is one number more, of 10 digits and a space
-name_length : (k : Spelling) (w : NewName) → writes_name k w ≡ true → 75 + 11 * length (written_numbers w) ≡ longest k
+name_length : (k : Spelling) (w : Option Name) → writes_name k w ≡ true → 75 + 11 * length (written_numbers w) ≡ longest k
 unfolding writes_name
-name_length Plain Unwritten h = refl
-name_length Plain (Written x) h = clash h refl
-name_length Named Unwritten h = clash h refl
-name_length Named (Written x) h = refl
+name_length Plain None h = refl
+name_length Plain (Some x) h = clash h refl
+name_length Named None h = clash h refl
+name_length Named (Some x) h = refl
 
 module _ (k : Spelling) (actor : ℕ) where
   -- that of a create has 10 bytes less
-  pub create_short : (w : NewName) (s : Span) (r : Terms) → has_spelling k actor (Create w s r) ≡ true → InRange (Create w s r)
+  pub create_short : (w : Option Name) (s : Span) (r : Terms) → has_spelling k actor (Create w s r) ≡ true → InRange (Create w s r)
       → length (spell actor (Create w s r)) + 10 ≤ longest k
   unfolding spell form has_spelling
   create_short w s r h b =
@@ -89,7 +88,7 @@ module _ (k : Spelling) (actor : ℕ) where
       let named = name_length k w (and_both (writes_name k w) _ h).0 in
       omega (arith, ending_length actor r, fresh_short r.fresh, mask_short actor r.holders, around_short actor t.domain, length-append (written_numbers w) ns)
 
-  pub borrow_short : (w : NewName) (n : Name) (s : Span) (r : Terms) → has_spelling k actor (Borrow w n s r) ≡ true → InRange (Borrow w n s r)
+  pub borrow_short : (w : Option Name) (n : Name) (s : Span) (r : Terms) → has_spelling k actor (Borrow w n s r) ≡ true → InRange (Borrow w n s r)
       → length (spell actor (Borrow w n s r)) ≤ longest k
   unfolding spell form has_spelling
   borrow_short w n s r h b =

@@ -1,11 +1,13 @@
 -- Laws of `guess` and `same`, and what is guessed of a create and of a borrow word by word.
 -- Assumes nothing.
-use mathlib.Core.Path.{◌≡◌, refl, sym, ap₂, ◌∙◌}
-use mathlib.Core.Bool.{Bool, true, false}
+use Rattle.std.specs.Prelude.{Option}
+use mathlib.Core.Path.{◌≡◌, refl, sym, ap, ap₂, ◌∙◌}
+use mathlib.Core.Bool.{Bool, true, false, ◌&&◌}
 use mathlib.Core.List.{List, [], ◌∷◌}
 use Prim.Native.Nat.{ℕ, ◌+◌}
 use lib.Dec.{eqb}
 use lib.ListN.{length, get_or}
+use Rattle.std.specs.Str.{bytes_eq}
 use borrow.Author.Tests.{eqb-true, eq-eqb, ne_eqb}
 use Rattle.model.proofs.Offered.{clash, and_both}
 use Rattle.text.specs.Line.{after_space}
@@ -15,7 +17,6 @@ use Rattle.text.specs.Read.{same, name_of, span_of, right_of, kind_of, fresh_at,
 use Rattle.text.specs.declared.spelling.Spelling.{Spelling}
 use Rattle.model.specs.declared.Name.{Name}
 use Rattle.model.specs.declared.Span.{Span}
-use Rattle.model.specs.declared.NewName.{NewName}
 use Rattle.model.specs.declared.Event.TheVariants.{Create, Borrow, Read, Write, Drop}
 
 module _ (k : Spelling) (actor : ℕ) (s : List ℕ) where
@@ -46,7 +47,7 @@ module _ (k : Spelling) (actor : ℕ) (s : List ℕ) where
   guess_drop c b r w = rw (ne_eqb _ _ c, ne_eqb _ _ b, ne_eqb _ _ r, ne_eqb _ _ w)
 
 -- the words of a create and of a borrow, each with what it is
-module _ (k : Spelling) (actor : ℕ) (t : List ℕ) {a b c : List ℕ} (first : a ≡ after_space t) (second : b ≡ after_space a) (third : c ≡ after_space b) {w : NewName}
+module _ (k : Spelling) (actor : ℕ) (t : List ℕ) {a b c : List ℕ} (first : a ≡ after_space t) (second : b ≡ after_space a) (third : c ≡ after_space b) {w : Option Name}
     (new : w ≡ new_name_of k t) where
   pub create_is : {f l m r : ℕ} {s : Span} → s ≡ span_of a b → r ≡ right_of c → f ≡ fresh_at c 4 → l ≡ length (fresh_word f) → m ≡ mask_at actor c (2 + l)
       → Create w s (record { right = r; kind = 0; fresh = f; holders = m }) ≡ create_of k actor t
@@ -78,3 +79,11 @@ same_is r s t to back = go r (same s t) refl refl
     go true y p q = cc (to p, same_refl s)
     go false true p q = p ∙ sym (sym (back (same_true s t q)) ∙ p) ∙ cc
     go false false p q = cc
+
+-- as the test of equal elements one by one is
+pub same_equal : (s t : List ℕ) → bytes_eq s t ≡ same s t
+unfolding same
+same_equal [] [] = refl
+same_equal [] (b ∷ t) = refl
+same_equal (a ∷ s) [] = refl
+same_equal (a ∷ s) (b ∷ t) = ap (λ (r : Bool). eqb a b && r) (same_equal s t)

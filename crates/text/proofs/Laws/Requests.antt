@@ -2,6 +2,7 @@
 -- line that is read is the spelling of what was read and is what the request is written as, and two requests never share a spelling. A line reads
 -- as a mark or back or as one of the others, never as both, so that in which order these are tried does not matter.
 -- Assumes nothing.
+use Rattle.std.specs.Prelude.{None, Some}
 use mathlib.Core.Path.{◌≡◌, refl, sym, subst, ap, ◌∙◌}
 use mathlib.Core.Bool.{Bool, true}
 use mathlib.Core.List.{List, [], ◌∷◌, ◌++◌}
@@ -12,7 +13,6 @@ use borrow.Author.Tests.{le-leb}
 use Rattle.model.proofs.Offered.{clash}
 use Rattle.model.specs.declared.Asked.{Asked}
 use Rattle.model.specs.declared.Asked.TheVariants as asked
-use Rattle.model.specs.declared.NewName.TheVariants.{Unwritten, Written}
 use Rattle.model.specs.declared.Event.{Event}
 use Rattle.model.specs.declared.Event.TheVariants.{Create, Borrow, Read, Write, Drop}
 use Rattle.model.specs.Table.{is_domain}
@@ -134,14 +134,14 @@ fits s out is room = rw (is, le-leb (length s) (length out) room)
 -- an event that has a spelling in one of the two has it in the one that it is written in
 own_spelling : (k : Spelling) (actor : ℕ) (e : Event) → has_spelling k actor e ≡ true → has_spelling (spelling_of e) actor e ≡ true
 unfolding has_spelling writes_name
-own_spelling Plain actor (Create Unwritten s r) h = h
-own_spelling Plain actor (Create (Written x) s r) h = clash h refl
-own_spelling Named actor (Create Unwritten s r) h = clash h refl
-own_spelling Named actor (Create (Written x) s r) h = h
-own_spelling Plain actor (Borrow Unwritten n s r) h = h
-own_spelling Plain actor (Borrow (Written x) n s r) h = clash h refl
-own_spelling Named actor (Borrow Unwritten n s r) h = clash h refl
-own_spelling Named actor (Borrow (Written x) n s r) h = h
+own_spelling Plain actor (Create None s r) h = h
+own_spelling Plain actor (Create (Some x) s r) h = clash h refl
+own_spelling Named actor (Create None s r) h = clash h refl
+own_spelling Named actor (Create (Some x) s r) h = h
+own_spelling Plain actor (Borrow None n s r) h = h
+own_spelling Plain actor (Borrow (Some x) n s r) h = clash h refl
+own_spelling Named actor (Borrow None n s r) h = clash h refl
+own_spelling Named actor (Borrow (Some x) n s r) h = h
 own_spelling k actor (Read n s) h = h
 own_spelling k actor (Write n s) h = h
 own_spelling k actor (Drop n) h = h

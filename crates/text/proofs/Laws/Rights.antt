@@ -7,6 +7,7 @@
 -- mark has no line, nor has a borrow with a mark.
 -- Card 10's masks of holders and its domains are in proofs/Laws/Domains.
 -- Assumes nothing.
+use Rattle.std.specs.Prelude.{None, Option, Some}
 use mathlib.Core.Path.{◌≡◌, refl, ◌∙◌}
 use mathlib.Core.Bool.{true}
 use mathlib.Core.Logic.{⊎_elim}
@@ -21,8 +22,6 @@ use Rattle.model.specs.Bits.{has_bit}
 use Rattle.model.specs.declared.Name.{Name}
 use Rattle.model.specs.declared.Span.{Span}
 use Rattle.model.specs.declared.Terms.{Terms}
-use Rattle.model.specs.declared.NewName.{NewName}
-use Rattle.model.specs.declared.NewName.TheVariants.{Unwritten, Written}
 use Rattle.model.specs.declared.Event.{Event}
 use Rattle.model.specs.declared.Event.TheVariants.{Create, Borrow}
 use Rattle.text.specs.Result.{Result, value, refused}
@@ -59,7 +58,7 @@ module _ (f word numbers : List ℕ) where
   pub behind_right : (r : ℕ) (last : List ℕ) → f ++ (word ++ (numbers ++ (right_word r ++ last))) ≡ (f ++ (word ++ (numbers ++ right_word r))) ++ last
   behind_right r last = simp append_assoc
 
-module _ (actor : ℕ) (w : NewName) (s : Span) (holders : ℕ) where
+module _ (actor : ℕ) (w : Option Name) (s : Span) (holders : ℕ) where
   abbrev ends : List ℕ
   ends = mask_word actor holders ++ back actor
 
@@ -86,7 +85,7 @@ pub record EndInKind (actor : ℕ) (event : ℕ → Event) (last : List ℕ) : T
   pub raw : spell actor (event 1) ≡ start ++ (bytes " raw" ++ last)
   pub cell : spell actor (event 2) ≡ start ++ (bytes " cell" ++ last)
 
-pub borrow_ends_in_kind : (actor : ℕ) (w : NewName) (n : Name) (s : Span) (r holders : ℕ)
+pub borrow_ends_in_kind : (actor : ℕ) (w : Option Name) (n : Name) (s : Span) (r holders : ℕ)
     → EndInKind actor (λ kind. Borrow w n s (held r kind 0 holders)) (mask_word actor holders ++ back actor)
 unfolding spell form
 borrow_ends_in_kind actor w n s r holders =
@@ -106,7 +105,7 @@ pub record EndInMark (actor : ℕ) (event : ℕ → Event) (last : List ℕ) : T
   pub unmarked : spell actor (event 0) ≡ start ++ last
   pub fresh : spell actor (event 1) ≡ start ++ (bytes " fresh" ++ last)
 
-pub create_ends_in_mark : (actor : ℕ) (w : NewName) (s : Span) (r holders : ℕ)
+pub create_ends_in_mark : (actor : ℕ) (w : Option Name) (s : Span) (r holders : ℕ)
     → EndInMark actor (λ fresh. Create w s (held r 0 fresh holders)) (mask_word actor holders ++ back actor)
 unfolding spell form
 create_ends_in_mark actor w s r holders =
@@ -147,7 +146,7 @@ unfolding write_event written stored
 unspelled k actor e none out = ⊎_elim (λ t. absurd (none t)) (λ f. rw f) (test (has_spelling k actor e))
 
 -- So is a borrow of any other kind or with a mark, and no line is read as one.
-module _ (k : Spelling) (actor : ℕ) (w : NewName) (n : Name) (s : Span) (r : Terms) where
+module _ (k : Spelling) (actor : ℕ) (w : Option Name) (n : Name) (s : Span) (r : Terms) where
   abbrev child : Event
   child = Borrow w n s r
 
@@ -167,7 +166,7 @@ module _ (k : Spelling) (actor : ℕ) (w : NewName) (n : Name) (s : Span) (r : T
   marked_borrow_never_read line h = (child_read line h).fresh
 
 -- So is a create of any other mark or with a kind, and no line is read as one.
-module _ (k : Spelling) (actor : ℕ) (w : NewName) (s : Span) (r : Terms) where
+module _ (k : Spelling) (actor : ℕ) (w : Option Name) (s : Span) (r : Terms) where
   abbrev root : Event
   root = Create w s r
 
@@ -205,38 +204,38 @@ name n = record { 0 = n }
 abbrev pub span : ℕ → ℕ → Span
 span a l = record { start = record { 0 = a }; length = l }
 
-pub created : (spell 0 (Create Unwritten (span 0 64) (terms 1 0 0)) ≡ bytes "(create 0 64 ro)\n")
-    × (spell 0 (Create Unwritten (span 0 64) (terms 2 0 0)) ≡ bytes "(create 0 64 rw)\n")
-    × (spell 0 (Create (Written (name 1)) (span 0 64) (terms 1 0 0)) ≡ bytes "(create 1 0 64 ro)\n")
-    × (spell 0 (Create (Written (name 1)) (span 0 64) (terms 2 0 0)) ≡ bytes "(create 1 0 64 rw)\n")
+pub created : (spell 0 (Create None (span 0 64) (terms 1 0 0)) ≡ bytes "(create 0 64 ro)\n")
+    × (spell 0 (Create None (span 0 64) (terms 2 0 0)) ≡ bytes "(create 0 64 rw)\n")
+    × (spell 0 (Create (Some (name 1)) (span 0 64) (terms 1 0 0)) ≡ bytes "(create 1 0 64 ro)\n")
+    × (spell 0 (Create (Some (name 1)) (span 0 64) (terms 2 0 0)) ≡ bytes "(create 1 0 64 rw)\n")
 unfolding spell form spaced decimal numeral
 created = (refl, refl, refl, refl)
 
-pub created_fresh : (spell 0 (Create Unwritten (span 0 64) (terms 1 0 1)) ≡ bytes "(create 0 64 ro fresh)\n")
-    × (spell 0 (Create Unwritten (span 0 64) (terms 2 0 1)) ≡ bytes "(create 0 64 rw fresh)\n")
-    × (spell 0 (Create (Written (name 1)) (span 0 64) (terms 1 0 1)) ≡ bytes "(create 1 0 64 ro fresh)\n")
-    × (spell 0 (Create (Written (name 1)) (span 0 64) (terms 2 0 1)) ≡ bytes "(create 1 0 64 rw fresh)\n")
+pub created_fresh : (spell 0 (Create None (span 0 64) (terms 1 0 1)) ≡ bytes "(create 0 64 ro fresh)\n")
+    × (spell 0 (Create None (span 0 64) (terms 2 0 1)) ≡ bytes "(create 0 64 rw fresh)\n")
+    × (spell 0 (Create (Some (name 1)) (span 0 64) (terms 1 0 1)) ≡ bytes "(create 1 0 64 ro fresh)\n")
+    × (spell 0 (Create (Some (name 1)) (span 0 64) (terms 2 0 1)) ≡ bytes "(create 1 0 64 rw fresh)\n")
 unfolding spell form spaced decimal numeral
 created_fresh = (refl, refl, refl, refl)
 
-pub borrowed : (spell 0 (Borrow Unwritten (name 1) (span 0 8) (terms 1 0 0)) ≡ bytes "(borrow 1 0 8 ro)\n")
-    × (spell 0 (Borrow Unwritten (name 1) (span 0 8) (terms 2 0 0)) ≡ bytes "(borrow 1 0 8 rw)\n")
-    × (spell 0 (Borrow (Written (name 2)) (name 1) (span 0 8) (terms 1 0 0)) ≡ bytes "(borrow 2 1 0 8 ro)\n")
-    × (spell 0 (Borrow (Written (name 2)) (name 1) (span 0 8) (terms 2 0 0)) ≡ bytes "(borrow 2 1 0 8 rw)\n")
+pub borrowed : (spell 0 (Borrow None (name 1) (span 0 8) (terms 1 0 0)) ≡ bytes "(borrow 1 0 8 ro)\n")
+    × (spell 0 (Borrow None (name 1) (span 0 8) (terms 2 0 0)) ≡ bytes "(borrow 1 0 8 rw)\n")
+    × (spell 0 (Borrow (Some (name 2)) (name 1) (span 0 8) (terms 1 0 0)) ≡ bytes "(borrow 2 1 0 8 ro)\n")
+    × (spell 0 (Borrow (Some (name 2)) (name 1) (span 0 8) (terms 2 0 0)) ≡ bytes "(borrow 2 1 0 8 rw)\n")
 unfolding spell form spaced decimal numeral
 borrowed = (refl, refl, refl, refl)
 
-pub borrowed_raw : (spell 0 (Borrow Unwritten (name 1) (span 0 8) (terms 1 1 0)) ≡ bytes "(borrow 1 0 8 ro raw)\n")
-    × (spell 0 (Borrow Unwritten (name 1) (span 0 8) (terms 2 1 0)) ≡ bytes "(borrow 1 0 8 rw raw)\n")
-    × (spell 0 (Borrow (Written (name 2)) (name 1) (span 0 8) (terms 1 1 0)) ≡ bytes "(borrow 2 1 0 8 ro raw)\n")
-    × (spell 0 (Borrow (Written (name 2)) (name 1) (span 0 8) (terms 2 1 0)) ≡ bytes "(borrow 2 1 0 8 rw raw)\n")
+pub borrowed_raw : (spell 0 (Borrow None (name 1) (span 0 8) (terms 1 1 0)) ≡ bytes "(borrow 1 0 8 ro raw)\n")
+    × (spell 0 (Borrow None (name 1) (span 0 8) (terms 2 1 0)) ≡ bytes "(borrow 1 0 8 rw raw)\n")
+    × (spell 0 (Borrow (Some (name 2)) (name 1) (span 0 8) (terms 1 1 0)) ≡ bytes "(borrow 2 1 0 8 ro raw)\n")
+    × (spell 0 (Borrow (Some (name 2)) (name 1) (span 0 8) (terms 2 1 0)) ≡ bytes "(borrow 2 1 0 8 rw raw)\n")
 unfolding spell form spaced decimal numeral
 borrowed_raw = (refl, refl, refl, refl)
 
-pub borrowed_cell : (spell 0 (Borrow Unwritten (name 1) (span 0 8) (terms 1 2 0)) ≡ bytes "(borrow 1 0 8 ro cell)\n")
-    × (spell 0 (Borrow Unwritten (name 1) (span 0 8) (terms 2 2 0)) ≡ bytes "(borrow 1 0 8 rw cell)\n")
-    × (spell 0 (Borrow (Written (name 2)) (name 1) (span 0 8) (terms 1 2 0)) ≡ bytes "(borrow 2 1 0 8 ro cell)\n")
-    × (spell 0 (Borrow (Written (name 2)) (name 1) (span 0 8) (terms 2 2 0)) ≡ bytes "(borrow 2 1 0 8 rw cell)\n")
+pub borrowed_cell : (spell 0 (Borrow None (name 1) (span 0 8) (terms 1 2 0)) ≡ bytes "(borrow 1 0 8 ro cell)\n")
+    × (spell 0 (Borrow None (name 1) (span 0 8) (terms 2 2 0)) ≡ bytes "(borrow 1 0 8 rw cell)\n")
+    × (spell 0 (Borrow (Some (name 2)) (name 1) (span 0 8) (terms 1 2 0)) ≡ bytes "(borrow 2 1 0 8 ro cell)\n")
+    × (spell 0 (Borrow (Some (name 2)) (name 1) (span 0 8) (terms 2 2 0)) ≡ bytes "(borrow 2 1 0 8 rw cell)\n")
 unfolding spell form spaced decimal numeral
 borrowed_cell = (refl, refl, refl, refl)
 

@@ -1,16 +1,17 @@
 -- Laws of the reader and the writers of marks and backs, whose lines differ in their word alone: what has a line, how long it is, which slot is
 -- guessed of it, and what the writer's answer tells.
 -- Assumes nothing.
+use Rattle.std.specs.Prelude.{Result}
+use Rattle.model.specs.declared.Refusal.{Refusal}
 use mathlib.Core.Path.{◌≡◌, refl, ap, ◌∙◌}
-use mathlib.Core.Logic.{◌⊎◌, inl, inr}
 use mathlib.Core.Bool.{Bool, true, false, not, ◌||◌}
 use mathlib.Core.List.{List, [], ◌∷◌, ◌++◌}
 use Prim.Native.Nat.{ℕ, ◌^◌, ◌≤◌, ◌<◌}
 use native.Mathlib.Omega.{arith}
-use lib.Dec.{leb, ltb}
+use lib.Dec.{ltb}
 use lib.ListN.{length, get_or, length-append}
-use borrow.Author.Tests.{eqb-false, leb-true, leb-false, ltb-true, ltb-false, lt-ltb, le-ltb}
-use Rattle.model.proofs.Offered.{clash, test}
+use borrow.Author.Tests.{eqb-false, ltb-true, ltb-false}
+use Rattle.model.proofs.Offered.{clash}
 use Rattle.model.specs.Table.{is_domain}
 use Rattle.text.specs.Decimal.{decimal}
 use Rattle.text.specs.Class.{class_of}
@@ -19,24 +20,12 @@ use Rattle.text.specs.Event.{spaced, back}
 use Rattle.text.specs.Read.{actor_of, form_of}
 use Rattle.text.specs.Write.{Writes, Outcome, outcome}
 use Rattle.text.specs.State.{slot_spelled, spell_slot, mark_word, back_word, slot_of, write_slot}
-use Rattle.text.specs.declared.write.Written.{Written}
 use Rattle.text.proofs.Laws.Digits.{decimal_under}
 use Rattle.text.proofs.Laws.Words.{Plain, next, number_is}
 use Rattle.text.proofs.Laws.Acting.{back_stops, around_short, actor_back, form_back}
 use Rattle.text.proofs.Laws.OneLine.{Ends, numbers_end, back_ends, front_end}
 
 -- ---- what has a line
-
--- by a domain, a slot up to 7
-pub slot_is : (actor k : ℕ) → is_domain actor ≡ true → leb k 7 ≡ slot_spelled actor k
-slot_is actor k d = rw d (go (test (leb k 7)))
-  where
-    go : (leb k 7 ≡ true) ⊎ (leb k 7 ≡ false) → leb k 7 ≡ not (ltb 7 k)
-    go (inl t) = rw (t, le-ltb 7 k (leb-true k 7 t))
-    go (inr f) = rw (f, lt-ltb 7 k (leb-false k 7 f))
-
-pub no_slot : (actor k : ℕ) → is_domain actor ≡ false → slot_spelled actor k ≡ false
-no_slot actor k d = rw d
 
 -- what has one is asked for by a domain, and its slot is one of eight
 pub record Slotted (actor k : ℕ) : Type 0 where
@@ -111,7 +100,7 @@ module _ (word : List ℕ) (w : SlotWord word) (actor k : ℕ) where
 
 -- ---- the writer
 
-module _ (word : List ℕ) (actor k : ℕ) {out after : List ℕ} {r : Written} where
+module _ (word : List ℕ) (actor k : ℕ) {out after : List ℕ} {r : Result ℕ Refusal} where
   pub slot_written : Writes (slot_spelled actor k) (spell_slot word actor k) out after r → outcome r after ≡ write_slot word actor k out
   unfolding write_slot
   slot_written w = λ i. record { answer = w.answer i; buffer = w.buffer i }

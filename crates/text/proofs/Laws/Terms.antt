@@ -1,6 +1,7 @@
 -- What a create or borrow that has a spelling gives besides a span: a right; of a create kind 0 and a mark, and of a borrow a kind and mark 0; and a
 -- mask of holders with its maker, which is a domain. So is who acts by any event that has one.
 -- Assumes nothing.
+use Rattle.std.specs.Prelude.{Option}
 use mathlib.Core.Path.{◌≡◌, refl}
 use mathlib.Core.Bool.{Bool, true, false, not, ◌||◌}
 use Prim.Native.Nat.{ℕ, ◌<◌}
@@ -13,7 +14,6 @@ use Rattle.model.proofs.Offered.{and_both, clash}
 use Rattle.model.specs.declared.Name.{Name}
 use Rattle.model.specs.declared.Span.{Span}
 use Rattle.model.specs.declared.Terms.{Terms}
-use Rattle.model.specs.declared.NewName.{NewName}
 use Rattle.model.specs.declared.Event.{Event}
 use Rattle.model.specs.declared.Event.TheVariants.{Create, Borrow, Read, Write, Drop}
 use Rattle.text.specs.Event.{writes_name, has_spelling}
@@ -43,7 +43,7 @@ each true false c d e h = clash h refl
 each false b c d e h = clash h refl
 
 module _ (k : Spelling) (actor : ℕ) where
-  module _ (w : NewName) (s : Span) (r : Terms) where
+  module _ (w : Option Name) (s : Span) (r : Terms) where
     pub root_terms_lem : has_spelling k actor (Create w s r) ≡ true → RootTerms actor r
     unfolding has_spelling
     root_terms_lem h =

@@ -1,5 +1,7 @@
 -- How long what `capcheck` prints can be.
 -- Assumes nothing.
+use Rattle.std.specs.Prelude.{Result as Returned}
+use Rattle.model.specs.declared.Refusal.{Refusal}
 use mathlib.Core.Path.{◌≡◌, refl, ap, ◌∙◌}
 use mathlib.Core.Bool.{Bool, true, false, not, cond}
 use mathlib.Core.List.{List, [], ◌∷◌, ◌++◌}
@@ -23,7 +25,6 @@ use Rattle.text.specs.Event.{spaced}
 use Rattle.text.specs.Line.{lines_of}
 use Rattle.text.specs.Result.{Result, value, refused}
 use Rattle.text.specs.Write.{stored, Writes}
-use Rattle.text.specs.declared.write.Written.{Written}
 use Rattle.text.specs.declared.spelling.Spelling.{Spelling}
 use Rattle.text.specs.declared.spelling.Spelling.TheVariants.{Plain, Named}
 use Rattle.text.proofs.Offered.{decimal_under, refused_request_is_2}
@@ -127,7 +128,7 @@ module _ (slots : List (Slot Memory)) (input : List ℕ) where
   room = rw (length-replicate {A = ℕ} 60448 0) check_fits
 
   -- and keeps its length
-  pub kept : {after : List ℕ} {r : Written} → Writes true (check_with slots input) buffer after r → length after ≡ 60448
+  pub kept : {after : List ℕ} {r : Returned ℕ Refusal} → Writes true (check_with slots input) buffer after r → length after ≡ 60448
   unfolding stored
   kept {after} w =
       let all : after ≡ check_with slots input ++ drop (length (check_with slots input)) buffer = w.buffer ∙ rw (le-leb (length (check_with slots input)) (length buffer) room) in

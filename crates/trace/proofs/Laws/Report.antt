@@ -1,5 +1,6 @@
 -- The listing behind the line of an answer.
 -- Assumes nothing.
+use Rattle.std.specs.Prelude.{Err, Ok, Result}
 use mathlib.Core.Path.{◌≡◌, refl, sym, ap, ap₂, ◌∙◌, subst}
 use mathlib.Core.Bool.{Bool, true, false, cond}
 use mathlib.Core.List.{List, [], ◌∷◌, ◌++◌, map, append_assoc, append-nil}
@@ -28,23 +29,21 @@ use Rattle.text.specs.Event.{bytes, line}
 use Rattle.text.specs.Result.{value, refused}
 use Rattle.text.specs.Put.{Room, Put}
 use Rattle.text.specs.Write.{written_answer, written, stored, Writes}
-use Rattle.text.specs.declared.write.Written.{Written}
-use Rattle.text.specs.declared.write.Written.TheVariants.{Length, Refused}
 use Rattle.listing.specs.Listing.{listing}
 use Rattle.listing.specs.WriteListing.{listing_written, listing_stored, WritesListing}
-use Rattle.trace.specs.declared.run.RunAnswer.{RunAnswer}
+use Rattle.trace.specs.declared.run.RefusedAt.{RefusedAt}
 use Rattle.trace.specs.declared.run.RunOutcome.{RunOutcome}
 use Rattle.trace.specs.Run.{Ran, run, ran_of, Runs}
 use Rattle.trace.specs.Check.{answer_line, report, no_counts, begins, check_with, stored_with}
 use Rattle.trace.proofs.Laws.Order.{order_run, number_run}
 
 -- the listing of a table in order is written
-pub listing_writes : {rows : List Cap} {issued : ℕ} {out after : List ℕ} {r : Written} → in_order rows issued ≡ true → WritesListing rows issued out after r → Writes true (listing rows issued) out after r
+pub listing_writes : {rows : List Cap} {issued : ℕ} {out after : List ℕ} {r : Result ℕ Refusal} → in_order rows issued ≡ true → WritesListing rows issued out after r → Writes true (listing rows issued) out after r
 unfolding listing_written listing_stored
 listing_writes o w = record { answer = w.answer ∙ rw o; buffer = w.buffer ∙ rw o }
 
 -- the text first goes at the first bytes of out, and the text second was to be written behind it
-module _ (first second out : List ℕ) (k : ℕ) (is : k ≡ length first) (fits : k ≤ length out) {tail : List ℕ} {r : Written} (wrote : Writes true second (take (length out - k) (drop k out)) tail r) where
+module _ (first second out : List ℕ) (k : ℕ) (is : k ≡ length first) (fits : k ≤ length out) {tail : List ℕ} {r : Result ℕ Refusal} (wrote : Writes true second (take (length out - k) (drop k out)) tail r) where
   w : Writes true second (drop k out) tail r
   w = subst (λ (l : List ℕ). Writes true second l tail r) (take_all (length out - k) (drop k out) (omega (arith, length-drop k out))) wrote
 
@@ -67,19 +66,19 @@ module _ (first second out : List ℕ) (k : ℕ) (is : k ≡ length first) (fits
   behind_room = omega (arith, ap length back_is, length-append (take k out) tail, front)
 
   -- it does not fit: nothing was written
-  pub behind_none : {f : Refusal} → r ≡ Refused f → Writes true (first ++ second) out back (Refused f)
+  pub behind_none : {f : Refusal} → r ≡ Err f → Writes true (first ++ second) out back (Err f)
   unfolding written stored
   behind_none {f} e = go (leb (length second) (length (drop k out))) refl (ap written_answer (sym e) ∙ w.answer) w.buffer
     where
       go : (y : Bool) → leb (length second) (length (drop k out)) ≡ y → refused (number f) ≡ cond y (value (length second)) (refused 11) → tail ≡ cond y (second ++ drop (length second) (drop k out)) (drop k out)
-          → Writes true (first ++ second) out back (Refused f)
+          → Writes true (first ++ second) out back (Err f)
       go true h a b = absurd (let z : ◌≡◌ {A = ℕ} 0 1 = cc in omega arith)
       go false h a b =
           let short : leb (length (first ++ second)) (length out) ≡ false = lt-leb (length (first ++ second)) (length out) (omega (arith, leb-false (length second) (length (drop k out)) h, length-drop k out, both)) in
           record { answer = rw short a; buffer = rw short (back_is ∙ ap (λ (l : List ℕ). take k out ++ l) b ∙ take-append-drop k out) }
 
   -- it fits
-  pub behind_fits : {n : ℕ} → r ≡ Length n → k + n ≤ length out
+  pub behind_fits : {n : ℕ} → r ≡ Ok n → k + n ≤ length out
   unfolding written
   behind_fits {n} e = go (leb (length second) (length (drop k out))) refl (ap written_answer (sym e) ∙ w.answer)
     where
@@ -88,12 +87,12 @@ module _ (first second out : List ℕ) (k : ℕ) (is : k ≡ length first) (fits
       go false h a = absurd (let z : ◌≡◌ {A = ℕ} 0 1 = cc in omega arith)
 
   -- and then the first text was put
-  pub behind_all : {n p : ℕ} {after : List ℕ} → r ≡ Length n → Put back 0 first after p → Writes true (first ++ second) out after (Length (k + n))
+  pub behind_all : {n p : ℕ} {after : List ℕ} → r ≡ Ok n → Put back 0 first after p → Writes true (first ++ second) out after (Ok (k + n))
   unfolding written stored
   behind_all {n} {p} {after} e put = go (leb (length second) (length (drop k out))) refl (ap written_answer (sym e) ∙ w.answer) w.buffer
     where
       go : (y : Bool) → leb (length second) (length (drop k out)) ≡ y → value n ≡ cond y (value (length second)) (refused 11) → tail ≡ cond y (second ++ drop (length second) (drop k out)) (drop k out)
-          → Writes true (first ++ second) out after (Length (k + n))
+          → Writes true (first ++ second) out after (Ok (k + n))
       go true h a b =
           let count : n ≡ length second = cc in
           let room : leb (length (first ++ second)) (length out) ≡ true = le-leb (length (first ++ second)) (length out) (omega (arith, leb-true (length second) (length (drop k out)) h, length-drop k out, both)) in
@@ -150,10 +149,10 @@ abbrev pub no_bits : List ℕ
 no_bits = replicate 8192 0
 
 module _ (slots : List (Slot Memory)) where
-  pub ran_is : {bytes input : List ℕ} {ws' : List (List ℕ)} {bs' : List ℕ} {slots' : List (Slot Memory)} {r : RunOutcome} → bytes ≡ bytes6 → Runs (sheet_in bytes) Unlimited zeros no_bits slots no_counts input ws' bs' slots' r → {a : RunAnswer} → r.answer ≡ a
+  pub ran_is : {bytes input : List ℕ} {ws' : List (List ℕ)} {bs' : List ℕ} {slots' : List (Slot Memory)} {r : RunOutcome} → bytes ≡ bytes6 → Runs (sheet_in bytes) Unlimited zeros no_bits slots no_counts input ws' bs' slots' r → {a : Result ℕ RefusedAt} → r.answer ≡ a
       → ran_of a (lends (rows_in ws') bs' slots' r.tally) ≡ run sheet6 Unlimited (begins slots) input
   ran_is {bytes} {input} {ws'} {bs'} {slots'} {r} six k e =
-      ap (λ (a : RunAnswer). ran_of a (lends (rows_in ws') bs' slots' r.tally)) (sym e) ∙ k.ran
+      ap (λ (a : Result ℕ RefusedAt). ran_of a (lends (rows_in ws') bs' slots' r.tally)) (sym e) ∙ k.ran
       ∙ ap₂ (λ (sheet : Sheet) (t : List Cap). run sheet Unlimited (lends t no_bits slots no_counts) input) (ap sheet_in six ∙ bytes6_is) empty_rows
 
   module _ (input : List ℕ) (s : Ran State) (is : s ≡ run sheet6 Unlimited (begins slots) input) where

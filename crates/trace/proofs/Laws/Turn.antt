@@ -1,5 +1,6 @@
 -- One turn of a run: the next line of what is left, and what follows it.
 -- Assumes nothing.
+use Rattle.std.specs.Prelude.{Err, Ok, Result as Returned}
 use mathlib.Core.Path.{◌≡◌, refl, sym, ap, ◌∙◌}
 use mathlib.Core.Bool.{true, false, cond}
 use mathlib.Core.List.{List}
@@ -18,8 +19,6 @@ use Rattle.model.specs.declared.Tally.{Tally}
 use Rattle.model.specs.declared.Name.{Name}
 use Rattle.model.specs.declared.Refusal.{Refusal}
 use Rattle.model.specs.declared.Refusal.TheVariants.{Misspelt}
-use Rattle.model.specs.declared.Answer.{Answer}
-use Rattle.model.specs.declared.Answer.TheVariants.{Allowed, Refused}
 use Rattle.model.specs.Answers.{number, verdict_of}
 use Rattle.model.specs.Counts.{count_refused}
 use Rattle.model.specs.Refusals.{unfit}
@@ -31,7 +30,6 @@ use Rattle.rules.specs.declared.Outcome.{Outcome}
 use Rattle.table.specs.Words.{rows_in}
 use Rattle.rules.specs.Steps.{lends, Stepped}
 use Rattle.table.proofs.Offered.{numbered}
-use Rattle.trace.specs.declared.run.RunAnswer.TheVariants.{Refused as RunRefused}
 use Rattle.text.specs.Request.{read_request}
 use Rattle.trace.specs.Run.{take_read, take_line, run_lines, lent, ran_of, TakesRead, Takes}
 
@@ -73,7 +71,7 @@ module _ (sheet : Sheet) (limits : Limits) (ws : List (List ℕ)) (bs : List ℕ
   taken_as e s = rw e s
 
   -- a line that reads as none is refused
-  pub taken_misspelt : {read : Result Request} {y : Tally} → read ≡ refused 2 → y ≡ count_refused t → TakesRead sheet limits read ws bs slots t ws bs slots (record { tally = y; answer = Refused Misspelt })
+  pub taken_misspelt : {read : Result Request} {y : Tally} → read ≡ refused 2 → y ≡ count_refused t → TakesRead sheet limits read ws bs slots t ws bs slots (record { tally = y; answer = Err Misspelt })
   taken_misspelt q c = record { refusal = rw q; state = rw (q, c) }
 
 -- line is the next line of what is left of s from a position on
@@ -95,15 +93,15 @@ module _ (s : List ℕ) (at : ℕ) (more : at < length s) (line : List ℕ) (is 
   -- the line was taken on the words of a table
   module _ (count : ℕ) (k : Spelling) {sheet : Sheet} {limits : Limits} {ws : List (List ℕ)} {bs : List ℕ} {slots : List (Slot Memory)} {t : Tally} {ws' : List (List ℕ)} {bs' : List ℕ} {slots' : List (Slot Memory)} {r : Outcome} (took : Takes sheet limits k line ws bs slots t ws' bs' slots' r) where
     -- it is allowed, and the run goes on behind it
-    pub turn_on : {x : Name} → r.answer ≡ Allowed x → run_lines (lent sheet limits) k (count + 1) (lends (rows_in ws') bs' slots' r.tally) (lines_of (drop (at + length line) s)) ≡ run_lines (lent sheet limits) k count (lends (rows_in ws) bs slots t) (lines_of (drop at s))
+    pub turn_on : {x : Name} → r.answer ≡ Ok x → run_lines (lent sheet limits) k (count + 1) (lends (rows_in ws') bs' slots' r.tally) (lines_of (drop (at + length line) s)) ≡ run_lines (lent sheet limits) k count (lends (rows_in ws) bs slots t) (lines_of (drop at s))
     turn_on e =
-        let zero_is : (take_line (lent sheet limits) k (lends (rows_in ws) bs slots t) line).refusal ≡ 0 = sym took.refusal ∙ ap (λ (a : Answer). (verdict_of a).refusal) e in
+        let zero_is : (take_line (lent sheet limits) k (lends (rows_in ws) bs slots t) line).refusal ≡ 0 = sym took.refusal ∙ ap (λ (a : Returned Name Refusal). (verdict_of a).refusal) e in
         rw took.state (sym (turn sheet limits k count (lends (rows_in ws) bs slots t) ∙ rw zero_is))
 
     -- it is refused, and the run ends there
-    pub turn_ends : {x : Refusal} → r.answer ≡ Refused x → ran_of (RunRefused x (count + 1)) (lends (rows_in ws') bs' slots' r.tally) ≡ run_lines (lent sheet limits) k count (lends (rows_in ws) bs slots t) (lines_of (drop at s))
+    pub turn_ends : {x : Refusal} → r.answer ≡ Err x → ran_of (Err (record { refusal = x; line = count + 1 })) (lends (rows_in ws') bs' slots' r.tally) ≡ run_lines (lent sheet limits) k count (lends (rows_in ws) bs slots t) (lines_of (drop at s))
     turn_ends {x} e =
-        let is : (take_line (lent sheet limits) k (lends (rows_in ws) bs slots t) line).refusal ≡ number x = sym took.refusal ∙ ap (λ (a : Answer). (verdict_of a).refusal) e in
+        let is : (take_line (lent sheet limits) k (lends (rows_in ws) bs slots t) line).refusal ≡ number x = sym took.refusal ∙ ap (λ (a : Returned Name Refusal). (verdict_of a).refusal) e in
         rw took.state (sym (turn sheet limits k count (lends (rows_in ws) bs slots t) ∙ rw (is, numbered x)))
 
 -- nothing is left

@@ -2,15 +2,12 @@
 -- Assumes nothing.
 use mathlib.Core.Path.{◌≡◌}
 use mathlib.Core.Bool.{◌&&◌}
-use Prim.Native.Nat.{◌-◌, ◌≤◌}
+use Prim.Native.Nat.{◌≤◌}
 use lib.ListN.{length, drop}
 use Rattle.model.specs.Lists.{all}
 use Rattle.model.specs.Table.{is_right}
 use Rattle.columns.proofs.from.are_rights.Given as goal
 
-abbrev pub invariant-loop-i : goal.invariant-loop-i
-invariant-loop-i l =
-    (l.i ≤ length l.rights) × (l.good && all is_right (drop l.i l.rights) ≡ all is_right l.rights)
-
-abbrev pub decreases-loop-i : goal.decreases-loop-i
-decreases-loop-i l = length l.rights - l.i
+abbrev pub invariant-loop-right : goal.invariant-loop-right
+invariant-loop-right l =
+    (l.right-index ≤ length l.rights) × (l.good && all is_right (drop l.right-index l.rights) ≡ all is_right l.rights)

@@ -34,7 +34,7 @@ returns-then-not-lengths_fit c =
     let a = c.args in
     let cols = columns a.kinds.now a.names.now a.starts.now a.lengths.now a.rights.now in
     let out = a.events.now in
-    let p = counted (all is_five a.kinds.now) (ap counted_of (sym c.in-All.is) ∙ c.count_kinds-counted.ensures) in
+    let p = counted (all is_five a.kinds.now) (ap counted_of (sym c.in-Some.is) ∙ c.count_kinds-counted.ensures) in
     let other = lengths_found cols p.1 c.lengths_fit.ensures ∙ not-true c.lengths_fit.result c.if-not-lengths_fit.true-raw in
     from_refused cols out (unless (fits cols) (λ t. clash (has_lengths cols (counts_of a.kinds.now) (fits_asks cols t).has) other))
 
@@ -51,7 +51,7 @@ returns-then-events-kinds c =
     let a = c.args in
     let cols = columns a.kinds.now a.names.now a.starts.now a.lengths.now a.rights.now in
     let out = a.events.now in
-    let p = counted (all is_five a.kinds.now) (ap counted_of (sym c.in-All.is) ∙ c.count_kinds-counted.ensures) in
+    let p = counted (all is_five a.kinds.now) (ap counted_of (sym c.in-Some.is) ∙ c.count_kinds-counted.ensures) in
     let h = lengths_has cols (counts_of a.kinds.now) (lengths_found cols p.1 c.lengths_fit.ensures ∙ not-false c.lengths_fit.result c.if-not-lengths_fit.false-raw) in
     let r = sym c.are_rights.ensures ∙ not-false c.are_rights.result c.if-not-are_rights.false-raw in
     let fit = asks_fits cols (record { few = c.if-kinds-gt4096.false; five = p.0; has = h; rights = r }) in
@@ -62,7 +62,7 @@ take_kinds-requires c =
     let a = c.args in
     let cols = columns a.kinds.now a.names.now a.starts.now a.lengths.now a.rights.now in
     let out = a.events.now in
-    let p = counted (all is_five a.kinds.now) (ap counted_of (sym c.in-All.is) ∙ c.count_kinds-counted.ensures) in
+    let p = counted (all is_five a.kinds.now) (ap counted_of (sym c.in-Some.is) ∙ c.count_kinds-counted.ensures) in
     (c.if-kinds-gt4096.false, p.0, c.if-events-kinds.false)
 
 pub used_by-requires : goal.used_by-requires
@@ -71,7 +71,7 @@ used_by-requires c =
     let a = s.args in
     let cols = columns a.kinds.now a.names.now a.starts.now a.lengths.now a.rights.now in
     let out = a.events.now in
-    let p = counted (all is_five a.kinds.now) (ap counted_of (sym c.in-All.is) ∙ c.count_kinds-counted.ensures) in
+    let p = counted (all is_five a.kinds.now) (ap counted_of (sym c.in-Some.is) ∙ c.count_kinds-counted.ensures) in
     let s = kinds_small a.kinds.now c.if-kinds-gt4096.false p.1 in
     (c.if-kinds-gt4096.false, s.names, s.spans, s.rights)
 
@@ -80,7 +80,7 @@ returns c =
     let a = c.args in
     let cols = columns a.kinds.now a.names.now a.starts.now a.lengths.now a.rights.now in
     let out = a.events.now in
-    let p = counted (all is_five a.kinds.now) (ap counted_of (sym c.in-All.is) ∙ c.count_kinds-counted.ensures) in
+    let p = counted (all is_five a.kinds.now) (ap counted_of (sym c.in-Some.is) ∙ c.count_kinds-counted.ensures) in
     let h = lengths_has cols (counts_of a.kinds.now) (lengths_found cols p.1 c.lengths_fit.ensures ∙ not-false c.lengths_fit.result c.if-not-lengths_fit.false-raw) in
     let r = sym c.are_rights.ensures ∙ not-false c.are_rights.result c.if-not-are_rights.false-raw in
     let t = asks_fits cols (record { few = c.if-kinds-gt4096.false; five = p.0; has = h; rights = r }) in

@@ -22,22 +22,7 @@ words_from-requires c =
     let kinds = c.args.kinds.now in
     let i = c.loop-i.i in
     let yes = and_both (is_five (get_or kinds i 0)) (all is_five (drop (i + 1) kinds)) (sym (all_next is_five kinds 0 i c.loop-i-test.true) ∙ c.loop-i.invariant.2) in
-    rw c.wide-kind.ensures yes.0
-
-pub offset_bounds-events-i : goal.offset_bounds-events-i
-offset_bounds-events-i c = omega (arith, c.loop-i-test.true, c.requires.0)
-
-pub bounds-events-i : goal.bounds-events-i
-bounds-events-i c = omega (arith, c.loop-i-test.true, c.requires.2, c.loop-i.invariant.3.size)
-
-pub with_kind-at-requires : goal.with_kind-at-requires
-with_kind-at-requires c = let s = c.loop-i.invariant.1 in (omega (arith, s.names, c.requires.0, c.loop-i-test.true), omega (arith, s.spans, c.requires.0, c.loop-i-test.true), omega (arith, s.rights, c.requires.0, c.loop-i-test.true))
-
-pub overflow_add-i : goal.overflow_add-i
-overflow_add-i c = omega (arith, c.loop-i-test.true)
-
-pub loop-i-smaller : goal.loop-i-smaller
-loop-i-smaller c = omega (arith, c.loop-i-test.true)
+    yes.0
 
 pub loop-i-preserved : goal.loop-i-preserved
 loop-i-preserved c =
@@ -46,14 +31,11 @@ loop-i-preserved c =
     let yes = and_both (is_five (get_or kinds i 0)) (all is_five (drop (i + 1) kinds)) (sym (all_next is_five kinds 0 i c.loop-i-test.true) ∙ c.loop-i.invariant.2) in
     let a = c.args in
     let at = c.loop-i.at in
-    let to : c.with_kind-at.result ≡ with_kind (get_or kinds i 0) at = c.with_kind-at.ensures ∙ ap (λ k. with_kind k at) c.wide-kind.ensures in
+    let to : c.with_kind-at.result ≡ with_kind (get_or kinds i 0) at = c.with_kind-at.ensures in
     let words : c.words_from.result ≡ event_words (event_from (get_or kinds i 0) (get_or a.names.now at.names 0) (get_or a.starts.now at.spans 0) (get_or a.lengths.now at.spans 0) (get_or a.rights.now at.rights 0)) =
-    c.words_from.ensures ∙ rw (c.wide-kind.ensures, c.word_at-name.ensures, c.word_at-start.ensures, c.word_at-length.ensures, c.byte_at-right.ensures) in
+    c.words_from.ensures ∙ rw (c.entry_at-name.ensures, c.entry_at-start.ensures, c.entry_at-length.ensures, c.entry_at-right.ensures) in
     let cols = columns kinds a.names.now a.starts.now a.lengths.now a.rights.now in
     (omega (arith, c.loop-i-test.true), small_with (get_or kinds i 0) c.loop-i.invariant.1 to, yes.1, turn cols at c.loop-i-test.true c.loop-i.invariant.3 (ap (λ w. set c.loop-i.events i w) words) to)
-
-pub shape_of-events : goal.shape_of-events
-shape_of-events c = c.loop-i.invariant.3.size
 
 pub returns : goal.returns
 returns c =

@@ -3,7 +3,7 @@
 use mathlib.Core.Path.{◌≡◌}
 use mathlib.Core.Bool.{true}
 use mathlib.Core.List.{map}
-use Prim.Native.Nat.{◌-◌, ◌≤◌}
+use Prim.Native.Nat.{◌≤◌}
 use lib.ListN.{length, drop}
 use Rattle.model.specs.Lists.{all}
 use Rattle.columns.specs.Form.{event_words}
@@ -16,6 +16,3 @@ use Rattle.columns.proofs.from.take_kinds.Given as goal
 abbrev pub invariant-loop-i : goal.invariant-loop-i
 invariant-loop-i l =
     (l.i ≤ length l.kinds) × Small l.at l.i × (all is_five (drop l.i l.kinds) ≡ true) × Storing l.initial.events l.events l.i (map event_words (events_at (columns l.kinds l.names l.starts l.lengths l.rights) l.at l.i)) (map event_words (events_from l.kinds l.names l.starts l.lengths l.rights))
-
-abbrev pub decreases-loop-i : goal.decreases-loop-i
-decreases-loop-i l = length l.kinds - l.i

@@ -63,21 +63,12 @@ overflow_cast-w c =
     let yes = and_both (is_event (get_or ws i [])) (all is_event (drop (i + 1) ws)) (sym (all_next is_event ws [] i c.loop-i-test.true) ∙ c.loop-i.invariant.2) in
     omega (arith, (bytes_small (get_or ws i []) yes.0).1)
 
-pub put_byte_below-requires : goal.put_byte_below-requires
-put_byte_below-requires c =
+pub put_below-requires-in-loop-i-3 : goal.put_below-requires-in-loop-i-3
+put_below-requires-in-loop-i-3 c =
     let a = c.args in
     let out = columns a.kinds.now a.names.now a.starts.now a.lengths.now a.rights.now in
     let lent = columns c.loop-i.kinds c.loop-i.names c.loop-i.starts c.loop-i.lengths c.loop-i.rights in
     (places a.events.now out lent c.loop-i.at a.used c.loop-i.i (columns_in (drop c.loop-i.i a.events.now)) c.requires.1 c.requires.2 c.requires.3 c.loop-i.invariant.3).3
-
-pub with_kind-at-requires : goal.with_kind-at-requires
-with_kind-at-requires c = let s = c.loop-i.invariant.1 in (omega (arith, s.names, c.requires.0, c.loop-i-test.true), omega (arith, s.spans, c.requires.0, c.loop-i-test.true), omega (arith, s.rights, c.requires.0, c.loop-i-test.true))
-
-pub overflow_add-i : goal.overflow_add-i
-overflow_add-i c = omega (arith, c.loop-i-test.true)
-
-pub loop-i-smaller : goal.loop-i-smaller
-loop-i-smaller c = omega (arith, c.loop-i-test.true)
 
 pub loop-i-preserved : goal.loop-i-preserved
 loop-i-preserved c =
@@ -85,22 +76,7 @@ loop-i-preserved c =
     let i = c.loop-i.i in
     let yes = and_both (is_event (get_or ws i [])) (all is_event (drop (i + 1) ws)) (sym (all_next is_event ws [] i c.loop-i-test.true) ∙ c.loop-i.invariant.2) in
     let f = columns_next ws i c.loop-i-test.true yes.0 in
-    (omega (arith, c.loop-i-test.true), small_with (get_or (get_or ws i []) 0 0) c.loop-i.invariant.1 c.with_kind-at.ensures, yes.1, turn (get_or ws i []) ws c.requires.1 c.requires.2 f c.loop-i.invariant.3 refl c.put_below.ensures c.put_below-in-loop-i.ensures c.put_below-in-loop-i-2.ensures c.put_byte_below.ensures c.with_kind-at.ensures)
-
-pub shape_of-kinds : goal.shape_of-kinds
-shape_of-kinds c = c.loop-i.invariant.3.kinds.size
-
-pub shape_of-names : goal.shape_of-names
-shape_of-names c = c.loop-i.invariant.3.names.size
-
-pub shape_of-starts : goal.shape_of-starts
-shape_of-starts c = c.loop-i.invariant.3.starts.size
-
-pub shape_of-lengths : goal.shape_of-lengths
-shape_of-lengths c = c.loop-i.invariant.3.lengths.size
-
-pub shape_of-rights : goal.shape_of-rights
-shape_of-rights c = c.loop-i.invariant.3.rights.size
+    (omega (arith, c.loop-i-test.true), small_with (get_or (get_or ws i []) 0 0) c.loop-i.invariant.1 c.with_kind-at.ensures, yes.1, turn (get_or ws i []) ws c.requires.1 c.requires.2 f c.loop-i.invariant.3 refl c.put_below.ensures c.put_below-in-loop-i.ensures c.put_below-in-loop-i-2.ensures c.put_below-in-loop-i-3.ensures c.with_kind-at.ensures)
 
 pub returns : goal.returns
 returns c = stored c.args.events.now c.loop-i-test.false c.requires.3 c.loop-i.invariant.3

@@ -32,7 +32,7 @@ returns-then-not-has_room c =
     let a = c.args in
     let ws = a.events.now in
     let out = columns a.kinds.now a.names.now a.starts.now a.lengths.now a.rights.now in
-    let p = counted (all is_event ws) (ap counted_of (sym c.in-All.is) ∙ c.count_events-counted.ensures) in
+    let p = counted (all is_event ws) (ap counted_of (sym c.in-Some.is) ∙ c.count_events-counted.ensures) in
     to_short ws out (read_all ws c.if-events-gt4096.false p.0) (room_found ws p.0 out p.1 c.has_room.ensures ∙ not-true c.has_room.result c.if-not-has_room.true-raw)
 
 pub put_events-requires : goal.put_events-requires
@@ -40,7 +40,7 @@ put_events-requires c =
     let a = c.args in
     let ws = a.events.now in
     let out = columns a.kinds.now a.names.now a.starts.now a.lengths.now a.rights.now in
-    let p = counted (all is_event ws) (ap counted_of (sym c.in-All.is) ∙ c.count_events-counted.ensures) in
+    let p = counted (all is_event ws) (ap counted_of (sym c.in-Some.is) ∙ c.count_events-counted.ensures) in
     (c.if-events-gt4096.false, p.0, p.1, room_found ws p.0 out p.1 c.has_room.ensures ∙ not-false c.has_room.result c.if-not-has_room.false-raw)
 
 pub used_by-requires : goal.used_by-requires
@@ -49,7 +49,7 @@ used_by-requires c =
     let a = s.args in
     let ws = a.events.now in
     let out = columns a.kinds.now a.names.now a.starts.now a.lengths.now a.rights.now in
-    let p = counted (all is_event ws) (ap counted_of (sym c.in-All.is) ∙ c.count_events-counted.ensures) in
+    let p = counted (all is_event ws) (ap counted_of (sym c.in-Some.is) ∙ c.count_events-counted.ensures) in
     let s = words_small ws c.if-events-gt4096.false p.1 in
     (c.if-events-gt4096.false, s.names, s.spans, s.rights)
 
@@ -58,7 +58,7 @@ returns c =
     let a = c.args in
     let ws = a.events.now in
     let out = columns a.kinds.now a.names.now a.starts.now a.lengths.now a.rights.now in
-    let p = counted (all is_event ws) (ap counted_of (sym c.in-All.is) ∙ c.count_events-counted.ensures) in
+    let p = counted (all is_event ws) (ap counted_of (sym c.in-Some.is) ∙ c.count_events-counted.ensures) in
     let q = to_all ws out (read_all ws c.if-events-gt4096.false p.0) (room_found ws p.0 out p.1 c.has_room.ensures ∙ not-false c.has_room.result c.if-not-has_room.false-raw) in
     let used : c.used_by.result ≡ used_by (length ws) (counts_of (kinds_in ws)) = c.used_by.ensures ∙ ap (used_by (length ws)) p.1 in
     (ap {B = Result Used} value (used ∙ sym (used_is ws p.0)) ∙ q.0, c.put_events.ensures ∙ q.1)

@@ -9,10 +9,10 @@ use Rattle.text.specs.Request.{state_of}
 use Rattle.kelzoud.specs.Interface.{packed_read, event_after}
 use Rattle.kelzoud.proofs.requests.read_slot.Goals as goal
 
-pub returns-in-Asked : goal.returns-in-Asked
-returns-in-Asked c = let e = ap state_answer (sym c.in-Asked.is) ∙ c.read_state-found.ensures in
+pub returns-in-Ok : goal.returns-in-Ok
+returns-in-Ok c = let e = ap state_answer (sym c.in-Ok.is) ∙ c.read_state-found.ensures in
     (c.pack.ensures ∙ ap (λ (x : Result Asked). packed_read (state_of Unlimited x)) e, c.asked_words.ensures ∙ ap (λ (x : Result Asked). event_after (state_of Unlimited x) c.args.event.now) e)
 
-pub returns-in-Refused : goal.returns-in-Refused
-returns-in-Refused c = let e = ap state_answer (sym c.in-Refused.is) ∙ c.read_state-found.ensures in
+pub returns-in-Err : goal.returns-in-Err
+returns-in-Err c = let e = ap state_answer (sym c.in-Err.is) ∙ c.read_state-found.ensures in
     (c.pack_refusal.ensures ∙ ap (λ (x : Result Asked). packed_read (state_of Unlimited x)) e, ap (λ (x : Result Asked). event_after (state_of Unlimited x) c.args.event.now) e)

@@ -1,7 +1,7 @@
 -- `kelzoud_events::batch::take_turns` meets its contract: i requests are taken, and what is lent is fit.
 -- Assumes nothing.
 use mathlib.Core.Path.{◌≡◌}
-use Prim.Native.Nat.{◌-◌, ◌≤◌}
+use Prim.Native.Nat.{◌≤◌}
 use lib.ListN.{length}
 use Rattle.table.specs.Words.{rows_in}
 use Rattle.table.specs.Sheets.{sheet_in}
@@ -17,6 +17,3 @@ invariant-loop-i l =
     (l.i ≤ l.m) × (length l.table ≡ length l.initial.table) × (length l.stored ≡ length l.initial.stored) × (length l.copies ≡ length l.initial.copies) × (length l.answers ≡ length l.initial.answers)
     × FitAll l.table l.bits l.stored l.copies l.alive l.tally.issued l.limits l.places
     × Ran (sheet_in l.sheet) (limits_in l.limits) (lends (rows_in l.initial.table) l.initial.bits (states_in l.initial.stored l.initial.copies) l.initial.tally) l.events l.names l.i l.initial.answers (lends (rows_in l.table) l.bits (states_in l.stored l.copies) l.tally) l.answers
-
-abbrev pub decreases-loop-i : goal.decreases-loop-i
-decreases-loop-i l = l.m - l.i

@@ -1,29 +1,30 @@
 -- `kelzoud_events::events::event_with` meets its contract: the tests tell the kind.
 -- Assumes nothing.
-use borrow.Author.Tests.{eq-eqb, ne_eqb}
+use native.Mathlib.Omega.{arith}
+use Rattle.std.proofs.lemmas.Grind.{common_steps}
 use Rattle.kelzoud_events.specs.Interface.{event_with}
 use Rattle.kelzoud_events.proofs.events.event_with.Goals as goal
 
-pub returns-then-kind-eq1 : goal.returns-then-kind-eq1
+pub returns-in-1 : goal.returns-in-1
 unfolding event_with
-returns-then-kind-eq1 c = rw (eq-eqb c.args.kind 1 c.if-kind-eq1.true)
+returns-in-1 c = grind (arith, common_steps)
 
-pub returns-then-kind-eq2 : goal.returns-then-kind-eq2
+pub returns-in-2 : goal.returns-in-2
 unfolding event_with
-returns-then-kind-eq2 c = rw (ne_eqb c.args.kind 1 c.if-kind-eq1.false, eq-eqb c.args.kind 2 c.if-kind-eq2.true)
+returns-in-2 c = grind (arith, common_steps)
 
-pub returns-then-kind-eq3 : goal.returns-then-kind-eq3
+pub returns-in-3 : goal.returns-in-3
 unfolding event_with
-returns-then-kind-eq3 c = rw (ne_eqb c.args.kind 1 c.if-kind-eq1.false, ne_eqb c.args.kind 2 c.if-kind-eq2.false, eq-eqb c.args.kind 3 c.if-kind-eq3.true)
+returns-in-3 c = grind (arith, common_steps)
 
-pub returns-then-kind-eq4 : goal.returns-then-kind-eq4
+pub returns-in-4 : goal.returns-in-4
 unfolding event_with
-returns-then-kind-eq4 c = rw (ne_eqb c.args.kind 1 c.if-kind-eq1.false, ne_eqb c.args.kind 2 c.if-kind-eq2.false, ne_eqb c.args.kind 3 c.if-kind-eq3.false, eq-eqb c.args.kind 4 c.if-kind-eq4.true)
+returns-in-4 c = grind (arith, common_steps)
 
-pub returns-then-kind-eq5 : goal.returns-then-kind-eq5
+pub returns-in-5 : goal.returns-in-5
 unfolding event_with
-returns-then-kind-eq5 c = rw (ne_eqb c.args.kind 1 c.if-kind-eq1.false, ne_eqb c.args.kind 2 c.if-kind-eq2.false, ne_eqb c.args.kind 3 c.if-kind-eq3.false, ne_eqb c.args.kind 4 c.if-kind-eq4.false, eq-eqb c.args.kind 5 c.if-kind-eq5.true)
+returns-in-5 c = grind (arith, common_steps)
 
-pub returns : goal.returns
+pub returns-in_default : goal.returns-in_default
 unfolding event_with
-returns c = rw (ne_eqb c.args.kind 1 c.if-kind-eq1.false, ne_eqb c.args.kind 2 c.if-kind-eq2.false, ne_eqb c.args.kind 3 c.if-kind-eq3.false, ne_eqb c.args.kind 4 c.if-kind-eq4.false, ne_eqb c.args.kind 5 c.if-kind-eq5.false)
+returns-in_default c = grind (arith, common_steps)

@@ -1,14 +1,14 @@
 -- `kelzoud_events::events::part_of` meets its contract.
 -- Assumes nothing.
-use native.Mathlib.Nat.{add-sub_cancel_left}
+use native.Mathlib.Omega.{arith}
+use Rattle.std.proofs.lemmas.Grind.{common_steps}
 use Rattle.kelzoud_events.specs.Interface.{part}
-use borrow.Author.Tests.{le-leb, lt-leb}
 use Rattle.kelzoud_events.proofs.events.part_of.Goals as goal
 
 pub returns-then-to-names : goal.returns-then-to-names
 unfolding part
-returns-then-to-names c = rw (le-leb _ _ c.if-to-names.true, add-sub_cancel_left)
+returns-then-to-names c = grind (arith, common_steps)
 
-pub returns : goal.returns
+pub returns-else-to-names : goal.returns-else-to-names
 unfolding part
-returns c = rw (lt-leb _ _ c.if-to-names.false)
+returns-else-to-names c = grind (arith, common_steps)

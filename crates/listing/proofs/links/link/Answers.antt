@@ -19,25 +19,19 @@ module _ (ws : List (List ℕ)) (first next : List ℕ) (n : ℕ) (few : n ≤ 1
 
 pub loop-i-init : goal.loop-i-init
 loop-i-init c =
-    (omega arith, start c.args.table.now c.args.first.now c.args.next.now c.args.n c.requires.0 c.requires.4 c.requires.2 c.requires.3)
-
-pub parent_row-p-requires : goal.parent_row-p-requires
-parent_row-p-requires c =
-    (omega arith, c.requires.0, c.requires.1, c.note_rows.ensures, c.requires.4)
+    start c.args.table.now c.args.first.now c.args.next.now c.args.n c.requires.0 c.requires.4 c.requires.2 c.requires.3
 
 pub loop-i-preserved : goal.loop-i-preserved
 loop-i-preserved c =
     let rows : List Cap = first_rows c.args.table.now c.args.n in
     let long : length rows ≡ c.args.n = length_first c.args.table.now c.args.n c.requires.4 in
     let i : ℕ = c.loop-i.i - 1 in
-    let up : c.loop-i.i ≡ suc i = omega (arith, c.loop-i-test.true) in (
-      omega arith,
-      filling_step rows c.loop-i.first c.loop-i.next i c.parent_row-p.result (live_order c.requires.1) (omega arith) (omega arith) (omega (arith, c.parent_row-p.ensures.0))
-          c.parent_row-p.ensures.1 (subst (Filling rows c.loop-i.first c.loop-i.next) up c.loop-i.invariant.1),
-    )
+    let up : c.loop-i.i ≡ suc i = omega (arith, c.loop-i-test.true) in
+    filling_step rows c.loop-i.first c.loop-i.next i c.parent_row-p.result (live_order c.requires.1) (omega arith) (omega arith) (omega (arith, c.parent_row-p.ensures.0))
+    c.parent_row-p.ensures.1 (subst (Filling rows c.loop-i.first c.loop-i.next) up c.loop-i.invariant)
 
 pub returns : goal.returns
 returns c =
     let rows : List Cap = first_rows c.args.table.now c.args.n in
     let zero : c.loop-i.i ≡ 0 = omega (arith, c.loop-i-test.false) in
-    filling_end rows c.loop-i.first c.loop-i.next (live_order c.requires.1) (subst (Filling rows c.loop-i.first c.loop-i.next) zero c.loop-i.invariant.1)
+    filling_end rows c.loop-i.first c.loop-i.next (live_order c.requires.1) (subst (Filling rows c.loop-i.first c.loop-i.next) zero c.loop-i.invariant)

@@ -4,9 +4,7 @@ use mathlib.Core.Path.{◌≡◌, sym, ap, subst, ◌∙◌}
 use mathlib.Core.Bool.{Bool}
 use mathlib.Core.List.{List}
 use Prim.Native.Nat.{ℕ}
-use native.Mathlib.Omega.{arith}
 use lib.ListN.{length, take}
-use lib.Seq.{length-take-le}
 use borrow.Author.Tests.{not-true, not-false}
 use Rattle.model.specs.declared.Cap.{Cap}
 use Rattle.model.specs.declared.Tally.{Tally}
@@ -38,15 +36,6 @@ returns-then-table-gt1024 c =
 pub guess_table-count-requires : goal.guess_table-count-requires
 guess_table-count-requires c = stored_none
 
-pub slice_bounds-scratch-end : goal.slice_bounds-scratch-end
-slice_bounds-scratch-end c = let st = c.guess_table-count.ensures.1 in omega (arith, st.few, st.long)
-
-pub slice_bounds-is_listing-end : goal.slice_bounds-is_listing-end
-slice_bounds-is_listing-end c = let st = c.guess_table-count.ensures.1 in sym (length-take-le _ _ (omega (arith, st.few, st.long)))
-
-pub is_listing-requires : goal.is_listing-requires
-is_listing-requires c = let st = c.guess_table-count.ensures.1 in omega (arith, st.few, length-take-le c.guess_table-count.result c.guess_table-count.new.table (omega (arith, st.few, st.long)))
-
 pub returns-then-not-is_listing : goal.returns-then-not-is_listing
 returns-then-not-is_listing c =
     let a = c.args in
@@ -65,9 +54,6 @@ returns-then-table-live_count c =
     let yes = found a.text.now c.guess_table-count.new.table c.guess_table-count.result issued c.is_listing.ensures (not-false c.is_listing.result c.if-not-is_listing.false-raw) in
     read_refused a.text.now a.table.now a.tally.now few TableFull (answers_10 a.text.now _ few c.guess_table-count.ensures.1 issued c.guess_table-count.ensures.0 ei yes c.live_count.result (counted c.guess_table-count.new.table c.live_count.result c.guess_table-count.ensures.1.long c.live_count.ensures) c.if-table-live_count.true)
 
-pub copy_rows-requires : goal.copy_rows-requires
-copy_rows-requires c = (c.guess_table-count.ensures.1.long, c.if-table-gt1024.false)
-
 pub returns : goal.returns
 returns c =
     let a = c.args in
@@ -75,6 +61,6 @@ returns c =
     let issued = c.number-issued.result in
     let ei = c.number-issued.ensures ∙ ap number_of c.after_space.ensures in
     let yes = found a.text.now c.guess_table-count.new.table c.guess_table-count.result issued c.is_listing.ensures (not-false c.is_listing.result c.if-not-is_listing.false-raw) in
-    read_given a.text.now a.table.now a.tally.now few c.copy_rows.new.to c.set_tally.new.tally issued
-    (answers_given a.text.now _ few c.guess_table-count.ensures.1 issued c.guess_table-count.ensures.0 ei yes c.live_count.result (counted c.guess_table-count.new.table c.live_count.result c.guess_table-count.ensures.1.long c.live_count.ensures) c.if-table-live_count.false c.copy_rows.ensures)
+    read_given a.text.now a.table.now a.tally.now few c.copy_over.new.to c.set_tally.new.tally issued
+    (answers_given a.text.now _ few c.guess_table-count.ensures.1 issued c.guess_table-count.ensures.0 ei yes c.live_count.result (counted c.guess_table-count.new.table c.live_count.result c.guess_table-count.ensures.1.long c.live_count.ensures) c.if-table-live_count.false (ap rows_in c.copy_over.ensures ∙ rows_part _ (length a.table.now)))
     (c.set_tally.ensures ∙ c.with_issued.ensures ∙ ap (λ (t : Tally). with_issued issued t) c.tally_at-before.ensures)

@@ -1,4 +1,4 @@
-use mathlib.Core.Path.{◌≡◌, refl, ap, ◌∙◌}
+use mathlib.Core.Path.{◌≡◌, refl, ap}
 use Prim.Native.Nat.{ℕ, ◌+◌, ◌<◌}
 use mathlib.Core.List.{List}
 use native.Mathlib.Omega.{arith}
@@ -17,13 +17,8 @@ more ws i total len c l e f g = omega (arith, forms_more ws i l, ap form_length 
 
 pub loop-i-init : goal.loop-i-init
 unfolding total
-loop-i-init c = (omega arith, refl, omega arith)
+loop-i-init c = (refl, omega arith)
 
 pub loop-i-preserved : goal.loop-i-preserved
 loop-i-preserved c =
-    (omega arith, more c.args.table.now c.loop-i.i c.loop-i.total c.form_length-total.result c.row_at.result (omega arith) c.loop-i.invariant.1 c.form_length-total.ensures.0 c.row_at.ensures, omega (arith, c.form_length-total.ensures.1))
-
-pub returns : goal.returns
-returns c =
-    let same : c.loop-i.i ≡ c.args.n = omega (arith, c.loop-i-test.false) in
-    (c.loop-i.invariant.1 ∙ ap (λ (k : ℕ). forms_length (first_rows c.args.table.now k)) same, omega arith)
+    (more c.args.table.now c.loop-i.i c.loop-i.total c.form_length-total.result c.row_at.result (omega arith) c.loop-i.invariant.0 c.form_length-total.ensures.0 c.row_at.ensures, omega (arith, c.form_length-total.ensures.1))

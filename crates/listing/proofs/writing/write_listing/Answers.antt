@@ -1,5 +1,7 @@
 -- `listing::writing::write_listing` meets its contract: refusal 1, or the listing of the live rows.
 -- Assumes nothing.
+use Rattle.std.specs.Prelude.{Result}
+use Rattle.model.specs.declared.Refusal.{Refusal}
 use mathlib.Core.Path.{◌≡◌, refl, sym, ap, ◌∙◌}
 use mathlib.Core.Bool.{true}
 use mathlib.Core.List.{List}
@@ -14,14 +16,13 @@ use Rattle.table.specs.Rows.{Front}
 use Rattle.listing.specs.Listing.{listed, listing}
 use Rattle.text.specs.Write.{Writes, written, stored}
 use Rattle.listing.specs.WriteListing.{listing_written, listing_stored, WritesListing}
-use Rattle.text.specs.declared.write.Written.{Written}
 use Rattle.table.proofs.Offered.{too_many}
 use Rattle.listing.proofs.Laws.Lent.{not_written}
 use Rattle.listing.proofs.Laws.Front.{front_live, front_listing}
 use Rattle.listing.proofs.writing.write_listing.Goals as goal
 
 module _ (ws : List (List ℕ)) (issued : ℕ) (out : List ℕ) where
-  writes : (k : ℕ) → Front (rows_in ws) (length ws) k → in_order (rows_in ws) issued ≡ true → {after : List ℕ} {r : Written} → Writes true (listed (first_rows ws k) issued) out after r
+  writes : (k : ℕ) → Front (rows_in ws) (length ws) k → in_order (rows_in ws) issued ≡ true → {after : List ℕ} {r : Result ℕ Refusal} → Writes true (listed (first_rows ws k) issued) out after r
       → WritesListing (rows_in ws) issued out after r
   unfolding listing_written listing_stored
   writes k f h w =

@@ -2,7 +2,7 @@
 -- Assumes nothing.
 use mathlib.Core.Path.{◌≡◌}
 use mathlib.Core.Bool.{false, not, ◌&&◌}
-use Prim.Native.Nat.{ℕ, ◌-◌, ◌≤◌, ◌<◌}
+use Prim.Native.Nat.{ℕ, ◌<◌}
 use lib.Dec.{eqb}
 use lib.ListN.{get_or}
 use Rattle.model.specs.Table.{empty_row, span}
@@ -11,7 +11,4 @@ use Rattle.table.specs.Words.{rows_in}
 use Rattle.rules.proofs.marks.first_struck.Given as goal
 
 abbrev pub invariant-loop-i : goal.invariant-loop-i
-invariant-loop-i l = (l.i ≤ l.k) × ((j : ℕ) → j < l.i → (touches l.s (span (get_or (rows_in l.table) j empty_row)) && not (eqb (get_or l.relation j 0) 1)) ≡ false)
-
-abbrev pub decreases-loop-i : goal.decreases-loop-i
-decreases-loop-i l = l.k - l.i
+invariant-loop-i l = (j : ℕ) → j < l.i → (touches l.s (span (get_or (rows_in l.table) j empty_row)) && not (eqb (get_or l.relation j 0) 1)) ≡ false

@@ -1,7 +1,7 @@
 -- `spread_access` meets its contract: the first i are done.
 -- Assumes nothing.
 use mathlib.Core.Path.{◌≡◌}
-use Prim.Native.Nat.{ℕ, ◌-◌, ◌≤◌, ◌<◌}
+use Prim.Native.Nat.{ℕ, ◌<◌}
 use lib.ListN.{get_or}
 use Rattle.table.specs.Words.{rows_in}
 use Rattle.table.specs.Sheets.{sheet_in}
@@ -10,7 +10,4 @@ use Rattle.rules.proofs.Laws.Marks.{Spreading}
 use Rattle.rules.proofs.marks.spread_access.Given as goal
 
 abbrev pub invariant-loop-i : goal.invariant-loop-i
-invariant-loop-i l = (l.i ≤ l.k) × (l.first ≤ l.i) × ((j : ℕ) → j < l.first → get_or l.marks j 0 ≡ 0) × Spreading (rows_in l.table) l.i (own_of_access (sheet_in l.sheet) (rows_in l.table) l.in_cell l.relation l.places l.a l.s) l.marks × Most l.i l.marks l.most
-
-abbrev pub decreases-loop-i : goal.decreases-loop-i
-decreases-loop-i l = l.k - l.i
+invariant-loop-i l = ((j : ℕ) → j < l.first → get_or l.marks j 0 ≡ 0) × Spreading (rows_in l.table) l.i (own_of_access (sheet_in l.sheet) (rows_in l.table) l.in_cell l.relation l.places l.a l.s) l.marks × Most l.i l.marks l.most

@@ -12,28 +12,7 @@ use Rattle.rules.proofs.marks.spread_names.Goals as goal
 pub loop-i-init : goal.loop-i-init
 loop-i-init c =
     let none : (j : ℕ) → j < c.args.first → get_or (replicate {A = ℕ} 1024 0) j 0 ≡ 0 = λ j l. get_or-replicate {A = ℕ} 1024 j 0 0 (omega (arith, l, c.requires.3.fits, c.requires.0)) in
-    rw c.requires.4 (c.requires.3.fits, omega arith, none, spread_start (rows_in c.args.table.now) c.args.first (λ j. get_or c.args.owned.now j 0) (replicate {A = ℕ} 1024 0) (length-replicate {A = ℕ} 1024 0) c.requires.3.zero none)
-
-pub offset_bounds-places-i : goal.offset_bounds-places-i
-offset_bounds-places-i c = omega (arith, c.requires.0, c.loop-i-test.true)
-
-pub bounds-places-i : goal.bounds-places-i
-bounds-places-i c = omega (arith, c.requires.0, c.loop-i-test.true)
-
-pub mark_below-up-requires : goal.mark_below-up-requires
-mark_below-up-requires c = omega (arith, c.requires.0, c.loop-i-test.true)
-
-pub bounds-owned-i : goal.bounds-owned-i
-bounds-owned-i c = omega (arith, c.requires.0, c.loop-i-test.true)
-
-pub bounds-marks-i : goal.bounds-marks-i
-bounds-marks-i c = omega (arith, c.requires.0, c.loop-i-test.true, c.loop-i.invariant.3.long)
-
-pub overflow_add-i : goal.overflow_add-i
-overflow_add-i c = omega (arith, c.requires.0, c.loop-i-test.true)
-
-pub loop-i-smaller : goal.loop-i-smaller
-loop-i-smaller c = omega (arith, c.loop-i-test.true)
+    rw c.requires.4 (none, spread_start (rows_in c.args.table.now) c.args.first (λ j. get_or c.args.owned.now j 0) (replicate {A = ℕ} 1024 0) (length-replicate {A = ℕ} 1024 0) c.requires.3.zero none)
 
 pub loop-i-preserved : goal.loop-i-preserved
 loop-i-preserved c =
@@ -42,8 +21,5 @@ loop-i-preserved c =
     let q : ℕ = get_or c.args.places.now i 0 in
     let up : ℕ → ℕ = λ p. cond (ltb p i) (get_or c.loop-i.marks p 0) 0 in
     let own : ℕ = get_or c.args.owned.now i 0 in
-    let e : c.larger.result ≡ max own (cond (ltb q i) (get_or c.loop-i.marks q 0) 0) = c.larger.ensures ∙ ap (max own) (c.mark_below-up.ensures ∙ ap up c.wide.ensures) in
-    (omega (arith, c.loop-i-test.true), omega (arith, c.loop-i.invariant.1), (λ j l. get_or-set_other c.loop-i.marks i j c.larger.result 0 (λ (e : j ≡ i). omega (arith, e, l, c.loop-i.invariant.1)) ∙ c.loop-i.invariant.2 j l), rw e (spread_more T c.args.k i q (λ j. get_or c.args.owned.now j 0) c.loop-i.marks c.requires.1 c.requires.0 c.loop-i-test.true (c.requires.2.each i c.loop-i-test.true) c.loop-i.invariant.3))
-
-pub returns : goal.returns
-returns c = let e : c.loop-i.i ≡ c.args.k = omega (arith, c.loop-i.invariant.0, c.loop-i-test.false) in rw (← e) (c.loop-i.invariant.3.done, record { fits = c.loop-i.invariant.1; zero = c.loop-i.invariant.2 })
+    let e : c.max.result ≡ max own (cond (ltb q i) (get_or c.loop-i.marks q 0) 0) = c.max.ensures ∙ ap (λ (x : ℕ). max x own) (c.mark_below-up.ensures ∙ ap up c.wide.ensures) ∙ omega arith in
+    ((λ j l. get_or-set_other c.loop-i.marks i j c.max.result 0 (λ (e : j ≡ i). omega (arith, e, l)) ∙ c.loop-i.invariant.0 j l), rw e (spread_more T c.args.k i q (λ j. get_or c.args.owned.now j 0) c.loop-i.marks c.requires.1 c.requires.0 c.loop-i-test.true (c.requires.2.each i c.loop-i-test.true) c.loop-i.invariant.1))

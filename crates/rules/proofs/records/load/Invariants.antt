@@ -1,11 +1,8 @@
 -- `load` meets its contract: the first i records are in the rows.
 -- Assumes nothing.
-use Rattle.std.proofs.Common.{◌≡◌, ◌-◌, ◌≤◌}
+use Rattle.std.proofs.Common.{◌≡◌}
 use Rattle.rules.proofs.Laws.Records.{loaded}
 use Rattle.rules.proofs.records.load.Given as goal
 
 abbrev pub invariant-loop-i : goal.invariant-loop-i
-invariant-loop-i l = record { within : l.i ≤ l.n; done : l.rows ≡ loaded l.table l.initial.rows l.i }
-
-abbrev pub decreases-loop-i : goal.decreases-loop-i
-decreases-loop-i l = l.n - l.i
+invariant-loop-i l = l.rows ≡ loaded l.table l.initial.rows l.i

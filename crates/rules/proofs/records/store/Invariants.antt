@@ -1,11 +1,8 @@
 -- `store` meets its contract: the first i rows are in the records.
 -- Assumes nothing.
-use Rattle.std.proofs.Common.{◌≡◌, ◌-◌, ◌≤◌}
+use Rattle.std.proofs.Common.{◌≡◌}
 use Rattle.rules.proofs.Laws.Records.{stored}
 use Rattle.rules.proofs.records.store.Given as goal
 
 abbrev pub invariant-loop-i : goal.invariant-loop-i
-invariant-loop-i l = record { within : l.i ≤ l.n; done : l.table ≡ stored l.initial.table l.rows l.i }
-
-abbrev pub decreases-loop-i : goal.decreases-loop-i
-decreases-loop-i l = l.n - l.i
+invariant-loop-i l = l.table ≡ stored l.initial.table l.rows l.i

@@ -1,21 +1,13 @@
-use mathlib.Core.Path.{refl}
-use native.Mathlib.Omega.{arith}
-use lib.Dec.{ltb}
-use lib.ListN.{get_or}
-use borrow.Author.Tests.{lt-ltb, le-ltb}
-use Rattle.sheet.proofs.Laws.Adding.{some_here, some_later, some_none}
+-- `sheet::read::some_twice` meets its contract.
+-- Assumes nothing.
+use Rattle.std.proofs.Common.{◌≡◌, ◌∙◌, rules, tests, arith, ltb}
+use Rattle.std.proofs.lemmas.Iterator.{YieldsList-from_slice}
+use Rattle.std.proofs.lemmas.Iterator.Search.{any_from_yields_List}
+use Rattle.std.specs.List.{list_any}
+use Rattle.sheet.proofs.Laws.Adding.{some_place}
 use Rattle.sheet.proofs.read.some_twice.Goals as goal
 
-pub loop-p-init : goal.loop-p-init
-loop-p-init c = (omega arith, refl)
-
-pub returns-then-seen-p-gt1 : goal.returns-then-seen-p-gt1
-returns-then-seen-p-gt1 c =
-    some_here (λ q. ltb 1 (get_or c.args.seen.now q 0)) c.loop-p.p c.loop-p.invariant.1 c.loop-p-test.true (lt-ltb 1 _ c.if-seen-p-gt1.true)
-
-pub loop-p-preserved : goal.loop-p-preserved
-loop-p-preserved c =
-    (omega (arith, c.loop-p-test.true), some_later (λ q. ltb 1 (get_or c.args.seen.now q 0)) c.loop-p.p c.loop-p.invariant.1 c.loop-p-test.true (le-ltb 1 _ c.if-seen-p-gt1.false))
-
 pub returns : goal.returns
-returns c = some_none (λ q. ltb 1 (get_or c.args.seen.now q 0)) c.loop-p.p c.loop-p.invariant.1 c.loop-p-test.false
+returns c =
+    let found : c.any.result ≡ list_any (ltb 1) c.args.seen.now = any_from_yields_List (ltb 1) _ _ c.any.result c.any.ensures.ran (YieldsList-from_slice _ c.iter.ensures.rest) (λ x b q k. search (rules, tests)) in
+    found ∙ some_place (ltb 1) c.args.seen.now (omega arith)

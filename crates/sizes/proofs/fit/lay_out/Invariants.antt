@@ -1,12 +1,7 @@
 -- `sizes::fit::lay_out` meets its contract. The invariant, `Laying`: each text that is passed begins and ends at sums of lengths.
 -- Assumes nothing.
-use Prim.Native.Nat.{◌-◌}
-use lib.ListN.{length}
 use Rattle.sizes.proofs.Laws.Laid.{Laying}
 use Rattle.sizes.proofs.fit.lay_out.Given as goal
 
 abbrev pub invariant-loop-k : goal.invariant-loop-k
 invariant-loop-k l = Laying l.lengths l.at l.ends l.place l.k
-
-abbrev pub decreases-loop-k : goal.decreases-loop-k
-decreases-loop-k l = length l.lengths - l.k

@@ -6,7 +6,4 @@ use lib.ListN.{get_or}
 use Rattle.sizes.proofs.names.search.Given as goal
 
 abbrev pub invariant-loop-i : goal.invariant-loop-i
-invariant-loop-i l = (l.i ≤ l.used) × ((k : ℕ) → l.i ≤ k → k < l.used → get_or l.keys k 0 ≡ l.key → ⊥)
-
-abbrev pub decreases-loop-i : goal.decreases-loop-i
-decreases-loop-i l = l.i
+invariant-loop-i l = (k : ℕ) → l.i ≤ k → k < l.used → get_or l.keys k 0 ≡ l.key → ⊥

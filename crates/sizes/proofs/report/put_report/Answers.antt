@@ -17,15 +17,15 @@ small : (x : Refusal) → number x < 4294967296
 small x = omega (arith, number_small x)
 
 pub put_line-requires : goal.put_line-requires
-put_line-requires c = rw c.word_of.ensures (omega (arith, c.requires, rows_short c.in-Rows.rows))
+put_line-requires c = rw c.word_of.ensures (omega (arith, c.requires, rows_short c.in-Ok.rows))
 
-pub put_line-requires-in-Refused : goal.put_line-requires-in-Refused
-put_line-requires-in-Refused c = rw (c.number_of.ensures, c.word_of-in-Refused.ensures, c.word_of-in-Refused-2.ensures) (omega (arith, c.requires, refused_short (number c.in-Refused.refusal) c.in-Refused.client c.in-Refused.line (small c.in-Refused.refusal)))
+pub put_line-requires-in-Err : goal.put_line-requires-in-Err
+put_line-requires-in-Err c = rw (c.number_of.ensures, c.word_of-in-Err.ensures, c.word_of-in-Err-2.ensures) (omega (arith, c.requires, refused_short (number c.in-Err.at.refusal) c.in-Err.at.client c.in-Err.at.line (small c.in-Err.at.refusal)))
 
-pub returns-in-Rows : goal.returns-in-Rows
+pub returns-in-Ok : goal.returns-in-Ok
 unfolding report_line
-returns-in-Rows c = rw c.in-Rows.is (subst (λ (ns : List ℕ). Put c.args.out.now 0 (bytes "(rows" ++ (spaced ns ++ bytes ")\n")) c.put_line.new.out c.put_line.result) (ap (λ (n : ℕ). n ∷ []) c.word_of.ensures) c.put_line.ensures)
+returns-in-Ok c = rw c.in-Ok.is (subst (λ (ns : List ℕ). Put c.args.out.now 0 (bytes "(rows" ++ (spaced ns ++ bytes ")\n")) c.put_line.new.out c.put_line.result) (ap (λ (n : ℕ). n ∷ []) c.word_of.ensures) c.put_line.ensures)
 
-pub returns-in-Refused : goal.returns-in-Refused
+pub returns-in-Err : goal.returns-in-Err
 unfolding report_line
-returns-in-Refused c = rw c.in-Refused.is (subst (λ (ns : List ℕ). Put c.args.out.now 0 (bytes "(refused" ++ (spaced ns ++ bytes ")\n")) c.put_line-in-Refused.new.out c.put_line-in-Refused.result) (λ j. c.number_of.ensures j ∷ c.word_of-in-Refused.ensures j ∷ c.word_of-in-Refused-2.ensures j ∷ []) c.put_line-in-Refused.ensures)
+returns-in-Err c = rw c.in-Err.is (subst (λ (ns : List ℕ). Put c.args.out.now 0 (bytes "(refused" ++ (spaced ns ++ bytes ")\n")) c.put_line-in-Err.new.out c.put_line-in-Err.result) (λ j. c.number_of.ensures j ∷ c.word_of-in-Err.ensures j ∷ c.word_of-in-Err-2.ensures j ∷ []) c.put_line-in-Err.ensures)

@@ -2,8 +2,8 @@
 -- Assumes nothing.
 use Rattle.sizes.proofs.report.words_of.Goals as goal
 
-pub returns-in-Rows : goal.returns-in-Rows
-returns-in-Rows c = rw (c.in-Rows.is, c.word_of.ensures)
+pub returns-in-Ok : goal.returns-in-Ok
+returns-in-Ok c = rw (c.in-Ok.is, c.word_of.ensures)
 
-pub returns-in-Refused : goal.returns-in-Refused
-returns-in-Refused c = rw (c.in-Refused.is, c.number_of.ensures, c.word_of-in-Refused.ensures, c.word_of-in-Refused-2.ensures)
+pub returns-in-Err : goal.returns-in-Err
+returns-in-Err c = rw (c.in-Err.is, c.number_of.ensures, c.word_of-in-Err.ensures, c.word_of-in-Err-2.ensures)

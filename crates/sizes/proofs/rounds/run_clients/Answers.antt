@@ -18,21 +18,21 @@ one_round-round-requires c =
     let g = so.each c.requires.0.shared c.requires.0.holds in
     (record { shared = g.shared; holds = g.holds }, c.requires.1, so.places)
 
-pub shape_of-table-in-Refused : goal.shape_of-table-in-Refused
-shape_of-table-in-Refused c = c.table-1.given ∙ c.loop-at.invariant.1
+pub shape_of-table-in-Err : goal.shape_of-table-in-Err
+shape_of-table-in-Err c = c.table-1.given ∙ c.loop-at.invariant.1
 
-pub shape_of-bits-in-Refused : goal.shape_of-bits-in-Refused
-shape_of-bits-in-Refused c = c.bits-1.given ∙ c.loop-at.invariant.2
+pub shape_of-bits-in-Err : goal.shape_of-bits-in-Err
+shape_of-bits-in-Err c = c.bits-1.given ∙ c.loop-at.invariant.2
 
-pub returns-in-Refused : goal.returns-in-Refused
-returns-in-Refused c =
+pub returns-in-Err : goal.returns-in-Err
+returns-in-Err c =
     let a = c.args in
     let so = c.loop-at.invariant.0 in
     let m₀ = (memory c.args.table.now c.args.bits.now c.args.places.now c.args.names.now c.args.keys.now c.args.counts.now) in
     let m = (memory c.loop-at.table c.loop-at.bits c.loop-at.places c.loop-at.names c.loop-at.keys c.loop-at.counts) in
     let some : Left c.loop-at.at a.ends.now a.clients true = subst (Left c.loop-at.at a.ends.now a.clients) c.loop-at-test.true c.is_left.ensures in
     let m' = (memory c.one_round-round.new.table c.one_round-round.new.bits c.one_round-round.new.places c.one_round-round.new.names c.one_round-round.new.keys c.one_round-round.new.counts) in
-    in_rounds_stops a.text.now a.at.now a.ends.now a.clients c.requires.1 m₀ a.from c.loop-at.at m c.loop-at.now c.loop-at.line so some c.one_round-round.new.at m' c.one_round-round.result.answer c.one_round-round.result.client c.one_round-round.result.standing c.one_round-round.ensures.1 c.in-Refused.refusal c.in-Refused.is
+    in_rounds_stops a.text.now a.at.now a.ends.now a.clients c.requires.1 m₀ a.from c.loop-at.at m c.loop-at.now c.loop-at.line so some c.one_round-round.new.at m' c.one_round-round.result.answer c.one_round-round.result.client c.one_round-round.result.standing c.one_round-round.ensures.1 c.in-Err.refusal c.in-Err.is
 
 pub overflow_add-line : goal.overflow_add-line
 overflow_add-line c =

@@ -15,9 +15,6 @@ use Rattle.sizes.proofs.turn.take_event.Goals as goal
 pub make_room-used-requires : goal.make_room-used-requires
 make_room-used-requires c = let hold = c.requires.0.holds in let a = c.args in (live_few hold, orderly_rise (rows_in a.table.now) (length a.table.now) a.from.live a.from.tally.issued hold.fit.known.orderly, hold.listed, hold.keyed.room)
 
-pub need_of-requires : goal.need_of-requires
-need_of-requires c = live_few c.requires.0.holds
-
 pub ask-asked-requires : goal.ask-asked-requires
 ask-asked-requires c = (record { shared = c.requires.0.shared; holds = held_kept c.requires.0.holds c.make_room-used.ensures.0 }, c.requires.1)
 
@@ -42,7 +39,7 @@ returns c =
           let answered = c.ask-asked.ensures.0.each h kept in
           record {
             refusal = answered.refusal;
-            most_needed = c.larger-most.ensures ∙ needed hold a.event a.from.most c.need_of.result c.need_of.ensures;
+            most_needed = c.max-most.ensures ∙ needed hold a.event a.from.most c.need_of.result c.need_of.ensures;
             goes = λ q. rw (gave.0, gave.1, gave.2, gave.3)
                 (subst (λ (k : ℕ). Holds (shared_after h (suc a.client) (value a.event)) (memory table bits places (names_with k names used) (keys_with k keys used (suc a.client) (get_or a.counts.now a.client 0)) (counts_with k a.counts.now a.client)) live (used_with k used) out.tally)
                 (sym c.new_name.ensures) (held kept a.client c.requires.1 c.make_room-used.ensures.1 a.event answered c.ask-asked.ensures.1 q));

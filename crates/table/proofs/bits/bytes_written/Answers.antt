@@ -8,15 +8,15 @@ use Rattle.table.proofs.bits.bytes_written.Goals as goal
 use Rattle.table.proofs.bits.bytes_written.Goals.{then-not-is_full, else-not-is_full}
 
 pub loop-i-init : goal.loop-i-init
-loop-i-init c = (omega arith, refl)
+loop-i-init c = refl
 
 pub loop-i-preserved : goal.loop-i-preserved
 loop-i-preserved c =
     let s = c.args in
-    let whole = c.loop-i.invariant.1 ∙ ap (◌&&◌ c.loop-i.full) (all_byte s.bits.now c.loop-i.i s.to c.loop-i-test.true) in
+    let whole = c.loop-i.invariant ∙ ap (◌&&◌ c.loop-i.full) (all_byte s.bits.now c.loop-i.i s.to c.loop-i-test.true) in
     elim c.if-not-is_full.branch [
-      | then-not-is_full w ↦ (omega arith, whole ∙ rw (sym c.is_full.ensures ∙ w.if-not-is_full.true, w.full-is) (and-false c.loop-i.full))
-      | else-not-is_full w ↦ (omega arith, whole ∙ rw (sym c.is_full.ensures ∙ w.if-not-is_full.false, w.full-is))
+      | then-not-is_full w ↦ whole ∙ rw (sym c.is_full.ensures ∙ w.if-not-is_full.true, w.full-is) (and-false c.loop-i.full)
+      | else-not-is_full w ↦ whole ∙ rw (sym c.is_full.ensures ∙ w.if-not-is_full.false, w.full-is)
     ]
 
 pub returns : goal.returns
@@ -24,4 +24,4 @@ unfolding all_written
 returns c =
     let s = c.args in
     let e : (s.to - c.loop-i.i) * 8 ≡ 0 = omega arith in
-    sym ((rw e at c.loop-i.invariant.1) ∙ and-true c.loop-i.full)
+    sym ((rw e at c.loop-i.invariant) ∙ and-true c.loop-i.full)

@@ -1,30 +1,18 @@
-use mathlib.Core.Path.{refl, sym, ◌∙◌}
-use native.Mathlib.Omega.{arith}
-use borrow.Author.Tests.{not-true, not-false}
-use Rattle.model.specs.Bits.{bit_at}
-use Rattle.table.proofs.Laws.Bits.{all_first, all_none}
+-- `some_written` meets its contract.
+-- Assumes nothing.
+use Rattle.std.proofs.Common.{rules, ◌∙◌, ◌≡◌, ℕ, Bool, refl, ◌-◌, ◌/◌, ◌%◌, get_or}
+use borrow.Author.Tests.{tests}
+use Rattle.std.specs.List.{list_all, range_with_len}
+use Rattle.std.proofs.lemmas.Iterator.{YieldsList-from_range}
+use Rattle.std.proofs.lemmas.Iterator.Search.{all_from_yields_List}
+use Rattle.model.specs.Bits.{has_bit, bit_at}
+use Rattle.table.proofs.Laws.Bits.{all_in_turn}
 use Rattle.table.proofs.bits.some_written.Goals as goal
 
-pub loop-a-init : goal.loop-a-init
-loop-a-init c = (omega arith, refl)
-
-pub returns-then-not-has_bit : goal.returns-then-not-has_bit
-unfolding bit_at
-returns-then-not-has_bit c =
-    let s = c.args in
-    let f = bit_at s.bits.now in
-    let n = sym c.has_bit.ensures ∙ not-true c.has_bit.result c.if-not-has_bit.true-raw in
-    sym (c.loop-a.invariant.1 ∙ all_first f c.loop-a.a s.to c.loop-a-test.true ∙ rw n)
-
-pub loop-a-preserved : goal.loop-a-preserved
-unfolding bit_at
-loop-a-preserved c =
-    let s = c.args in
-    let f = bit_at s.bits.now in
-    let y = sym c.has_bit.ensures ∙ not-false c.has_bit.result c.if-not-has_bit.false-raw in
-    (omega arith, c.loop-a.invariant.1 ∙ all_first f c.loop-a.a s.to c.loop-a-test.true ∙ rw y)
-
 pub returns : goal.returns
+unfolding bit_at
 returns c =
-    let s = c.args in
-    sym (c.loop-a.invariant.1 ∙ all_none (bit_at s.bits.now) c.loop-a.a s.to c.loop-a-test.false)
+    let test : ℕ → Bool = λ a. has_bit (get_or c.args.bits.now (a / 8) 0) (a % 8) in
+    let n = c.args.to - c.args.from in
+    let e : c.all.result ≡ list_all test (range_with_len c.args.from n) = all_from_yields_List test _ _ c.all.result c.all.ensures.ran (YieldsList-from_range c.args.from c.args.to n refl refl) (λ x b q k. search (rules, tests)) in
+    e ∙ all_in_turn test c.args.from n

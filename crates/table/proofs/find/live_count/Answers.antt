@@ -1,26 +1,16 @@
-use mathlib.Core.Path.{◌≡◌, ap, sym, ◌∙◌}
-use Prim.Native.Nat.{◌<◌}
-use native.Mathlib.Omega.{arith}
-use lib.ListN.{length}
-use borrow.Author.Rules.{rules}
-use Rattle.model.specs.declared.Cap.{Cap}
-use Rattle.table.specs.Words.{rows_in}
-use Rattle.table.specs.Rows.{name_at}
-use Rattle.table.proofs.Laws.Prefix.{extend, not_zero}
+-- `live_count` meets its contract: the first row with name 0 is looked for.
+-- Assumes nothing.
+use Rattle.std.proofs.Common.{rules, ◌≡◌, eqb}
+use borrow.Author.Tests.{tests}
+use Rattle.std.specs.List.{position}
+use Rattle.std.proofs.lemmas.Iterator.{YieldsList-from_slice}
+use Rattle.std.proofs.lemmas.Iterator.Search.{position_from_yields_List}
+use Rattle.table.specs.Words.{cap_of}
+use Rattle.table.proofs.Laws.Find.{front_of}
 use Rattle.table.proofs.find.live_count.Goals as goal
-
-pub loop-i-init : goal.loop-i-init
-loop-i-init c = (search rules, λ j l. absurd (omega arith))
-
-pub returns-then-c-eq0 : goal.returns-then-c-eq0
-returns-then-c-eq0 c = record { fits = omega (arith, c.loop-i.invariant.0); filled = c.loop-i.invariant.1; stop = λ _. ap (λ (d : Cap). d.name.0) (sym c.row_at-c.ensures) ∙ c.if-c-eq0.true }
-
-pub loop-i-preserved : goal.loop-i-preserved
-loop-i-preserved c =
-    let T = rows_in c.args.table.now in
-    (search rules, extend (λ j. 0 < name_at T j) c.loop-i.i c.loop-i.invariant.1 (not_zero (name_at T c.loop-i.i) (λ e. c.if-c-eq0.false (ap (λ (d : Cap). d.name.0) c.row_at-c.ensures ∙ e))))
 
 pub returns : goal.returns
 returns c =
-    let e : c.loop-i.i ≡ length c.args.table.now = omega (arith, c.loop-i.invariant.0, c.loop-i-test.false) in
-    record { fits = omega arith; filled = c.loop-i.invariant.1; stop = λ b. absurd (omega arith) }
+    let ws = c.args.table.now in
+    let e : c.position.result ≡ position (λ w. eqb (cap_of w).name.0 0) ws = position_from_yields_List (λ w. eqb (cap_of w).name.0 0) _ _ c.position.result c.position.ensures.ran (YieldsList-from_slice ws cc) (λ x b q k. search (rules, tests)) in
+    rw (c.unwrap_or.ensures, e) (front_of ws)

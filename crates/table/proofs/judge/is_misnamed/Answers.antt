@@ -3,5 +3,5 @@
 use native.Mathlib.Numerals.{add-one}
 use Rattle.table.proofs.judge.is_misnamed.Goals as goal
 
-pub returns-in-Written : goal.returns-in-Written
-returns-in-Written c = rw (c.in-Written.is, add-one)
+pub returns-in-Some : goal.returns-in-Some
+returns-in-Some c = rw (c.in-Some.is, add-one)

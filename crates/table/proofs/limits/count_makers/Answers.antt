@@ -11,10 +11,7 @@ use Rattle.table.proofs.Laws.Limits.{counts_more, made_few}
 use Rattle.table.proofs.limits.count_makers.Goals as goal
 
 pub loop-i-init : goal.loop-i-init
-loop-i-init c = (omega arith, c.requires.3)
-
-pub row_at-c-requires : goal.row_at-c-requires
-row_at-c-requires c = omega (arith, c.loop-i-test.true, c.requires.0)
+loop-i-init c = c.requires.3
 
 pub count_maker-requires : goal.count_maker-requires
 count_maker-requires c =
@@ -22,8 +19,8 @@ count_maker-requires c =
     let m : ℕ = (get_or T i empty_row).maker in
     let e : c.row_at-c.result.maker ≡ m = ap (λ (r : Cap). r.maker) c.row_at-c.ensures in
     let l : m < 64 = c.requires.2 i c.loop-i-test.true in
-    let few : get_or c.loop-i.counts m 0 < 1024 = omega (arith, c.loop-i.invariant.1.each m l, made_few T i m, c.loop-i-test.true, c.requires.1) in
-    (c.loop-i.invariant.1.all_domains, rw e l, rw e few)
+    let few : get_or c.loop-i.counts m 0 < 1024 = omega (arith, c.loop-i.invariant.each m l, made_few T i m, c.loop-i-test.true, c.requires.1) in
+    (c.loop-i.invariant.all_domains, rw e l, rw e few)
 
 pub loop-i-preserved : goal.loop-i-preserved
 loop-i-preserved c =
@@ -32,7 +29,7 @@ loop-i-preserved c =
     let e : c.row_at-c.result.maker ≡ m = ap (λ (r : Cap). r.maker) c.row_at-c.ensures in
     let l : m < 64 = c.requires.2 i c.loop-i-test.true in
     let counted : c.count_maker.new.counts ≡ set c.loop-i.counts m (suc (get_or c.loop-i.counts m 0)) = c.count_maker.ensures ∙ ap (λ (x : ℕ). set c.loop-i.counts x (suc (get_or c.loop-i.counts x 0))) e in
-    (omega (arith, c.loop-i-test.true), subst (λ (counts : List ℕ). Counts T (i + 1) counts) (sym counted) (counts_more T i c.loop-i.counts c.loop-i.invariant.1 l))
+    subst (λ (counts : List ℕ). Counts T (i + 1) counts) (sym counted) (counts_more T i c.loop-i.counts c.loop-i.invariant l)
 
 pub returns : goal.returns
-returns c = let e : c.loop-i.i ≡ c.args.k = omega (arith, c.loop-i.invariant.0, c.loop-i-test.false) in subst (λ (i : ℕ). Counts (rows_in c.args.table.now) i c.loop-i.counts) e c.loop-i.invariant.1
+returns c = let e : c.loop-i.i ≡ c.args.k = omega (arith, c.loop-i-test.false) in subst (λ (i : ℕ). Counts (rows_in c.args.table.now) i c.loop-i.counts) e c.loop-i.invariant

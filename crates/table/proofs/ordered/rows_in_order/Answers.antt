@@ -14,7 +14,7 @@ use Rattle.table.proofs.Laws.Ordered.{checked_none, checked_more, checked_all, f
 use Rattle.table.proofs.ordered.rows_in_order.Goals as goal
 
 pub loop-i-init : goal.loop-i-init
-loop-i-init c = (omega arith, checked_none (rows_in c.args.table.now), places_none (rows_in c.args.table.now) c.args.places.now c.requires.2, length-replicate {A = ℕ} 2048 0)
+loop-i-init c = (checked_none (rows_in c.args.table.now), places_none (rows_in c.args.table.now) c.args.places.now c.requires.2, length-replicate {A = ℕ} 2048 0)
 
 pub row_at-c-requires : goal.row_at-c-requires
 row_at-c-requires c = omega (arith, filled_fits c.args.table.now c.args.k c.requires.1, c.loop-i-test.true)
@@ -23,25 +23,19 @@ pub returns-then-c-last : goal.returns-then-c-last
 returns-then-c-last c = let T = rows_in c.args.table.now in
     let i : ℕ = c.loop-i.i in
     let n : name_at T i ≡ c.row_at-c.result.name.0 = ap (λ (d : Cap). d.name.0) (sym c.row_at-c.ensures) in
-    (sym (fails_name T (suc c.args.issued) c.args.k i c.loop-i.last c.loop-i.invariant.1 c.loop-i-test.true c.requires.1 (omega (arith, n, c.if-c-last.true))), record { known = λ e. clash e refl })
-
-pub offset_bounds-seen-slot : goal.offset_bounds-seen-slot
-offset_bounds-seen-slot c = omega (arith, c.slot.ensures)
-
-pub bounds-seen-slot : goal.bounds-seen-slot
-bounds-seen-slot c = omega (arith, c.slot.ensures, c.loop-i.invariant.3)
+    (sym (fails_name T (suc c.args.issued) c.args.k i c.loop-i.last c.loop-i.invariant.0 c.loop-i-test.true c.requires.1 (omega (arith, n, c.if-c-last.true))), record { known = λ e. clash e refl })
 
 pub find_near-q-requires : goal.find_near-q-requires
 find_near-q-requires c = let T = rows_in c.args.table.now in
     let i : ℕ = c.loop-i.i in
     let n : name_at T i ≡ c.row_at-c.result.name.0 = ap (λ (d : Cap). d.name.0) (sym c.row_at-c.ensures) in
-    (omega (arith, c.requires.0, c.loop-i-test.true), rows_in_order_rise T (suc c.loop-i.last) i (λ j l. c.requires.1 j (omega (arith, c.loop-i-test.true, l))) c.loop-i.invariant.1.up)
+    (omega (arith, c.requires.0, c.loop-i-test.true), rows_in_order_rise T (suc c.loop-i.last) i (λ j l. c.requires.1 j (omega (arith, c.loop-i-test.true, l))) c.loop-i.invariant.0.up)
 
 pub row_in_order-requires : goal.row_in_order-requires
 row_in_order-requires c = let T = rows_in c.args.table.now in
     let i : ℕ = c.loop-i.i in
     let n : name_at T i ≡ c.row_at-c.result.name.0 = ap (λ (d : Cap). d.name.0) (sym c.row_at-c.ensures) in
-    (omega (arith, c.requires.0, c.loop-i-test.true), rows_in_order_rise T (suc c.loop-i.last) i (λ j l. c.requires.1 j (omega (arith, c.loop-i-test.true, l))) c.loop-i.invariant.1.up, c.find_near-q.ensures)
+    (omega (arith, c.requires.0, c.loop-i-test.true), rows_in_order_rise T (suc c.loop-i.last) i (λ j l. c.requires.1 j (omega (arith, c.loop-i-test.true, l))) c.loop-i.invariant.0.up, c.find_near-q.ensures)
 
 pub returns-then-not-row_in_order : goal.returns-then-not-row_in_order
 returns-then-not-row_in_order c = let T = rows_in c.args.table.now in
@@ -49,37 +43,13 @@ returns-then-not-row_in_order c = let T = rows_in c.args.table.now in
     let n : name_at T i ≡ c.row_at-c.result.name.0 = ap (λ (d : Cap). d.name.0) (sym c.row_at-c.ensures) in
     (sym (fails_place T (suc c.args.issued) c.args.k i c.loop-i-test.true (ap (λ (d : Cap). row_in_order d (before T i)) (sym c.row_at-c.ensures) ∙ sym c.row_in_order.ensures ∙ not-true c.row_in_order.result c.if-not-row_in_order.true-raw)), record { known = λ e. clash e refl })
 
-pub overflow_cast-places : goal.overflow_cast-places
-overflow_cast-places c = omega (arith, c.find_near-q.ensures.fits, c.requires.0, c.loop-i-test.true)
-
-pub offset_bounds-places-i : goal.offset_bounds-places-i
-offset_bounds-places-i c = omega (arith, c.requires.0, c.loop-i-test.true, c.loop-i.invariant.2.long)
-
-pub bounds-places-i : goal.bounds-places-i
-bounds-places-i c = omega (arith, c.requires.0, c.loop-i-test.true, c.loop-i.invariant.2.long)
-
-pub overflow_cast-seen : goal.overflow_cast-seen
-overflow_cast-seen c = omega (arith, c.requires.0, c.loop-i-test.true)
-
-pub offset_bounds-seen-slot-in-loop-i : goal.offset_bounds-seen-slot-in-loop-i
-offset_bounds-seen-slot-in-loop-i c = omega (arith, c.slot-in-loop-i.ensures)
-
-pub bounds-seen-slot-in-loop-i : goal.bounds-seen-slot-in-loop-i
-bounds-seen-slot-in-loop-i c = omega (arith, c.slot-in-loop-i.ensures, c.loop-i.invariant.3)
-
-pub overflow_add-i : goal.overflow_add-i
-overflow_add-i c = omega (arith, c.requires.0, c.loop-i-test.true)
-
-pub loop-i-smaller : goal.loop-i-smaller
-loop-i-smaller c = omega (arith, c.loop-i-test.true)
-
 pub loop-i-preserved : goal.loop-i-preserved
 loop-i-preserved c = let T = rows_in c.args.table.now in
     let i : ℕ = c.loop-i.i in
     let n : name_at T i ≡ c.row_at-c.result.name.0 = ap (λ (d : Cap). d.name.0) (sym c.row_at-c.ensures) in
     let p : c.row_at-c.result.parent.0 ≡ parent_at T i = ap (λ (d : Cap). d.parent.0) c.row_at-c.ensures in
     let f : Found T i (parent_at T i) c.find_near-q.result = rw (← p) c.find_near-q.ensures in
-    (omega (arith, c.loop-i-test.true), rw (← n) (checked_more T i c.loop-i.last c.loop-i.invariant.1 (omega (arith, n, c.if-c-last.false)) (ap (λ (d : Cap). row_in_order d (before T i)) (sym c.row_at-c.ensures) ∙ sym c.row_in_order.ensures ∙ not-false c.row_in_order.result c.if-not-row_in_order.false-raw)), places_more T T i c.find_near-q.result c.loop-i.places (omega (arith, c.requires.0, c.loop-i-test.true)) (λ j l. (refl, refl)) f c.loop-i.invariant.2, simp length-set c.loop-i.invariant.3)
+    (rw (← n) (checked_more T i c.loop-i.last c.loop-i.invariant.0 (omega (arith, n, c.if-c-last.false)) (ap (λ (d : Cap). row_in_order d (before T i)) (sym c.row_at-c.ensures) ∙ sym c.row_in_order.ensures ∙ not-false c.row_in_order.result c.if-not-row_in_order.false-raw)), places_more T T i c.find_near-q.result c.loop-i.places (omega (arith, c.requires.0, c.loop-i-test.true)) (λ j l. (refl, refl)) f c.loop-i.invariant.1, simp length-set c.loop-i.invariant.2)
 
 pub returns : goal.returns
-returns c = let e : c.loop-i.i ≡ c.args.k = omega (arith, c.loop-i.invariant.0, c.loop-i-test.false) in rw (← e) (checked_all (rows_in c.args.table.now) c.loop-i.i c.loop-i.last c.args.issued c.loop-i.invariant.1, record { known = λ _. c.loop-i.invariant.2 })
+returns c = let e : c.loop-i.i ≡ c.args.k = omega (arith, c.loop-i-test.false) in rw (← e) (checked_all (rows_in c.args.table.now) c.loop-i.i c.loop-i.last c.args.issued c.loop-i.invariant.0, record { known = λ _. c.loop-i.invariant.1 })

@@ -1,5 +1,6 @@
 -- `look_back` meets its contract: what the rows kept are decides what the table is.
 -- Assumes nothing.
+use Rattle.std.specs.Prelude.{ℕ, Option}
 use mathlib.Core.Path.{◌≡◌, sym, ap, subst, ◌∙◌}
 use mathlib.Core.Bool.{false, not, ◌||◌}
 use Prim.Native.Nat.{◌+◌, ◌*◌, ◌≤◌}
@@ -9,7 +10,6 @@ use borrow.Author.Tests.{eqb-true, not-true, not-false}
 use Rattle.model.specs.Table.{live_rows, in_order}
 use Rattle.model.specs.Limits.{exceeds}
 use Rattle.model.specs.Refusals.{unfit_slot}
-use Rattle.table.specs.declared.ordered.Look.{Look}
 use Rattle.table.specs.Words.{rows_in}
 use Rattle.table.specs.Limits.{limits_in}
 use Rattle.table.specs.Known.{Known, LooksKept}
@@ -51,26 +51,26 @@ slice_bounds-look_kept-end c =
 pub look_kept-found-requires : goal.look_kept-found-requires
 look_kept-found-requires c = (c.requires.4, c.requires.3.sheet)
 
-pub returns-in-Disordered : goal.returns-in-Disordered
-returns-in-Disordered c =
+pub returns-in-None : goal.returns-in-None
+returns-in-None c =
     let total : c.head_of-head.result.more + c.head_of-head.result.empty ≡ c.args.size + 1 = eqb-true _ _ (sym c.is_size.ensures ∙ not-false _ c.if-not-is_size.false-raw) in
     let few : c.kept_of-kept.result ≤ 1024 = omega (arith, total, c.kept_of-kept.ensures, c.requires.2) in
     let looked : LooksKept (take c.kept_of-kept.result (drop (1025 * c.args.slot + 1) c.args.stored.now)) c.args.issued c.args.limits.now c.look_kept-found.new.places c.look_kept-found.result = subst (λ ws. LooksKept ws c.args.issued c.args.limits.now c.look_kept-found.new.places c.look_kept-found.result) (slice_kept c.args.stored.now c.args.slot c.head_at-first.result c.kept_of-kept.result c.head_at-first.ensures) c.look_kept-found.ensures in
     let told : table_at c.args.stored.now c.args.slot ≡ table_by (c.kept_of-kept.result + 1) c.head_of-head.result.empty (kept_rows c.args.stored.now c.args.slot) = at_head c.args.stored.now c.args.slot (c.kept_of-kept.result + 1) c.head_of-head.result.empty (c.kept_of-kept.ensures ∙ c.head_of-head.ensures.0) c.head_of-head.ensures.1 in
     let whole : c.kept_of-kept.result + c.head_of-head.result.empty ≡ c.args.size = omega (arith, total, c.kept_of-kept.ensures) in
     let judged : unfit_slot (limits_in c.args.limits.now) c.args.size c.args.issued (table_at c.args.stored.now c.args.slot) ≡ (not (in_order (rows_in (take c.kept_of-kept.result (drop (1025 * c.args.slot + 1) c.args.stored.now))) c.args.issued) || exceeds 0 (live_rows (rows_in (take c.kept_of-kept.result (drop (1025 * c.args.slot + 1) c.args.stored.now)))) c.args.limits.now) = let S = kept_rows c.args.stored.now c.args.slot in ap (unfit_slot (limits_in c.args.limits.now) c.args.size c.args.issued) told ∙ unfit_kept c.args.limits.now c.args.size c.args.issued S c.kept_of-kept.result c.head_of-head.result.empty (omega (arith, few, length_kept c.args.stored.now c.args.slot c.requires.0 c.requires.1)) c.requires.3 whole c.requires.2 ∙ ap (λ X. not (in_order X c.args.issued) || exceeds 0 (live_rows X) c.args.limits.now) (kept_slice c.args.stored.now c.args.slot c.kept_of-kept.result few) in
-    judged ∙ subst (λ (p : Look). LooksKept (take c.kept_of-kept.result (drop (1025 * c.args.slot + 1) c.args.stored.now)) c.args.issued c.args.limits.now c.look_kept-found.new.places p) c.in-Disordered.is looked
+    judged ∙ subst (λ (p : Option ℕ). LooksKept (take c.kept_of-kept.result (drop (1025 * c.args.slot + 1) c.args.stored.now)) c.args.issued c.args.limits.now c.look_kept-found.new.places p) c.in-None.is looked
 
-pub returns-in-InOrder : goal.returns-in-InOrder
-returns-in-InOrder c =
+pub returns-in-Some : goal.returns-in-Some
+returns-in-Some c =
     let total : c.head_of-head.result.more + c.head_of-head.result.empty ≡ c.args.size + 1 = eqb-true _ _ (sym c.is_size.ensures ∙ not-false _ c.if-not-is_size.false-raw) in
     let few : c.kept_of-kept.result ≤ 1024 = omega (arith, total, c.kept_of-kept.ensures, c.requires.2) in
     let looked : LooksKept (take c.kept_of-kept.result (drop (1025 * c.args.slot + 1) c.args.stored.now)) c.args.issued c.args.limits.now c.look_kept-found.new.places c.look_kept-found.result = subst (λ ws. LooksKept ws c.args.issued c.args.limits.now c.look_kept-found.new.places c.look_kept-found.result) (slice_kept c.args.stored.now c.args.slot c.head_at-first.result c.kept_of-kept.result c.head_at-first.ensures) c.look_kept-found.ensures in
     let told : table_at c.args.stored.now c.args.slot ≡ table_by (c.kept_of-kept.result + 1) c.head_of-head.result.empty (kept_rows c.args.stored.now c.args.slot) = at_head c.args.stored.now c.args.slot (c.kept_of-kept.result + 1) c.head_of-head.result.empty (c.kept_of-kept.ensures ∙ c.head_of-head.ensures.0) c.head_of-head.ensures.1 in
     let whole : c.kept_of-kept.result + c.head_of-head.result.empty ≡ c.args.size = omega (arith, total, c.kept_of-kept.ensures) in
     let judged : unfit_slot (limits_in c.args.limits.now) c.args.size c.args.issued (table_at c.args.stored.now c.args.slot) ≡ (not (in_order (rows_in (take c.kept_of-kept.result (drop (1025 * c.args.slot + 1) c.args.stored.now))) c.args.issued) || exceeds 0 (live_rows (rows_in (take c.kept_of-kept.result (drop (1025 * c.args.slot + 1) c.args.stored.now)))) c.args.limits.now) = let S = kept_rows c.args.stored.now c.args.slot in ap (unfit_slot (limits_in c.args.limits.now) c.args.size c.args.issued) told ∙ unfit_kept c.args.limits.now c.args.size c.args.issued S c.kept_of-kept.result c.head_of-head.result.empty (omega (arith, few, length_kept c.args.stored.now c.args.slot c.requires.0 c.requires.1)) c.requires.3 whole c.requires.2 ∙ ap (λ X. not (in_order X c.args.issued) || exceeds 0 (live_rows X) c.args.limits.now) (kept_slice c.args.stored.now c.args.slot c.kept_of-kept.result few) in
-    let l : Known (take c.kept_of-kept.result (drop (1025 * c.args.slot + 1) c.args.stored.now)) c.in-InOrder.live c.args.issued c.look_kept-found.new.places × (exceeds 0 (live_rows (rows_in (take c.kept_of-kept.result (drop (1025 * c.args.slot + 1) c.args.stored.now)))) c.args.limits.now ≡ false) =
-    subst (λ (p : Look). LooksKept (take c.kept_of-kept.result (drop (1025 * c.args.slot + 1) c.args.stored.now)) c.args.issued c.args.limits.now c.look_kept-found.new.places p) c.in-InOrder.is looked in (
-      kept_fit c.args.stored.now c.args.slot c.args.size c.in-InOrder.live c.args.issued c.kept_of-kept.result c.head_of-head.result.empty c.look_kept-found.new.places c.requires.0 c.requires.1 whole c.requires.2 told l.0,
+    let l : Known (take c.kept_of-kept.result (drop (1025 * c.args.slot + 1) c.args.stored.now)) c.in-Some.live c.args.issued c.look_kept-found.new.places × (exceeds 0 (live_rows (rows_in (take c.kept_of-kept.result (drop (1025 * c.args.slot + 1) c.args.stored.now)))) c.args.limits.now ≡ false) =
+    subst (λ (p : Option ℕ). LooksKept (take c.kept_of-kept.result (drop (1025 * c.args.slot + 1) c.args.stored.now)) c.args.issued c.args.limits.now c.look_kept-found.new.places p) c.in-Some.is looked in (
+      kept_fit c.args.stored.now c.args.slot c.args.size c.in-Some.live c.args.issued c.kept_of-kept.result c.head_of-head.result.empty c.look_kept-found.new.places c.requires.0 c.requires.1 whole c.requires.2 told l.0,
       judged ∙ rw l.0.orderly.ordered l.1,
     )

@@ -9,7 +9,4 @@ use Rattle.text.proofs.group.guess_names.Given as goal
 
 abbrev pub invariant-loop-count : goal.invariant-loop-count
 invariant-loop-count l =
-    (l.count ≤ 64) × (l.at ≤ length l.form) × (length l.names ≡ 64) × (take l.count l.names ++ names_from (64 - l.count) (drop l.at l.form) ≡ guess_names l.form)
-
-abbrev pub decreases-loop-count : goal.decreases-loop-count
-decreases-loop-count l = 64 - l.count
+    (l.at ≤ length l.form) × (length l.names ≡ 64) × (take l.count l.names ++ names_from (64 - l.count) (drop l.at l.form) ≡ guess_names l.form)

@@ -1,23 +1,20 @@
-use mathlib.Core.Path.{sym, ◌∙◌}
-use native.Mathlib.Omega.{arith}
-use Rattle.text.proofs.Laws.Line.{through_hit, through_miss, through_end}
+-- `text::lines::count_through` meets its contract: the place of the first byte of the class.
+-- Assumes nothing.
+use Rattle.std.proofs.Common.{rules, tests, ◌≡◌, sym, ◌∙◌}
+use Rattle.std.specs.List.{position}
+use Rattle.std.proofs.lemmas.Iterator.{YieldsList-from_slice}
+use Rattle.std.proofs.lemmas.Iterator.Search.{position_from_yields_List}
+use Rattle.text.proofs.Laws.Line.{has, through_some, through_none}
 use Rattle.text.proofs.lines.count_through.Goals as goal
 
-pub returns-then-found-class : goal.returns-then-found-class
-returns-then-found-class c =
+pub returns-in-Some : goal.returns-in-Some
+returns-in-Some c =
     let a = c.args in
-    sym (through_hit a.class a.text.now c.loop-i.i c.loop-i-test.true (sym c.class_by_tests-found.ensures ∙ c.if-found-class.true))
-    ∙ c.loop-i.invariant.1
+    let found : c.position.result ≡ position (has a.class) a.text.now = position_from_yields_List (has a.class) _ _ c.position.result c.position.ensures.ran (YieldsList-from_slice _ c.iter.ensures.rest) (λ x b q k. search (rules, tests)) in
+    through_some a.class a.text.now c.in-Some.i (sym found ∙ c.in-Some.is)
 
-pub loop-i-preserved : goal.loop-i-preserved
-loop-i-preserved c =
-    let a = c.args in (
-      omega arith,
-      sym (through_miss a.class a.text.now c.loop-i.i c.loop-i-test.true (λ e. c.if-found-class.false (c.class_by_tests-found.ensures ∙ e)))
-          ∙ c.loop-i.invariant.1,
-    )
-
-pub returns : goal.returns
-returns c =
+pub returns-in-None : goal.returns-in-None
+returns-in-None c =
     let a = c.args in
-    omega (arith, through_end a.class a.text.now c.loop-i.i c.loop-i-test.false)
+    let found : c.position.result ≡ position (has a.class) a.text.now = position_from_yields_List (has a.class) _ _ c.position.result c.position.ensures.ran (YieldsList-from_slice _ c.iter.ensures.rest) (λ x b q k. search (rules, tests)) in
+    through_none a.class a.text.now (sym found ∙ c.in-None.is)

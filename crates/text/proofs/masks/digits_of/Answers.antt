@@ -1,45 +1,51 @@
-use mathlib.Core.Path.{◌≡◌, refl, sym, ◌∙◌}
-use Prim.Native.Nat.{◌-◌, ◌^◌, ◌≤◌, ◌<◌}
+use mathlib.Core.Path.{◌≡◌, sym, ap, ◌∙◌}
+use mathlib.Core.List.{List}
+use Prim.Native.Nat.{ℕ, min, ◌^◌, ◌≤◌, ◌<◌}
 use native.Mathlib.Nat.{pow-suc, pow-le-pow_right}
 use native.Mathlib.Numerals.{add-one}
 use native.Mathlib.Omega.{arith}
 use lib.Dec.{lit<}
-use lib.ListN.{drop}
-use Rattle.text.proofs.Laws.Masks.{from_digit, from_end, from_none}
+use lib.ListN.{length, take, get_or, length-take}
+use Rattle.std.proofs.lemmas.List.{get_or-take}
+use Rattle.text.specs.Mask.{hex_value}
+use Rattle.text.proofs.Laws.Masks.{from_digit, from_first}
 use Rattle.text.proofs.masks.digits_of.Goals as goal
 
-pub loop-i-init : goal.loop-i-init
-loop-i-init c = (omega arith, omega arith, lit< tt, refl)
+-- a place among the first 16 bytes of a text
+few : (s : List ℕ) (n i : ℕ) → n ≡ min (length s) 16 → i < length (take n s) → (i < 16) × (i < length s) × (get_or (take n s) i 0 ≡ get_or s i 0)
+few s n i e h = (omega (arith, length-take n s), omega (arith, length-take n s), get_or-take n s i 0 (omega (arith, length-take n s)))
 
-pub returns-then-text-i : goal.returns-then-text-i
-returns-then-text-i c =
-    sym (from_end (16 - c.loop-i.i) c.loop-i.value c.args.text.now c.loop-i.i c.if-text-i.true) ∙ c.loop-i.invariant.3
+-- what fewer than 16 digits make leaves room for one more
+room : (v i : ℕ) → v < 16 ^ i → i < 16 → v < 16 ^ 15
+room v i h few =
+    let last : i ≤ 15 = omega arith in
+    let up : 16 ^ i ≤ 16 ^ 15 = pow-le-pow_right (lit< tt) last in
+    omega arith
 
 pub overflow_mul-value : goal.overflow_mul-value
 overflow_mul-value c =
-    let low : c.loop-i.value < 16 ^ 15 = let i = c.loop-i.i in let few : i ≤ 15 = omega (arith, c.loop-i-test.true) in let up : 16 ^ i ≤ 16 ^ 15 = pow-le-pow_right (lit< tt) few in omega (arith, c.loop-i.invariant.2) in
-    omega (arith, low)
-
-pub overflow_cast-value : goal.overflow_cast-value
-overflow_cast-value c = omega (arith, c.digit_value.ensures.1)
+    let b = c.loop-byte in
+    let in_text = few c.args.text.now c.min.result b.byte-index c.min.ensures c.loop-byte-test.true in
+    omega (arith, room b.value b.byte-index b.invariant.0 in_text.0)
 
 pub overflow_add-value : goal.overflow_add-value
 overflow_add-value c =
-    let low : c.loop-i.value < 16 ^ 15 = let i = c.loop-i.i in let few : i ≤ 15 = omega (arith, c.loop-i-test.true) in let up : 16 ^ i ≤ 16 ^ 15 = pow-le-pow_right (lit< tt) few in omega (arith, c.loop-i.invariant.2) in
-    omega (arith, low, c.digit_value.ensures.1)
+    let b = c.loop-byte in
+    let in_text = few c.args.text.now c.min.result b.byte-index c.min.ensures c.loop-byte-test.true in
+    omega (arith, room b.value b.byte-index b.invariant.0 in_text.0, c.digit_value.ensures.1)
 
-pub loop-i-preserved : goal.loop-i-preserved
-loop-i-preserved c =
+pub loop-byte-preserved : goal.loop-byte-preserved
+loop-byte-preserved c =
+    let b = c.loop-byte in
     let s = c.args.text.now in
-    let v = c.loop-i.value in
-    let i = c.loop-i.i in (
-      omega (arith, c.loop-i-test.true),
-      omega (arith, c.if-text-i.false),
-      rw (add-one, pow-suc) (omega (arith, c.loop-i.invariant.2, c.digit_value.ensures.1)),
-      sym (from_digit v s i _ c.loop-i-test.true c.if-text-i.false c.digit_value.ensures.0) ∙ c.loop-i.invariant.3,
+    let in_text = few s c.min.result b.byte-index c.min.ensures c.loop-byte-test.true in (
+      rw (add-one, pow-suc) (omega (arith, b.invariant.0, c.digit_value.ensures.1)),
+      sym (from_digit b.value s b.byte-index _ in_text.0 in_text.1 (c.digit_value.ensures.0 ∙ ap hex_value in_text.2)) ∙ b.invariant.1,
     )
 
 pub returns : goal.returns
 returns c =
-    let none : 16 - c.loop-i.i ≡ 0 = omega arith in
-    sym (from_none c.loop-i.value (drop c.loop-i.i c.args.text.now) none) ∙ c.loop-i.invariant.3
+    let b = c.loop-byte in
+    let s = c.args.text.now in
+    let end : b.byte-index ≡ min (length s) 16 = omega (arith, c.min.ensures, length-take c.min.result s, c.loop-byte-test.false) in
+    sym (from_first b.value s b.byte-index end) ∙ b.invariant.1

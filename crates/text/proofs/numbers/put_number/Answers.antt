@@ -23,34 +23,27 @@ nothing_left : (out : List ℕ) (at : ℕ) {k : ℕ} (n : ℕ) → k ≡ 0 → s
 unfolding digits
 nothing_left out at n e = rw e
 
-pub loop-next-init : goal.loop-next-init
-loop-next-init c =
+pub loop-place-init : goal.loop-place-init
+loop-place-init c =
     let a = c.args in
     let all : a.at + c.width.result - a.at ≡ length (decimal a.n) = omega arith in (
       ap (sets a.out.now a.at) (ap (digits 10 a.n) all ∙ sym (decimal_own a.n)),
-      omega arith,
-      omega arith,
       refl,
     )
 
-pub loop-next-preserved : goal.loop-next-preserved
-loop-next-preserved c =
-    let out = c.loop-next.out in
-    let next = c.loop-next.next in
-    let rest = c.loop-next.rest in (
-      turn out c.args.at rest next c.loop-next-test.true ∙ c.loop-next.invariant.0,
-      omega arith,
-      omega arith,
-      length-set out (next - 1) (48 + rest % 10) ∙ c.loop-next.invariant.3,
+pub loop-place-preserved : goal.loop-place-preserved
+loop-place-preserved c =
+    let out = c.loop-place.out in
+    let next = c.loop-place.place in
+    let rest = c.loop-place.rest in (
+      turn out c.args.at rest next c.loop-place-test.true ∙ c.loop-place.invariant.0,
+      length-set out (next - 1) (48 + rest % 10) ∙ c.loop-place.invariant.1,
     )
-
-pub shape_of-out : goal.shape_of-out
-shape_of-out c = c.loop-next.invariant.3
 
 pub returns : goal.returns
 returns c =
-    let none : c.loop-next.next - c.args.at ≡ 0 = omega arith in
+    let none : c.loop-place.place - c.args.at ≡ 0 = omega arith in
     record {
       moved = omega arith;
-      stored = sym (nothing_left c.loop-next.out c.args.at c.loop-next.rest none) ∙ c.loop-next.invariant.0;
+      stored = sym (nothing_left c.loop-place.out c.args.at c.loop-place.rest none) ∙ c.loop-place.invariant.0;
     }

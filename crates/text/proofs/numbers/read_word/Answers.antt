@@ -19,7 +19,7 @@ returns-then-class_by_tests-ne-DIGIT c =
     let count : c.count_through.result ≡ through space (drop c.loop-i.i c.args.text.now) = let s = c.args.text.now in c.count_through.ensures ∙ ap (through space) (take_all (length s - c.loop-i.i) (drop c.loop-i.i s) (omega (arith, length-drop c.loop-i.i s))) in
     let s = c.args.text.now in (
       sym (number_stop (2 ^ 32) c.loop-i.value s c.loop-i.i c.loop-i-test.true (λ e. c.if-class_by_tests-ne-DIGIT.true (c.class_by_tests.ensures ∙ e)))
-          ∙ c.loop-i.invariant.2,
+          ∙ c.loop-i.invariant.1,
       omega (arith, count),
     )
 
@@ -28,18 +28,6 @@ overflow_sub-value c =
     let byte : ℕ = get_or c.args.text.now c.loop-i.i 0 in
     let is_digit : class_of byte ≡ digit = sym c.class_by_tests.ensures ∙ c.if-class_by_tests-ne-DIGIT.false in
     (digit_range byte is_digit).0
-
-pub overflow_cast-value : goal.overflow_cast-value
-overflow_cast-value c =
-    let byte : ℕ = get_or c.args.text.now c.loop-i.i 0 in
-    let is_digit : class_of byte ≡ digit = sym c.class_by_tests.ensures ∙ c.if-class_by_tests-ne-DIGIT.false in
-    omega (arith, digit_range byte is_digit)
-
-pub overflow_add-value : goal.overflow_add-value
-overflow_add-value c =
-    let byte : ℕ = get_or c.args.text.now c.loop-i.i 0 in
-    let is_digit : class_of byte ≡ digit = sym c.class_by_tests.ensures ∙ c.if-class_by_tests-ne-DIGIT.false in
-    omega (arith, digit_range byte is_digit)
 
 pub loop-i-preserved : goal.loop-i-preserved
 loop-i-preserved c =
@@ -50,14 +38,13 @@ loop-i-preserved c =
     let more = c.loop-i-test.true in
     let other : class_of byte ≡ space → ⊥ = λ e. omega (arith, is_digit) in (
       omega arith,
-      omega arith,
-      sym (number_digit (2 ^ 32) v s c.loop-i.i more is_digit) ∙ c.loop-i.invariant.2,
-      sym (through_miss space s c.loop-i.i more other) ∙ c.loop-i.invariant.3,
+      sym (number_digit (2 ^ 32) v s c.loop-i.i more is_digit) ∙ c.loop-i.invariant.1,
+      sym (through_miss space s c.loop-i.i more other) ∙ c.loop-i.invariant.2,
     )
 
 pub returns : goal.returns
 returns c =
     let s = c.args.text.now in (
-      sym (number_end (2 ^ 32) c.loop-i.value s c.loop-i.i c.loop-i-test.false) ∙ c.loop-i.invariant.2,
+      sym (number_end (2 ^ 32) c.loop-i.value s c.loop-i.i c.loop-i-test.false) ∙ c.loop-i.invariant.1,
       omega (arith, through_end space s c.loop-i.i c.loop-i-test.false),
     )

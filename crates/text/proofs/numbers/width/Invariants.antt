@@ -5,7 +5,4 @@ use Prim.Native.Nat.{max, ◌-◌, ◌^◌, ◌≤◌}
 use Rattle.text.proofs.numbers.width.Given as goal
 
 abbrev pub invariant-loop-k : goal.invariant-loop-k
-invariant-loop-k l = (1 ≤ l.k) × (l.k ≤ 10) × (10 ^ (l.k - 1) ≤ max 1 l.n) × (l.power ≡ 10 ^ l.k)
-
-abbrev pub decreases-loop-k : goal.decreases-loop-k
-decreases-loop-k l = 10 - l.k
+invariant-loop-k l = (10 ^ (l.k - 1) ≤ max 1 l.n) × (l.power ≡ 10 ^ l.k)

@@ -1,12 +1,13 @@
 -- `text::states::is_spelling` meets its contract: the buffer begins with the spelling of the word and the slot, with which the line is compared.
 -- Assumes nothing.
-use mathlib.Core.Path.{sym, ◌∙◌}
+use mathlib.Core.Path.{sym, ap, ◌∙◌}
 use mathlib.Core.List.{List}
 use Prim.Native.Nat.{ℕ}
 use lib.Seq.{length-take-le}
 use Rattle.text.specs.State.{slot_spelled, spell_slot}
+use Rattle.text.specs.Read.{same}
 use Rattle.text.proofs.Laws.Write.{Wrote, wrote, wrote_nothing}
-use Rattle.text.proofs.Laws.Read.{same_is}
+use Rattle.text.proofs.Laws.Read.{same_equal}
 use Rattle.text.proofs.Laws.State.{slot_short, written_slot}
 use Rattle.text.proofs.states.is_spelling.Goals as goal
 
@@ -20,15 +21,15 @@ slice_bounds-buffer-end c =
     let word : List ℕ = c.args.word.now in
     let actor : ℕ = c.args.actor in
     let slot : ℕ = c.args.slot in
-    let told : Wrote (slot_spelled actor slot) (spell_slot word actor slot) c.write_slot-written.new.out c.in-Length.length = wrote c.in-Length.length (written_slot word actor slot c.write_slot-written.ensures) c.in-Length.is in
+    let told : Wrote (slot_spelled actor slot) (spell_slot word actor slot) c.write_slot-written.new.out c.in-Ok.length = wrote c.in-Ok.length (written_slot word actor slot c.write_slot-written.ensures) c.in-Ok.is in
     told.inside
 
-pub slice_bounds-same-end : goal.slice_bounds-same-end
-slice_bounds-same-end c =
+pub slice_bounds-eq-end : goal.slice_bounds-eq-end
+slice_bounds-eq-end c =
     let word : List ℕ = c.args.word.now in
     let actor : ℕ = c.args.actor in
     let slot : ℕ = c.args.slot in
-    let told : Wrote (slot_spelled actor slot) (spell_slot word actor slot) c.write_slot-written.new.out c.in-Length.length = wrote c.in-Length.length (written_slot word actor slot c.write_slot-written.ensures) c.in-Length.is in
+    let told : Wrote (slot_spelled actor slot) (spell_slot word actor slot) c.write_slot-written.new.out c.in-Ok.length = wrote c.in-Ok.length (written_slot word actor slot c.write_slot-written.ensures) c.in-Ok.is in
     sym (length-take-le _ _ told.inside)
 
 pub returns : goal.returns
@@ -36,6 +37,6 @@ returns c =
     let word : List ℕ = c.args.word.now in
     let actor : ℕ = c.args.actor in
     let slot : ℕ = c.args.slot in
-    let told : Wrote (slot_spelled actor slot) (spell_slot word actor slot) c.write_slot-written.new.out c.in-Length.length = wrote c.in-Length.length (written_slot word actor slot c.write_slot-written.ensures) c.in-Length.is in
+    let told : Wrote (slot_spelled actor slot) (spell_slot word actor slot) c.write_slot-written.new.out c.in-Ok.length = wrote c.in-Ok.length (written_slot word actor slot c.write_slot-written.ensures) c.in-Ok.is in
     let t = told in
-    rw t.was (same_is c.same.result _ _ (λ e. c.same.ensures.0 e ∙ t.front) (λ e. c.same.ensures.1 (e ∙ sym t.front)))
+    rw t.was (c.eq.ensures ∙ same_equal _ _ ∙ ap (same c.args.line.now) t.front)

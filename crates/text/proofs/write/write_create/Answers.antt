@@ -4,12 +4,12 @@ use Rattle.text.specs.Event.{form, spell, has_spelling}
 use Rattle.text.proofs.Laws.Write.{event_written}
 use Rattle.text.proofs.write.write_create.Goals as goal
 
-pub returns-in-Unwritten : goal.returns-in-Unwritten
+pub returns-in-None : goal.returns-in-None
 unfolding spell form has_spelling
-returns-in-Unwritten c =
-    event_written _ _ _ {r = c.write_with_terms.result} (rw (← c.spells_create-spelled.ensures, c.in-Unwritten.is) c.write_with_terms.ensures)
+returns-in-None c =
+    event_written _ _ _ {r = c.write_with_terms.result} (rw (← c.spells_create-spelled.ensures, c.in-None.is) c.write_with_terms.ensures)
 
-pub returns-in-Written : goal.returns-in-Written
+pub returns-in-Some : goal.returns-in-Some
 unfolding spell form has_spelling
-returns-in-Written c =
-    event_written _ _ _ {r = c.write_with_terms-in-Written.result} (rw (← c.spells_create-spelled.ensures, c.in-Written.is) c.write_with_terms-in-Written.ensures)
+returns-in-Some c =
+    event_written _ _ _ {r = c.write_with_terms-in-Some.result} (rw (← c.spells_create-spelled.ensures, c.in-Some.is) c.write_with_terms-in-Some.ensures)

@@ -1,5 +1,6 @@
 -- `check` meets its contract: the line of the run's answer, and the listing of its table.
 -- Assumes nothing.
+use Rattle.std.specs.Prelude.{Ok, Err}
 use mathlib.Core.Path.{sym, ap, subst, ◌∙◌}
 use mathlib.Core.Bool.{true}
 use mathlib.Core.List.{List, ◌++◌}
@@ -14,7 +15,6 @@ use Rattle.table.specs.Words.{rows_in}
 use Rattle.rules.specs.Steps.{lends}
 use Rattle.text.specs.Write.{Writes}
 use Rattle.listing.specs.Listing.{listing}
-use Rattle.trace.specs.declared.run.RunAnswer.TheVariants.{Allowed, Refused}
 use Rattle.trace.specs.Run.{ran_of, Runs}
 use Rattle.trace.specs.Check.{answer_line, no_counts}
 use Rattle.trace.proofs.Laws.Report.{long_text, long_stored, zero_row, zeros, no_bits, ran_is, ran_number, ran_order, ran_report, ran_stored}
@@ -34,39 +34,39 @@ slice_bounds-write_report-end c = sym (c.table-2-1.given ∙ length-replicate {A
 
 pub overflow_cast-lines : goal.overflow_cast-lines
 overflow_cast-lines c = let slots = emptied (states_in c.args.stored.now c.args.copies.now) in
-    let ran = ran_of (Allowed c.in-Allowed.lines) (lends (rows_in c.run_lent-ran.new.table) c.run_lent-ran.new.bits (states_in c.run_lent-ran.new.stored c.run_lent-ran.new.copies) c.run_lent-ran.result.tally) in
-    let is = ran_is slots c.card6-sheet.ensures (subst (λ (s : List (Slot Memory)). Runs (sheet_in c.card6-sheet.result) Unlimited zeros no_bits s no_counts c.args.input.now c.run_lent-ran.new.table c.run_lent-ran.new.bits (states_in c.run_lent-ran.new.stored c.run_lent-ran.new.copies) c.run_lent-ran.result) c.forget.ensures c.run_lent-ran.ensures) c.in-Allowed.is in
+    let ran = ran_of (Ok c.in-Ok.lines) (lends (rows_in c.run_lent-ran.new.table) c.run_lent-ran.new.bits (states_in c.run_lent-ran.new.stored c.run_lent-ran.new.copies) c.run_lent-ran.result.tally) in
+    let is = ran_is slots c.card6-sheet.ensures (subst (λ (s : List (Slot Memory)). Runs (sheet_in c.card6-sheet.result) Unlimited zeros no_bits s no_counts c.args.input.now c.run_lent-ran.new.table c.run_lent-ran.new.bits (states_in c.run_lent-ran.new.stored c.run_lent-ran.new.copies) c.run_lent-ran.result) c.forget.ensures c.run_lent-ran.ensures) c.in-Ok.is in
     record { fits = omega (arith, ran_number slots c.args.input.now ran is, c.if-input-gt65536.false) }
 
 pub write_report-requires : goal.write_report-requires
 write_report-requires c = let slots = emptied (states_in c.args.stored.now c.args.copies.now) in
-    let ran = ran_of (Allowed c.in-Allowed.lines) (lends (rows_in c.run_lent-ran.new.table) c.run_lent-ran.new.bits (states_in c.run_lent-ran.new.stored c.run_lent-ran.new.copies) c.run_lent-ran.result.tally) in
-    let is = ran_is slots c.card6-sheet.ensures (subst (λ (s : List (Slot Memory)). Runs (sheet_in c.card6-sheet.result) Unlimited zeros no_bits s no_counts c.args.input.now c.run_lent-ran.new.table c.run_lent-ran.new.bits (states_in c.run_lent-ran.new.stored c.run_lent-ran.new.copies) c.run_lent-ran.result) c.forget.ensures c.run_lent-ran.ensures) c.in-Allowed.is in
+    let ran = ran_of (Ok c.in-Ok.lines) (lends (rows_in c.run_lent-ran.new.table) c.run_lent-ran.new.bits (states_in c.run_lent-ran.new.stored c.run_lent-ran.new.copies) c.run_lent-ran.result.tally) in
+    let is = ran_is slots c.card6-sheet.ensures (subst (λ (s : List (Slot Memory)). Runs (sheet_in c.card6-sheet.result) Unlimited zeros no_bits s no_counts c.args.input.now c.run_lent-ran.new.table c.run_lent-ran.new.bits (states_in c.run_lent-ran.new.stored c.run_lent-ran.new.copies) c.run_lent-ran.result) c.forget.ensures c.run_lent-ran.ensures) c.in-Ok.is in
     ran_order slots c.args.input.now ran is
 
-pub slice_bounds-write_report-end-in-Refused : goal.slice_bounds-write_report-end-in-Refused
-slice_bounds-write_report-end-in-Refused c = sym (c.table-2-1.given ∙ length-replicate {A = List ℕ} 1024 zero_row)
+pub slice_bounds-write_report-end-in-Err : goal.slice_bounds-write_report-end-in-Err
+slice_bounds-write_report-end-in-Err c = sym (c.table-2-1.given ∙ length-replicate {A = List ℕ} 1024 zero_row)
 
-pub overflow_cast-line : goal.overflow_cast-line
-overflow_cast-line c = let slots = emptied (states_in c.args.stored.now c.args.copies.now) in
-    let ran = ran_of (Refused c.in-Refused.refusal c.in-Refused.line) (lends (rows_in c.run_lent-ran.new.table) c.run_lent-ran.new.bits (states_in c.run_lent-ran.new.stored c.run_lent-ran.new.copies) c.run_lent-ran.result.tally) in
-    let is = ran_is slots c.card6-sheet.ensures (subst (λ (s : List (Slot Memory)). Runs (sheet_in c.card6-sheet.result) Unlimited zeros no_bits s no_counts c.args.input.now c.run_lent-ran.new.table c.run_lent-ran.new.bits (states_in c.run_lent-ran.new.stored c.run_lent-ran.new.copies) c.run_lent-ran.result) c.forget.ensures c.run_lent-ran.ensures) c.in-Refused.is in
+pub overflow_cast-at : goal.overflow_cast-at
+overflow_cast-at c = let slots = emptied (states_in c.args.stored.now c.args.copies.now) in
+    let ran = ran_of (Err c.in-Err.at) (lends (rows_in c.run_lent-ran.new.table) c.run_lent-ran.new.bits (states_in c.run_lent-ran.new.stored c.run_lent-ran.new.copies) c.run_lent-ran.result.tally) in
+    let is = ran_is slots c.card6-sheet.ensures (subst (λ (s : List (Slot Memory)). Runs (sheet_in c.card6-sheet.result) Unlimited zeros no_bits s no_counts c.args.input.now c.run_lent-ran.new.table c.run_lent-ran.new.bits (states_in c.run_lent-ran.new.stored c.run_lent-ran.new.copies) c.run_lent-ran.result) c.forget.ensures c.run_lent-ran.ensures) c.in-Err.is in
     record { fits = omega (arith, ran_number slots c.args.input.now ran is, c.if-input-gt65536.false) }
 
-pub write_report-requires-in-Refused : goal.write_report-requires-in-Refused
-write_report-requires-in-Refused c = let slots = emptied (states_in c.args.stored.now c.args.copies.now) in
-    let ran = ran_of (Refused c.in-Refused.refusal c.in-Refused.line) (lends (rows_in c.run_lent-ran.new.table) c.run_lent-ran.new.bits (states_in c.run_lent-ran.new.stored c.run_lent-ran.new.copies) c.run_lent-ran.result.tally) in
-    let is = ran_is slots c.card6-sheet.ensures (subst (λ (s : List (Slot Memory)). Runs (sheet_in c.card6-sheet.result) Unlimited zeros no_bits s no_counts c.args.input.now c.run_lent-ran.new.table c.run_lent-ran.new.bits (states_in c.run_lent-ran.new.stored c.run_lent-ran.new.copies) c.run_lent-ran.result) c.forget.ensures c.run_lent-ran.ensures) c.in-Refused.is in
+pub write_report-requires-in-Err : goal.write_report-requires-in-Err
+write_report-requires-in-Err c = let slots = emptied (states_in c.args.stored.now c.args.copies.now) in
+    let ran = ran_of (Err c.in-Err.at) (lends (rows_in c.run_lent-ran.new.table) c.run_lent-ran.new.bits (states_in c.run_lent-ran.new.stored c.run_lent-ran.new.copies) c.run_lent-ran.result.tally) in
+    let is = ran_is slots c.card6-sheet.ensures (subst (λ (s : List (Slot Memory)). Runs (sheet_in c.card6-sheet.result) Unlimited zeros no_bits s no_counts c.args.input.now c.run_lent-ran.new.table c.run_lent-ran.new.bits (states_in c.run_lent-ran.new.stored c.run_lent-ran.new.copies) c.run_lent-ran.result) c.forget.ensures c.run_lent-ran.ensures) c.in-Err.is in
     ran_order slots c.args.input.now ran is
 
-pub returns-in-Allowed : goal.returns-in-Allowed
-returns-in-Allowed c = let slots = emptied (states_in c.args.stored.now c.args.copies.now) in
-    let ran = ran_of (Allowed c.in-Allowed.lines) (lends (rows_in c.run_lent-ran.new.table) c.run_lent-ran.new.bits (states_in c.run_lent-ran.new.stored c.run_lent-ran.new.copies) c.run_lent-ran.result.tally) in
-    let is = ran_is slots c.card6-sheet.ensures (subst (λ (s : List (Slot Memory)). Runs (sheet_in c.card6-sheet.result) Unlimited zeros no_bits s no_counts c.args.input.now c.run_lent-ran.new.table c.run_lent-ran.new.bits (states_in c.run_lent-ran.new.stored c.run_lent-ran.new.copies) c.run_lent-ran.result) c.forget.ensures c.run_lent-ran.ensures) c.in-Allowed.is in
+pub returns-in-Ok : goal.returns-in-Ok
+returns-in-Ok c = let slots = emptied (states_in c.args.stored.now c.args.copies.now) in
+    let ran = ran_of (Ok c.in-Ok.lines) (lends (rows_in c.run_lent-ran.new.table) c.run_lent-ran.new.bits (states_in c.run_lent-ran.new.stored c.run_lent-ran.new.copies) c.run_lent-ran.result.tally) in
+    let is = ran_is slots c.card6-sheet.ensures (subst (λ (s : List (Slot Memory)). Runs (sheet_in c.card6-sheet.result) Unlimited zeros no_bits s no_counts c.args.input.now c.run_lent-ran.new.table c.run_lent-ran.new.bits (states_in c.run_lent-ran.new.stored c.run_lent-ran.new.copies) c.run_lent-ran.result) c.forget.ensures c.run_lent-ran.ensures) c.in-Ok.is in
     (subst (λ (l : List ℕ). Writes true l c.args.out.now c.write_report.new.out c.write_report.result) (ran_report slots c.args.input.now ran is c.if-input-gt65536.false) c.write_report.ensures, ran_stored slots c.args.input.now ran is c.if-input-gt65536.false)
 
-pub returns-in-Refused : goal.returns-in-Refused
-returns-in-Refused c = let slots = emptied (states_in c.args.stored.now c.args.copies.now) in
-    let ran = ran_of (Refused c.in-Refused.refusal c.in-Refused.line) (lends (rows_in c.run_lent-ran.new.table) c.run_lent-ran.new.bits (states_in c.run_lent-ran.new.stored c.run_lent-ran.new.copies) c.run_lent-ran.result.tally) in
-    let is = ran_is slots c.card6-sheet.ensures (subst (λ (s : List (Slot Memory)). Runs (sheet_in c.card6-sheet.result) Unlimited zeros no_bits s no_counts c.args.input.now c.run_lent-ran.new.table c.run_lent-ran.new.bits (states_in c.run_lent-ran.new.stored c.run_lent-ran.new.copies) c.run_lent-ran.result) c.forget.ensures c.run_lent-ran.ensures) c.in-Refused.is in
-    (subst (λ (l : List ℕ). Writes true l c.args.out.now c.write_report-in-Refused.new.out c.write_report-in-Refused.result) (ap (λ (n : ℕ). answer_line n c.in-Refused.line ++ listing (rows_in c.run_lent-ran.new.table) c.run_lent-ran.result.tally.issued) c.number_of.ensures ∙ ran_report slots c.args.input.now ran is c.if-input-gt65536.false) c.write_report-in-Refused.ensures, ran_stored slots c.args.input.now ran is c.if-input-gt65536.false)
+pub returns-in-Err : goal.returns-in-Err
+returns-in-Err c = let slots = emptied (states_in c.args.stored.now c.args.copies.now) in
+    let ran = ran_of (Err c.in-Err.at) (lends (rows_in c.run_lent-ran.new.table) c.run_lent-ran.new.bits (states_in c.run_lent-ran.new.stored c.run_lent-ran.new.copies) c.run_lent-ran.result.tally) in
+    let is = ran_is slots c.card6-sheet.ensures (subst (λ (s : List (Slot Memory)). Runs (sheet_in c.card6-sheet.result) Unlimited zeros no_bits s no_counts c.args.input.now c.run_lent-ran.new.table c.run_lent-ran.new.bits (states_in c.run_lent-ran.new.stored c.run_lent-ran.new.copies) c.run_lent-ran.result) c.forget.ensures c.run_lent-ran.ensures) c.in-Err.is in
+    (subst (λ (l : List ℕ). Writes true l c.args.out.now c.write_report-in-Err.new.out c.write_report-in-Err.result) (ap (λ (n : ℕ). answer_line n c.in-Err.at.line ++ listing (rows_in c.run_lent-ran.new.table) c.run_lent-ran.result.tally.issued) c.number_of.ensures ∙ ran_report slots c.args.input.now ran is c.if-input-gt65536.false) c.write_report-in-Err.ensures, ran_stored slots c.args.input.now ran is c.if-input-gt65536.false)

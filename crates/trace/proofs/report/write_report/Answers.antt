@@ -1,5 +1,6 @@
 -- `trace::report::write_report` meets its contract: the listing, where it fits, and then the line before it.
 -- Assumes nothing.
+use Rattle.model.proofs.Offered.{passed_on}
 use native.Mathlib.Omega.{arith}
 use mathlib.Core.List.{◌++◌}
 use lib.ListN.{length-append}
@@ -18,20 +19,20 @@ returns-then-out-start c =
 
 pub put_answer-requires : goal.put_answer-requires
 put_answer-requires c =
-    let wrote = listing_writes c.requires c.write_listing-written.ensures in
+    let wrote = listing_writes c.requires c.write_listing.ensures in
     behind_room (answer_line c.args.refusal c.args.number) (listing (rows_in c.args.table.now) c.args.issued) c.args.out.now c.answer_length-start.result c.answer_length-start.ensures.0 c.if-out-start.false wrote
 
 pub overflow_add-result : goal.overflow_add-result
 overflow_add-result c =
-    let wrote = listing_writes c.requires c.write_listing-written.ensures in
-    omega (arith, behind_fits (answer_line c.args.refusal c.args.number) (listing (rows_in c.args.table.now) c.args.issued) c.args.out.now c.answer_length-start.result c.answer_length-start.ensures.0 c.if-out-start.false wrote c.in-Length.is, c.well_formed)
+    let wrote = listing_writes c.requires c.write_listing.ensures in
+    omega (arith, behind_fits (answer_line c.args.refusal c.args.number) (listing (rows_in c.args.table.now) c.args.issued) c.args.out.now c.answer_length-start.result c.answer_length-start.ensures.0 c.if-out-start.false wrote c.in_ok-length.was, c.well_formed)
 
-pub returns-in-Length : goal.returns-in-Length
-returns-in-Length c =
-    let wrote = listing_writes c.requires c.write_listing-written.ensures in
-    behind_all (answer_line c.args.refusal c.args.number) (listing (rows_in c.args.table.now) c.args.issued) c.args.out.now c.answer_length-start.result c.answer_length-start.ensures.0 c.if-out-start.false wrote c.in-Length.is c.put_answer.ensures
+pub returns : goal.returns
+returns c =
+    let wrote = listing_writes c.requires c.write_listing.ensures in
+    behind_all (answer_line c.args.refusal c.args.number) (listing (rows_in c.args.table.now) c.args.issued) c.args.out.now c.answer_length-start.result c.answer_length-start.ensures.0 c.if-out-start.false wrote c.in_ok-length.was c.put_answer.ensures
 
-pub returns-in-Refused : goal.returns-in-Refused
-returns-in-Refused c =
-    let wrote = listing_writes c.requires c.write_listing-written.ensures in
-    behind_none (answer_line c.args.refusal c.args.number) (listing (rows_in c.args.table.now) c.args.issued) c.args.out.now c.answer_length-start.result c.answer_length-start.ensures.0 c.if-out-start.false wrote c.in-Refused.is
+pub returns-in_err-length : goal.returns-in_err-length
+returns-in_err-length c =
+    let wrote = listing_writes c.requires c.write_listing.ensures in
+    rw (passed_on c.from_residual.result c.in_err-length.field-0.0 c.from_residual.ensures.1) (behind_none (answer_line c.args.refusal c.args.number) (listing (rows_in c.args.table.now) c.args.issued) c.args.out.now c.answer_length-start.result c.answer_length-start.ensures.0 c.if-out-start.false wrote c.in_err-length.was)

@@ -17,20 +17,20 @@ take_line-taken-requires c = c.loop-at.invariant.2
 pub overflow_add-count : goal.overflow_add-count
 overflow_add-count c = omega (arith, c.loop-at.invariant.1, c.loop-at.invariant.0, c.well_formed)
 
-pub shape_of-table-in-Refused : goal.shape_of-table-in-Refused
-shape_of-table-in-Refused c = c.table-1.given ∙ c.loop-at.invariant.3
+pub shape_of-table-in-Err : goal.shape_of-table-in-Err
+shape_of-table-in-Err c = c.table-1.given ∙ c.loop-at.invariant.3
 
-pub shape_of-bits-in-Refused : goal.shape_of-bits-in-Refused
-shape_of-bits-in-Refused c = c.bits-1.given ∙ c.loop-at.invariant.4
+pub shape_of-bits-in-Err : goal.shape_of-bits-in-Err
+shape_of-bits-in-Err c = c.bits-1.given ∙ c.loop-at.invariant.4
 
-pub shape_of-stored-in-Refused : goal.shape_of-stored-in-Refused
-shape_of-stored-in-Refused c = c.stored-1.given ∙ c.loop-at.invariant.5
+pub shape_of-stored-in-Err : goal.shape_of-stored-in-Err
+shape_of-stored-in-Err c = c.stored-1.given ∙ c.loop-at.invariant.5
 
-pub shape_of-copies-in-Refused : goal.shape_of-copies-in-Refused
-shape_of-copies-in-Refused c = c.copies-1.given ∙ c.loop-at.invariant.6
+pub shape_of-copies-in-Err : goal.shape_of-copies-in-Err
+shape_of-copies-in-Err c = c.copies-1.given ∙ c.loop-at.invariant.6
 
-pub returns-in-Refused : goal.returns-in-Refused
-returns-in-Refused c = record { ran = turn_ends c.args.text.now c.loop-at.at c.loop-at-test.true c.next_line-line.result.now c.next_line-line.ensures c.loop-at.count c.args.spelling c.take_line-taken.ensures.0 c.in-Refused.is ∙ c.loop-at.invariant.7 }
+pub returns-in-Err : goal.returns-in-Err
+returns-in-Err c = record { ran = turn_ends c.args.text.now c.loop-at.at c.loop-at-test.true c.next_line-line.result.now c.next_line-line.ensures c.loop-at.count c.args.spelling c.take_line-taken.ensures.0 c.in-Err.is ∙ c.loop-at.invariant.7 }
 
 pub overflow_add-at : goal.overflow_add-at
 overflow_add-at c = omega (arith, c.well_formed, line_inside c.args.text.now c.loop-at.at c.loop-at-test.true c.next_line-line.result.now c.next_line-line.ensures)

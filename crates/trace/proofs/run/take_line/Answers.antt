@@ -11,9 +11,9 @@ use Rattle.table.specs.States.{states_in}
 use Rattle.trace.proofs.Laws.Turn.{taken_request, taken_as}
 use Rattle.trace.proofs.run.take_line.Goals as goal
 
-pub returns-in-Event : goal.returns-in-Event
-returns-in-Event c = (taken_request (sheet_in c.args.sheet.now) (limits_in c.args.limits.now) c.args.table.now c.args.bits.now (states_in c.args.stored.now c.args.copies.now) c.args.tally (ap (or_group (limits_in c.args.limits.now) c.args.line.now) (sym (ap read_answer (sym c.in-Event.is) ∙ c.read_event-found.ensures))) c.take.ensures.0, c.take.ensures.1)
+pub returns-in-Ok : goal.returns-in-Ok
+returns-in-Ok c = (taken_request (sheet_in c.args.sheet.now) (limits_in c.args.limits.now) c.args.table.now c.args.bits.now (states_in c.args.stored.now c.args.copies.now) c.args.tally (ap (or_group (limits_in c.args.limits.now) c.args.line.now) (sym (ap read_answer (sym c.in-Ok.is) ∙ c.read_event-found.ensures))) c.take.ensures.0, c.take.ensures.1)
 
-pub returns-in-Refused : goal.returns-in-Refused
-returns-in-Refused c = let read : read_event c.args.spelling c.args.line.now ≡ refused (number c.in-Refused.field-0) = sym (ap read_answer (sym c.in-Refused.is) ∙ c.read_event-found.ensures) in
+pub returns-in-Err : goal.returns-in-Err
+returns-in-Err c = let read : read_event c.args.spelling c.args.line.now ≡ refused (number c.in-Err.field-0) = sym (ap read_answer (sym c.in-Err.is) ∙ c.read_event-found.ensures) in
     (taken_as (sheet_in c.args.sheet.now) (limits_in c.args.limits.now) c.args.table.now c.args.bits.now (states_in c.args.stored.now c.args.copies.now) c.args.tally (ap (or_group (limits_in c.args.limits.now) c.args.line.now) read) c.take_group.ensures.0, c.take_group.ensures.1)

@@ -13,9 +13,9 @@ use Rattle.table.specs.States.{states_in}
 use Rattle.trace.proofs.Laws.Turn.{taken_request, taken_misspelt}
 use Rattle.trace.proofs.run.take_state.Goals as goal
 
-pub returns-in-Asked : goal.returns-in-Asked
-returns-in-Asked c = (taken_request (sheet_in c.args.sheet.now) (limits_in c.args.limits.now) c.args.table.now c.args.bits.now (states_in c.args.stored.now c.args.copies.now) c.args.tally (ap (state_of (limits_in c.args.limits.now)) (sym (ap state_answer (sym c.in-Asked.is) ∙ c.read_state-found.ensures))) c.take.ensures.0, c.take.ensures.1)
+pub returns-in-Ok : goal.returns-in-Ok
+returns-in-Ok c = (taken_request (sheet_in c.args.sheet.now) (limits_in c.args.limits.now) c.args.table.now c.args.bits.now (states_in c.args.stored.now c.args.copies.now) c.args.tally (ap (state_of (limits_in c.args.limits.now)) (sym (ap state_answer (sym c.in-Ok.is) ∙ c.read_state-found.ensures))) c.take.ensures.0, c.take.ensures.1)
 
-pub returns-in-Refused : goal.returns-in-Refused
-returns-in-Refused c = let read : read_state c.args.line.now ≡ refused (number c.in-Refused.field-0) = sym (ap state_answer (sym c.in-Refused.is) ∙ c.read_state-found.ensures) in
-    (taken_misspelt (sheet_in c.args.sheet.now) (limits_in c.args.limits.now) c.args.table.now c.args.bits.now (states_in c.args.stored.now c.args.copies.now) c.args.tally (ap (state_of (limits_in c.args.limits.now)) (read ∙ ap refused (refused_state_is_2 c.args.line.now (number c.in-Refused.field-0) read))) c.count_refused-counted.ensures, rw (ap (λ (y : Tally). y.issued) c.count_refused-counted.ensures) c.requires)
+pub returns-in-Err : goal.returns-in-Err
+returns-in-Err c = let read : read_state c.args.line.now ≡ refused (number c.in-Err.field-0) = sym (ap state_answer (sym c.in-Err.is) ∙ c.read_state-found.ensures) in
+    (taken_misspelt (sheet_in c.args.sheet.now) (limits_in c.args.limits.now) c.args.table.now c.args.bits.now (states_in c.args.stored.now c.args.copies.now) c.args.tally (ap (state_of (limits_in c.args.limits.now)) (read ∙ ap refused (refused_state_is_2 c.args.line.now (number c.in-Err.field-0) read))) c.count_refused-counted.ensures, rw (ap (λ (y : Tally). y.issued) c.count_refused-counted.ensures) c.requires)
