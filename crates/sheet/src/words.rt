@@ -11,7 +11,9 @@ pub enum Bracket {
     From,
 }
 
-// The place of a word among others, from 0; how many they are where it is none of them.
+// The place of a word among others, from 0; how many they are where it is none of them. Inlined, as `code_among` is, so that the compiler knows the words
+// that are compared with.
+#[inline(always)]
 fn number_among(words: &[&[u8]], word: &[u8]) -> usize
     ensures { (result ≡ number_among (map (λ w. w.now) words.now) word.now) × (result ≤ length words.now) }
 {
@@ -22,6 +24,7 @@ fn number_among(words: &[&[u8]], word: &[u8]) -> usize
 }
 
 // A word's place among those behind which a bracket goes on, 3 more among those that close it, 6 for any other.
+#[inline(always)]
 fn code_among(inside: &[&[u8]], closing: &[&[u8]], word: &[u8]) -> u8
     requires { (length inside.now ≤ 3) × (length closing.now ≤ 3) }
     ensures { result ≡ code_among (map (λ w. w.now) inside.now) (map (λ w. w.now) closing.now) word.now }

@@ -16,21 +16,16 @@ use text::pieces;
 // A line has at most 63 bytes.
 const MOST: usize = 1134;
 
-// The words of a line's lists, by their numbers.
-const HOLDERS: [&[u8]; 3] = [b"reference", b"raw", b"cell"];
-
-const ACCESSES: [&[u8]; 2] = [b"read", b"write"];
-
-const ORIGINS: [&[u8]; 3] = [b"cell", b"kin", b"stranger"];
-
-const RESULTS: [&[u8]; 3] = [b"keep", b"lower", b"end"];
-
 // Writes a holder's word at a position, and returns the position behind it.
 fn put_holder(out: &mut [u8], at: usize, holder: usize) -> usize
     requires { (holder < 3) × Room out.old at (word_at holder_words holder) }
     ensures { Put out.old at (word_at holder_words holder) out.new result }
 {
-    pieces::put_bytes(out, at, HOLDERS[holder])
+    match holder {
+        0 => pieces::put_bytes(out, at, b"reference"),
+        1 => pieces::put_bytes(out, at, b"raw"),
+        _ => pieces::put_bytes(out, at, b"cell"),
+    }
 }
 
 // The same of an access.
@@ -38,7 +33,10 @@ fn put_access(out: &mut [u8], at: usize, access: usize) -> usize
     requires { (access < 2) × Room out.old at (word_at access_words access) }
     ensures { Put out.old at (word_at access_words access) out.new result }
 {
-    pieces::put_bytes(out, at, ACCESSES[access])
+    match access {
+        0 => pieces::put_bytes(out, at, b"read"),
+        _ => pieces::put_bytes(out, at, b"write"),
+    }
 }
 
 // The same of where an access comes from.
@@ -46,7 +44,11 @@ fn put_origin(out: &mut [u8], at: usize, origin: usize) -> usize
     requires { (origin < 3) × Room out.old at (word_at origin_words origin) }
     ensures { Put out.old at (word_at origin_words origin) out.new result }
 {
-    pieces::put_bytes(out, at, ORIGINS[origin])
+    match origin {
+        0 => pieces::put_bytes(out, at, b"cell"),
+        1 => pieces::put_bytes(out, at, b"kin"),
+        _ => pieces::put_bytes(out, at, b"stranger"),
+    }
 }
 
 // The same of a result; a byte above 1 is `end`.
@@ -54,7 +56,11 @@ fn put_result(out: &mut [u8], at: usize, res: u8) -> usize
     requires { Room out.old at (word_at result_words (min res 2)) }
     ensures { Put out.old at (word_at result_words (min res 2)) out.new result }
 {
-    pieces::put_bytes(out, at, RESULTS[res.min(2) as usize])
+    match res {
+        0 => pieces::put_bytes(out, at, b"keep"),
+        1 => pieces::put_bytes(out, at, b"lower"),
+        _ => pieces::put_bytes(out, at, b"end"),
+    }
 }
 
 // Writes a line's first two brackets but for their end, of the combination at a place.

@@ -141,6 +141,10 @@ fn rows_in_order(table: &[Row], k: usize, issued: u32, places: &mut [u16; 1024])
     requires { (k ≤ 1024) × Filled (rows_in table.now) k × (length places.old ≡ 1024) }
     ensures { (result ≡ rows_in_order (suc issued) (before (rows_in table.now) k)) × PlacesIf result (rows_in table.now) k places.new }
 {
+    // So that the zeros of `seen` cost nothing where no row lives.
+    if k == 0 {
+        return true;
+    }
     // Where names were seen last, for a first guess at a parent's place.
     let mut seen = [0u16; 2048];
     let mut last: u32 = 0;

@@ -2,7 +2,7 @@ use mathlib.Core.Path.{◌≡◌, refl, ap, sym, ◌∙◌}
 use Prim.Native.Nat.{ℕ, suc}
 use native.Mathlib.Omega.{arith}
 use lib.ListN.{length-set, length-replicate}
-use borrow.Author.Tests.{not-true, not-false}
+use borrow.Author.Tests.{not-true, not-false, le-leb}
 use Rattle.model.specs.declared.Cap.{Cap}
 use Rattle.model.specs.Table.{row_in_order}
 use Rattle.table.proofs.Laws.Words.{filled_fits}
@@ -12,6 +12,10 @@ use Rattle.model.proofs.Offered.{clash}
 use Rattle.table.proofs.Laws.Places.{places_none, places_more}
 use Rattle.table.proofs.Laws.Ordered.{checked_none, checked_more, checked_all, fails_name, fails_place, rows_in_order_rise}
 use Rattle.table.proofs.ordered.rows_in_order.Goals as goal
+
+pub returns-then-k-eq0 : goal.returns-then-k-eq0
+returns-then-k-eq0 c = let T = rows_in c.args.table.now in
+    rw c.if-k-eq0.true (sym (le-leb 0 c.args.issued (omega arith)) ∙ checked_all T 0 0 c.args.issued (checked_none T), record { known = λ _. places_none T c.args.places.now c.requires.2 })
 
 pub loop-i-init : goal.loop-i-init
 loop-i-init c = (checked_none (rows_in c.args.table.now), places_none (rows_in c.args.table.now) c.args.places.now c.requires.2, length-replicate {A = ℕ} 2048 0)
