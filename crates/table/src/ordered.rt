@@ -7,21 +7,24 @@ ghost use Rattle.table.specs.Words.{rows_in};
 ghost use Rattle.table.specs.Rows.{before, Filled, Rise, Front, Found, PlacesIf};
 ghost use Rattle.table.specs.Known.{Looks};
 
-use crate::Row;
 use crate::find::{find_near, live_count};
 use crate::masks::{has_bit, is_domain};
 use crate::spans::{end, is_inside, is_legal, span_of};
 use crate::words::row_at;
+use crate::{Row, WIDTH};
 use model::Cap;
 
-// The rows from k on are all zeros. A row's first eight words and its last three are compared apart, since the compiler tests eight at once, but folds an
-// equality of all eleven into one word first.
+// The words of a row behind its first eight.
+const BEHIND: usize = WIDTH - 8;
+
+// The rows from k on are all zeros. A row's first eight words and those behind them are compared apart, for time: eight make one short
+// test, and an equality of all words makes a longer one.
 fn rest_is_empty(table: &[Row], k: usize) -> bool
     requires { k ≤ length table.now }
     ensures { result ≡ all is_empty_row (drop k (rows_in table.now)) }
 {
     table[k..].iter().all(|row| row.first_chunk::<8>() == Some(&[0; 8])
-        && row.last_chunk::<3>() == Some(&[0; 3]))
+        && row.last_chunk::<BEHIND>() == Some(&[0; BEHIND]))
 }
 
 // Whether this is a right.
